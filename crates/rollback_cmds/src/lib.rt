@@ -1,0 +1,6 @@
+//! What the timing side orders of the functional side.
+#![tactic(auto)]
+
+mod order;
+
+pub use order::Order;
