@@ -1,0 +1,6 @@
+pub mod Count
+pub mod Files
+pub mod Loading
+pub mod Sink
+pub mod Plan
+pub mod Memory

@@ -1,0 +1,153 @@
+ghost use Rattle.std.specs.Prelude.{◌≡◌, ℕ, ◌≤◌, None};
+ghost use Rattle.std.specs.Io.{ReadsAtMost};
+ghost use Rattle.fsim_ports.specs.Count.{HasRisen};
+
+use crate::outside::{Failed, Files, Part, Sink};
+use std::alloc::Global;
+use std::fs::File;
+use std::io;
+use std::io::{ErrorKind, Read, Seek, SeekFrom};
+use std::marker::Model;
+use std::rt::Files as FileSystem;
+
+/// The files of the host, read by their paths. Nothing is told of them; a contract sees the count of faults alone.
+///
+/// The last file that was read stays open, so that a file that is read in order is opened once and needs no seek.
+#[derive(Drop)]
+pub struct HostFiles<R: FileSystem> {
+    alloc: Global,
+    host: R,
+    last: Option<OpenFile<R::File>>,
+    faults: u64,
+}
+
+impl<R: FileSystem> Model for HostFiles<R> {
+    ghost Value = { ℕ };
+
+    ghost view = { λ h. h.faults };
+}
+
+/// An open file, its name, and the place of the next byte to be read.
+#[derive(Drop)]
+struct OpenFile<F> {
+    name: String,
+    file: F,
+    place: u64,
+}
+
+impl<F: Read + Seek> OpenFile<F> {
+    /// Reads bytes from the place `at` on, and answers how many; none at the end of the file.
+    fn read(&mut self, at: u64, buf: &mut [u8]) -> io::Result<usize>
+        ensures bound { ReadsAtMost result buf.new }
+    {
+        if self.place != at {
+            self.place = self.file.seek(SeekFrom::Start(at))?;
+        }
+        let count = self.file.read(buf)?;
+        self.place = self.place.saturating_add(count as u64);
+        Ok(count)
+    }
+}
+
+impl<R: FileSystem + Drop> HostFiles<R> {
+    /// The files that the runtime reaches.
+    pub fn new(alloc: Global, host: R) -> HostFiles<R>
+        ensures none { result ≡ 0 }
+    {
+        HostFiles {
+            alloc,
+            host,
+            last: None,
+            faults: 0,
+        }
+    }
+
+    /// The file of this name: the last one where it has the name, else it is opened.
+    fn open(&mut self, name: &str) -> io::Result<OpenFile<R::File>>
+        ensures same { self.new ≡ self.old }
+    {
+        if let Some(last) = self.last.take() {
+            if last.name.as_str() == name {
+                return Ok(last);
+            }
+        }
+        Ok(OpenFile {
+            name: String::from_str(self.alloc, name)?,
+            file: File::open(&self.host, name)?,
+            place: 0,
+        })
+    }
+
+    /// Counts a fault, and gives the answer to a read.
+    fn fault(&mut self, part: Part) -> Part
+        ensures same { result ≡ part }
+        ensures count { HasRisen self.old self.new }
+        ensures kept { self.old ≤ self.new }
+    {
+        self.faults = self.faults.saturating_add(1);
+        part
+    }
+}
+
+impl<R: FileSystem + Drop> Files for HostFiles<R> {
+    ghost told = { λ faults. None };
+
+    ghost faults = { λ faults. faults };
+
+    fn read(&mut self, name: &str, at: u64, buf: &mut [u8]) -> Part {
+        let mut open = match self.open(name) {
+            Ok(open) => open,
+            Err(error) if error.kind() == ErrorKind::NotFound => return self.fault(Part::Missing),
+            Err(_) => return self.fault(Part::Failed),
+        };
+        match open.read(at, buf) {
+            Ok(count) => {
+                self.last = Some(open);
+                if count == 0 {
+                    Part::End
+                } else {
+                    Part::Bytes(count)
+                }
+            }
+            Err(_) => self.fault(Part::Failed),
+        }
+    }
+}
+
+/// The standard output of the host. Nothing is told of it; a contract sees the count of faults alone.
+#[derive(Drop)]
+pub struct HostSink<R: Print> {
+    host: R,
+    faults: u64,
+}
+
+impl<R: Print> Model for HostSink<R> {
+    ghost Value = { ℕ };
+
+    ghost view = { λ h. h.faults };
+}
+
+impl<R: Print + Drop> HostSink<R> {
+    /// The standard output that the runtime reaches.
+    pub fn new(host: R) -> HostSink<R>
+        ensures none { result ≡ 0 }
+    {
+        HostSink { host, faults: 0 }
+    }
+}
+
+impl<R: Print + Drop> Sink for HostSink<R> {
+    ghost written = { λ faults. None };
+
+    ghost faults = { λ faults. faults };
+
+    fn put(&mut self, bytes: &[u8]) -> Result<usize, Failed> {
+        match self.host.write_some(bytes) {
+            Ok(count) if count > 0 || bytes.is_empty() => Ok(count),
+            _ => {
+                self.faults = self.faults.saturating_add(1);
+                Err(Failed)
+            }
+        }
+    }
+}

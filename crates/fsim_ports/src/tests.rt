@@ -1,0 +1,159 @@
+// What no clause says: that calls succeed where memory is ample, and that faults in mid-stream stay where they are.
+ghost use Rattle.std.specs.Prelude.{[], Some};
+
+use super::*;
+use std::alloc::Global;
+use std::process::Abort;
+use std::test::Fail;
+
+/// Loads a file and compares.
+fn check_load<F: Files>(
+    rt: &impl Abort,
+    files: &mut F,
+    name: &str,
+    limit: u64,
+    wanted: Result<&[u8], LoadFault>,
+    alloc: Global,
+) {
+    match (load_file(alloc, files, name, limit), wanted) {
+        (Ok(bytes), Ok(wanted)) => assert_eq!(rt; bytes.as_slice(), wanted, "{name} {limit}"),
+        (Err(fault), Err(wanted)) => assert_eq!(rt; fault, wanted, "{name} {limit}"),
+        _ => panic!(rt; "{name} {limit}"),
+    }
+}
+
+/// Loads files that hold `abcd` under `image` and nothing under `empty`.
+fn check_loads<F: Files>(rt: &impl Abort, files: &mut F, alloc: Global) {
+    let cases: [(&str, u64, Result<&[u8], LoadFault>); 6] = [
+        ("image", 4, Ok(b"abcd")),
+        ("image", u64::MAX, Ok(b"abcd")),
+        ("image", 3, Err(LoadFault::TooLong)),
+        ("empty", 0, Ok(b"")),
+        ("imag", 4, Err(LoadFault::Missing)),
+        ("", 4, Err(LoadFault::Missing)),
+    ];
+    for (name, limit, wanted) in cases {
+        check_load(rt, files, name, limit, wanted, alloc);
+    }
+}
+
+#[test]
+fn loads_files_of_memory(rt: HostRuntime) -> Result<(), Fail> {
+    let mut files = MemoryFiles::new(rt.alloc());
+    files.add("image", b"xyz")?;
+    files.add("empty", b"")?;
+    files.add("image", b"abcd")?;
+    check_loads(&rt, &mut files, rt.alloc());
+    let mut files = SureFiles::new(rt.alloc());
+    files.add("image", b"xyz")?;
+    files.add("empty", b"")?;
+    files.add("image", b"abcd")?;
+    check_loads(&rt, &mut files, rt.alloc());
+    Ok(())
+}
+
+#[test]
+fn loads_again_behind_a_failed_read(rt: HostRuntime) -> Result<(), Fail> {
+    let long = vec![in rt.alloc(); 7u8; 70_000]?;
+    let mut files = MemoryFiles::new(rt.alloc());
+    files.add("image", b"abcd")?;
+    files.add("long", long.as_slice())?;
+    for call in [1, 2, 6, 10] {
+        files.fail_at(call)?;
+    }
+    let cases: [(&str, Result<&[u8], LoadFault>); 6] = [
+        ("image", Err(LoadFault::Failed)),
+        ("none", Err(LoadFault::Missing)),
+        ("image", Ok(b"abcd")),
+        ("long", Err(LoadFault::Failed)),
+        ("long", Ok(long.as_slice())),
+        ("image", Err(LoadFault::Failed)),
+    ];
+    for (name, wanted) in cases {
+        check_load(&rt, &mut files, name, 70_000, wanted, rt.alloc());
+    }
+    Ok(())
+}
+
+#[test]
+fn writes_on_behind_a_failed_put(rt: HostRuntime) -> Result<(), Fail> {
+    let mut sink = MemorySink::new(rt.alloc(), 7)?;
+    sink.fail_at(2)?;
+    let cases: [(&[u8], Result<(), Failed>); 6] = [
+        (b"ab", Ok(())),
+        (b"cd", Err(Failed)),
+        (b"ef", Ok(())),
+        (b"ghij", Err(Failed)),
+        (b"", Ok(())),
+        (b"klm", Ok(())),
+    ];
+    for (text, wanted) in cases {
+        assert_eq!(rt; put_all(&mut sink, text), wanted);
+    }
+    assert_eq!(rt; sink.bytes(), b"abefklm".as_slice());
+    Ok(())
+}
+
+/// A sink that takes at most two bytes at a time.
+#[derive(Drop)]
+struct ShortSink {
+    inner: MemorySink,
+}
+
+impl Sink for ShortSink {
+    ghost written = { λ s. Some s.inner.bytes };
+
+    ghost faults = { λ s. s.inner.plan.faults };
+
+    fn put(&mut self, bytes: &[u8]) -> Result<usize, Failed> {
+        self.inner.put(&bytes[..bytes.len().min(2)])
+    }
+}
+
+/// A sink that takes no byte.
+#[derive(Drop)]
+struct FullSink {
+    faults: u64,
+}
+
+impl Sink for FullSink {
+    ghost written = { λ s. Some [] };
+
+    ghost faults = { λ s. s.faults };
+
+    fn put(&mut self, bytes: &[u8]) -> Result<usize, Failed> {
+        let _ = bytes;
+        self.faults = self.faults.saturating_add(1);
+        Ok(0)
+    }
+}
+
+#[test]
+fn writes_by_short_puts(rt: HostRuntime) -> Result<(), Fail> {
+    let mut sink = ShortSink {
+        inner: MemorySink::new(rt.alloc(), 7)?,
+    };
+    assert_eq!(rt; put_all(&mut sink, b"abcde"), Ok(()));
+    assert_eq!(rt; put_all(&mut sink, b"fghij"), Err(Failed));
+    assert_eq!(rt; sink.inner.bytes(), b"abcdefg".as_slice());
+    let mut sink = FullSink { faults: 0 };
+    assert_eq!(rt; put_all(&mut sink, b"a"), Err(Failed));
+    assert_eq!(rt; sink.faults, 1);
+    Ok(())
+}
+
+/// Uses a sink and a gate by their bounds alone.
+fn writes_between_turns<K: Sink, G: Gate + Sync>(sink: &mut K, gate: &G) -> Result<(), Failed> {
+    gate.func_turn();
+    put_all(sink, b"abc")?;
+    gate.time_turn();
+    Ok(())
+}
+
+#[test]
+fn sure_sink_and_quiet_gate_let_all_pass(rt: HostRuntime) {
+    assert_eq!(rt;
+        writes_between_turns(&mut SureSink::new(), &QuietGate),
+        Ok(())
+    );
+}
