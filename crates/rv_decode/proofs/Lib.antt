@@ -1,0 +1,5 @@
+pub mod Found
+pub mod Apart
+pub mod Kept
+pub mod RoundTrip
+pub mod Spelled
