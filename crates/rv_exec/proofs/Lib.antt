@@ -1,0 +1,2 @@
+pub mod DivisionLaw
+pub mod ProductLaw

@@ -1,0 +1,7 @@
+pub mod Signed
+pub mod Alu
+pub mod MulDiv
+pub mod Laws
+pub mod Branch
+pub mod Load
+pub mod Eval
