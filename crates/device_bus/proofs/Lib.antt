@@ -1,0 +1,3 @@
+pub mod Driver
+pub mod Numbers
+pub mod Places

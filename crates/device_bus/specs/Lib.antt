@@ -1,0 +1,4 @@
+pub mod Range
+pub mod Device
+pub mod Undo
+pub mod Bus
