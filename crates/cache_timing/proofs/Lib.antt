@@ -1,0 +1,10 @@
+pub mod Order
+pub mod Lists
+pub mod Word
+pub mod Places
+pub mod Sets
+pub mod Touches
+pub mod Powers
+pub mod Start
+pub mod Kept
+pub mod Accesses

@@ -1,0 +1,6 @@
+pub mod Params
+pub mod Cache
+pub mod Caches
+pub mod Ages
+pub mod Keeps
+pub mod KeepsAll

@@ -1,0 +1,85 @@
+use crate::cache::Touch;
+
+/// What the caches of a machine counted. A count stands still at its largest value.
+#[derive(Clone, Copy, Debug, PartialEq, Eq)]
+pub struct CacheCounts {
+    pub icache_accesses: u64,
+    pub icache_misses: u64,
+    pub dcache_accesses: u64,
+    pub dcache_misses: u64,
+    pub l2_accesses: u64,
+    pub l2_misses: u64,
+    /// Dirty lines that the data cache dropped.
+    pub writebacks: u64,
+}
+
+impl CacheCounts {
+    ghost use Rattle.std.specs.Prelude.{◌≡◌};
+    ghost use Rattle.cache_timing.specs.Caches.{cold, accesses_after, misses_after, icache_counted, dcache_counted, l2_counted, writeback_counted};
+
+    /// Nothing was counted.
+    pub(crate) fn new() -> CacheCounts
+        ensures { result ≡ cold.counts }
+    {
+        CacheCounts {
+            icache_accesses: 0,
+            icache_misses: 0,
+            dcache_accesses: 0,
+            dcache_misses: 0,
+            l2_accesses: 0,
+            l2_misses: 0,
+            writebacks: 0,
+        }
+    }
+
+    /// The accesses of a cache after one more.
+    fn accesses_after(touch: Touch, count: u64) -> u64
+        ensures { result ≡ accesses_after touch count }
+    {
+        match touch {
+            Touch::None => count,
+            Touch::Hit | Touch::Miss { .. } => count.saturating_add(1),
+        }
+    }
+
+    /// The misses of a cache after one more access.
+    fn misses_after(touch: Touch, count: u64) -> u64
+        ensures { result ≡ misses_after touch count }
+    {
+        match touch {
+            Touch::None | Touch::Hit => count,
+            Touch::Miss { .. } => count.saturating_add(1),
+        }
+    }
+
+    /// Counts an access to the instruction cache.
+    pub(crate) fn count_icache(&mut self, touch: Touch)
+        ensures { self.new ≡ icache_counted touch self.old }
+    {
+        self.icache_accesses = Self::accesses_after(touch, self.icache_accesses);
+        self.icache_misses = Self::misses_after(touch, self.icache_misses);
+    }
+
+    /// Counts an access to the data cache.
+    pub(crate) fn count_dcache(&mut self, touch: Touch)
+        ensures { self.new ≡ dcache_counted touch self.old }
+    {
+        self.dcache_accesses = Self::accesses_after(touch, self.dcache_accesses);
+        self.dcache_misses = Self::misses_after(touch, self.dcache_misses);
+    }
+
+    /// Counts an access to the second level.
+    pub(crate) fn count_l2(&mut self, touch: Touch)
+        ensures { self.new ≡ l2_counted touch self.old }
+    {
+        self.l2_accesses = Self::accesses_after(touch, self.l2_accesses);
+        self.l2_misses = Self::misses_after(touch, self.l2_misses);
+    }
+
+    /// Counts a dirty line that was dropped.
+    pub(crate) fn count_writeback(&mut self)
+        ensures { self.new ≡ writeback_counted self.old }
+    {
+        self.writebacks = self.writebacks.saturating_add(1);
+    }
+}
