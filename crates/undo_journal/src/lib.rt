@@ -1,0 +1,11 @@
+//! A bounded journal of what takes instructions back.
+#![tactic(auto)]
+
+mod journal;
+mod past;
+
+pub use journal::Journal;
+pub use past::Past;
+
+#[cfg(test)]
+mod tests;
