@@ -1,0 +1,151 @@
+ghost use Rattle.std.specs.Prelude.{◌≡◌, ℕ};
+ghost use Rattle.mono_model.specs.Ranges.{is_between, is_power_between, is_ram, is_unit, is_cache};
+
+use branch_predictor::PredKind;
+
+fn is_between(low: u32, high: u32, number: u32) -> bool
+    ensures between { result ≡ is_between low high number }
+{
+    low <= number && number <= high
+}
+
+fn is_power_between(low: u32, high: u32, number: u32) -> bool
+    ensures power { result ≡ is_power_between low high number }
+{
+    is_between(low, high, number) && number.is_power_of_two()
+}
+
+fn is_ram(base: u32, size: u32) -> bool
+    ensures ram { result ≡ is_ram base size }
+{
+    is_between(0x2000_0000, 0xffff_f000, base)
+        && base % 4096 == 0
+        && is_between(4096, 67_108_864, size)
+        && size % 4096 == 0
+        && u64::from(base) + u64::from(size) <= 1 << 32
+}
+
+fn is_unit(count: u32, latency: u32) -> bool
+    ensures unit { result ≡ is_unit count latency }
+{
+    is_between(1, 8, count) && is_between(1, 64, latency)
+}
+
+fn is_cache(most_sets: u32, line: u32, sets: u32, ways: u32, miss: u32) -> bool
+    ensures cache { result ≡ is_cache most_sets line sets ways miss }
+{
+    is_power_between(4, 256, line)
+        && is_power_between(1, most_sets, sets)
+        && ways <= 16
+        && miss <= 1000
+}
+
+/// The parameters of the machine: one field for each key of a machine file, the dot written as an underscore.
+///
+/// `docs/MACHINE.md` has the meaning, range and default of each.
+#[derive(Clone, Copy, Debug, PartialEq, Eq)]
+pub struct Params {
+    pub version: u32,
+    pub ram_base: u32,
+    pub ram_size: u32,
+    pub core_fetch: u32,
+    pub core_commit: u32,
+    pub core_front: u32,
+    pub core_window: u32,
+    pub core_stations: u32,
+    pub alu_count: u32,
+    pub alu_latency: u32,
+    pub mul_count: u32,
+    pub mul_latency: u32,
+    pub div_count: u32,
+    pub div_latency: u32,
+    pub mem_count: u32,
+    pub mem_latency: u32,
+    pub predictor_kind: PredKind,
+    pub predictor_counters: u32,
+    pub predictor_history: u32,
+    pub predictor_targets: u32,
+    pub icache_line: u32,
+    pub icache_sets: u32,
+    pub icache_ways: u32,
+    pub icache_miss: u32,
+    pub dcache_line: u32,
+    pub dcache_sets: u32,
+    pub dcache_ways: u32,
+    pub dcache_miss: u32,
+    /// The policy of the data cache: write back, or else write through.
+    pub dcache_back: bool,
+    pub l2_line: u32,
+    pub l2_sets: u32,
+    pub l2_ways: u32,
+    pub l2_hit: u32,
+    pub l2_miss: u32,
+}
+
+impl Params {
+    ghost use Rattle.mono_model.specs.Setup.{are_core, are_units, is_predictor, are_caches, are_params};
+
+    /// Whether each parameter is in the range of its key in a machine file.
+    #[tactic(auto, unfolding(crate::specs::Setup::are_params))]
+    pub fn in_range(&self) -> bool
+        ensures in_range { result ≡ are_params self.now }
+    {
+        self.version <= 2
+            && is_ram(self.ram_base, self.ram_size)
+            && self.is_core_in_range()
+            && self.are_units_in_range()
+            && self.is_predictor_in_range()
+            && self.are_caches_in_range()
+    }
+
+    fn is_core_in_range(&self) -> bool
+        ensures core { result ≡ are_core self.now }
+    {
+        is_between(1, 8, self.core_fetch)
+            && is_between(1, 8, self.core_commit)
+            && is_between(1, 32, self.core_front)
+            && is_between(1, 256, self.core_window)
+            && is_between(1, 256, self.core_stations)
+    }
+
+    fn are_units_in_range(&self) -> bool
+        ensures units { result ≡ are_units self.now }
+    {
+        is_unit(self.alu_count, self.alu_latency)
+            && is_unit(self.mul_count, self.mul_latency)
+            && is_unit(self.div_count, self.div_latency)
+            && is_unit(self.mem_count, self.mem_latency)
+    }
+
+    fn is_predictor_in_range(&self) -> bool
+        ensures predictor { result ≡ is_predictor self.now }
+    {
+        is_power_between(1, 65_536, self.predictor_counters)
+            && self.predictor_history <= 16
+            && (self.predictor_targets == 0 || is_power_between(1, 65_536, self.predictor_targets))
+    }
+
+    fn are_caches_in_range(&self) -> bool
+        ensures caches { result ≡ are_caches self.now }
+    {
+        is_cache(
+            4096,
+            self.icache_line,
+            self.icache_sets,
+            self.icache_ways,
+            self.icache_miss,
+        ) && is_cache(
+            4096,
+            self.dcache_line,
+            self.dcache_sets,
+            self.dcache_ways,
+            self.dcache_miss,
+        ) && is_cache(
+            65_536,
+            self.l2_line,
+            self.l2_sets,
+            self.l2_ways,
+            self.l2_miss,
+        ) && self.l2_hit <= 1000
+    }
+}
