@@ -1,0 +1,20 @@
+//! The program `fast`: it reads its words and the files that they name, simulates, and writes output and report.
+#![tactic(auto)]
+
+mod answer;
+mod finish;
+mod image;
+mod open;
+mod plain;
+mod program;
+mod run;
+mod tell;
+#[cfg(test)]
+mod tests;
+mod words;
+
+use std::process::ExitCode;
+
+fn main(rt: HostRuntime) -> ExitCode {
+    ExitCode::from(program::run_host(&rt).number())
+}

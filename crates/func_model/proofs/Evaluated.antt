@@ -1,0 +1,101 @@
+-- What evaluation tells of an instruction's access and destination.
+use Rattle.std.proofs.Common.{◌≡◌, ℕ, ◌<◌, ◌==◌, Bool, true, false, if◌then◌else◌, Option, Some, None, refl, arith}
+use Rattle.std.proofs.lemmas.Grind.{common_steps}
+use Rattle.fsim_base.specs.declared.cause.Cause.{Cause}
+use Rattle.rv_decode.specs.declared.insn.Insn.{Insn}
+use Rattle.rv_decode.specs.declared.insn.Insn.TheVariants as insn
+use Rattle.rv_decode.specs.Class.{dest_of, written}
+use Rattle.rv_decode.specs.Fits.{Fits}
+use Rattle.rv_exec.specs.declared.outcome.Reach.{Reach}
+use Rattle.rv_exec.specs.declared.outcome.Reach.TheVariants as reach
+use Rattle.rv_exec.specs.Eval.{eval_of, branched}
+use Rattle.rv_exec.specs.Branch.{branch_taken}
+use Rattle.fsim_base.specs.Number.{wrap_sum}
+use Rattle.func_model.specs.Hart.{IsDestination}
+use Rattle.func_model.specs.Steps.{AlignedBy, IsAlignedReach}
+
+aligned_zero : (n : ℕ) → (n == 0) ≡ true → n ≡ 0
+aligned_zero n is = grind (arith, common_steps)
+
+nothing_aligned : (cause : Option (Cause × ℕ)) → AlignedBy cause reach.Nothing
+nothing_aligned None = tt
+nothing_aligned (Some why) = tt
+
+by_test : (aligned : Bool) (why : Cause × ℕ) (what : Reach) → (aligned ≡ true → IsAlignedReach what) → AlignedBy (if aligned then None else Some why) what
+by_test true why what holds = holds refl
+by_test false why what holds = tt
+
+-- an access without a cause is aligned
+pub outcome_aligned : (i : Insn) (addr a b : ℕ) → AlignedBy (eval_of i addr a b).cause (eval_of i addr a b).reach
+unfolding eval_of
+outcome_aligned (insn.Lui rd imm) addr a b = tt
+outcome_aligned (insn.Auipc rd imm) addr a b = tt
+outcome_aligned (insn.Jal rd imm) addr a b = nothing_aligned (eval_of (insn.Jal rd imm) addr a b).cause
+outcome_aligned (insn.Jalr rd rs1 imm) addr a b = nothing_aligned (eval_of (insn.Jalr rd rs1 imm) addr a b).cause
+outcome_aligned (insn.Branch kind rs1 rs2 imm) addr a b = grind (arith, nothing_aligned)
+outcome_aligned (insn.Load kind rd rs1 imm) addr a b = by_test _ _ _ (λ is. aligned_zero _ is)
+outcome_aligned (insn.Store kind rs1 rs2 imm) addr a b = by_test _ _ _ (λ is. aligned_zero _ is)
+outcome_aligned (insn.OpImm kind alt rd rs1 imm) addr a b = tt
+outcome_aligned (insn.Op kind alt rd rs1 rs2) addr a b = tt
+outcome_aligned (insn.MulDiv kind rd rs1 rs2) addr a b = tt
+outcome_aligned (insn.Fence rd rs1 upper fetch) addr a b = tt
+outcome_aligned insn.Ecall addr a b = tt
+outcome_aligned insn.Ebreak addr a b = tt
+outcome_aligned insn.Mret addr a b = tt
+outcome_aligned insn.Wfi addr a b = tt
+outcome_aligned (insn.Csr kind rd rs1 csr) addr a b = tt
+
+written_exists : (rd : ℕ) → rd < 32 → IsDestination (written rd)
+written_exists rd small = by_zero (rd == 0)
+  where
+    by_zero : (zero_is : Bool) → IsDestination (if zero_is then None else Some rd)
+    by_zero true = tt
+    by_zero false = small
+
+-- the destination of an instruction that some word spells exists
+pub destination_exists : (i : Insn) → Fits i → IsDestination (dest_of i)
+destination_exists (insn.Lui rd imm) fits = written_exists rd fits.0
+destination_exists (insn.Auipc rd imm) fits = written_exists rd fits.0
+destination_exists (insn.Jal rd imm) fits = written_exists rd fits.0
+destination_exists (insn.Jalr rd rs1 imm) fits = written_exists rd fits.0
+destination_exists (insn.Branch kind rs1 rs2 imm) fits = tt
+destination_exists (insn.Load kind rd rs1 imm) fits = written_exists rd fits.2
+destination_exists (insn.Store kind rs1 rs2 imm) fits = tt
+destination_exists (insn.OpImm kind alt rd rs1 imm) fits = written_exists rd fits.2
+destination_exists (insn.Op kind alt rd rs1 rs2) fits = written_exists rd fits.2
+destination_exists (insn.MulDiv kind rd rs1 rs2) fits = written_exists rd fits.1
+destination_exists (insn.Fence rd rs1 upper fetch) fits = tt
+destination_exists insn.Ecall fits = tt
+destination_exists insn.Ebreak fits = tt
+destination_exists insn.Mret fits = tt
+destination_exists insn.Wfi fits = tt
+destination_exists (insn.Csr kind rd rs1 csr) fits = written_exists rd fits.3
+
+-- a store writes no register
+abbrev pub NoDestination : Option ℕ → Reach → Type 0
+NoDestination destination reach.Nothing = Unit {0}
+NoDestination destination (reach.Load addr width signed) = Unit {0}
+NoDestination destination (reach.Store addr width value) = destination ≡ None
+
+branches_reach_nothing : (addr : ℕ) (taken : Bool) (target : ℕ) → NoDestination None (branched addr taken target).reach
+branches_reach_nothing addr true target = tt
+branches_reach_nothing addr false target = tt
+
+pub stores_write_none : (i : Insn) (addr a b : ℕ) → NoDestination (dest_of i) (eval_of i addr a b).reach
+unfolding eval_of
+stores_write_none (insn.Lui rd imm) addr a b = tt
+stores_write_none (insn.Auipc rd imm) addr a b = tt
+stores_write_none (insn.Jal rd imm) addr a b = tt
+stores_write_none (insn.Jalr rd rs1 imm) addr a b = tt
+stores_write_none (insn.Branch kind rs1 rs2 imm) addr a b = branches_reach_nothing addr (branch_taken kind a b) (wrap_sum addr imm)
+stores_write_none (insn.Load kind rd rs1 imm) addr a b = tt
+stores_write_none (insn.Store kind rs1 rs2 imm) addr a b = refl
+stores_write_none (insn.OpImm kind alt rd rs1 imm) addr a b = tt
+stores_write_none (insn.Op kind alt rd rs1 rs2) addr a b = tt
+stores_write_none (insn.MulDiv kind rd rs1 rs2) addr a b = tt
+stores_write_none (insn.Fence rd rs1 upper fetch) addr a b = tt
+stores_write_none insn.Ecall addr a b = tt
+stores_write_none insn.Ebreak addr a b = tt
+stores_write_none insn.Mret addr a b = tt
+stores_write_none insn.Wfi addr a b = tt
+stores_write_none (insn.Csr kind rd rs1 csr) addr a b = tt

@@ -1,0 +1,13 @@
+pub mod Advance
+pub mod Concluded
+pub mod Counts
+pub mod Effects
+pub mod Evaluated
+pub mod Loads
+pub mod Made
+pub mod Placing
+pub mod Reported
+pub mod Running
+pub mod Stores
+pub mod Storing
+pub mod System

@@ -1,0 +1,161 @@
+-- The effect of a CSR instruction and of MRET.
+use Rattle.std.proofs.Common.{◌≡◌, ℕ, ◌&&◌, ◌==◌, List, [], ◌∷◌, Bool, true, false, if◌then◌else◌, Option, Some, None, refl}
+use Rattle.fsim_base.specs.declared.access.RamRange.{RamRange}
+use Rattle.rv_decode.specs.declared.insn.Insn.{Insn}
+use Rattle.rv_decode.specs.declared.insn.Insn.TheVariants as insn
+use Rattle.rv_decode.specs.Class.{sources_of}
+use Rattle.rv_exec.specs.Eval.{eval_of}
+use Rattle.machine_csr.specs.declared.csrs.CsrWrite.{CsrWrite}
+use Rattle.machine_csr.specs.declared.csrs.Csrs.{Csrs}
+use Rattle.machine_csr.specs.declared.csrs.CsrWrite.TheVariants as write
+use Rattle.machine_csr.specs.Csr.{csr_access, reads_time_of, csr_written, Row, rows, row_in, row_at, kept_by}
+use Rattle.device_bus.specs.declared.undo.Note.TheVariants as note
+use Rattle.fsim_base.specs.Cause.{cause_number}
+use Rattle.fsim_base.specs.declared.cause.Cause.{Cause}
+use Rattle.mono_model.specs.Arch.{Arch, register_value, compare_of, trapped}
+use Rattle.mono_model.specs.Found.{refused, unknown, known, is_csr_insn, is_mret_insn}
+use Rattle.mono_model.specs.Result.{executed, csr_result, csr_value}
+use Rattle.mono_model.specs.Effect.{effect, retired, note_of}
+use Rattle.func_model.specs.Steps.{behind, result_of, csr_made, mret_made}
+
+-- with a time, the value that was read is given
+timed : (insn : Insn) (time value : ℕ) → csr_value insn (Some time) value ≡ value
+timed i time value = by_test (reads_time_of i)
+  where
+    by_test : (b : Bool) → (if b && false then 0 else value) ≡ value
+    by_test true = refl
+    by_test false = refl
+
+by_access : (limit word kind rd rs1 csr time : ℕ) (given : Option (ℕ × CsrWrite)) (a : Arch) →
+    given ≡ csr_access a.csrs (insn.Csr kind rd rs1 csr) (register_value a.regs (sources_of (insn.Csr kind rd rs1 csr)).0) time (compare_of a.devices) →
+    behind limit (known word (insn.Csr kind rd rs1 csr)) (csr_result word (insn.Csr kind rd rs1 csr) a.pc (Some time) given) time a ≡ csr_made word (insn.Csr kind rd rs1 csr) given a
+unfolding effect retired
+by_access limit word kind rd rs1 csr time None a is = refl
+by_access limit word kind rd rs1 csr time (Some made) a is = rw (← is) (rw timed refl)
+
+csr_noted : (word : ℕ) (i : Insn) (addr : ℕ) (time : Option ℕ) (given : Option (ℕ × CsrWrite)) (a : Arch) → note_of (csr_result word i addr time given) a ≡ note.Nothing
+csr_noted word i addr time None a = refl
+csr_noted word i addr time (Some made) a = refl
+
+-- what the code reads of the CSRs
+abbrev pub accessed : Insn → ℕ → Arch → Option (ℕ × CsrWrite)
+accessed i time a = csr_access a.csrs i (register_value a.regs (sources_of i).0) time (compare_of a.devices)
+
+pub csr_behind : (range : RamRange) (limit word : ℕ) (i : Insn) (time : ℕ) (a : Arch) → is_csr_insn i ≡ true →
+    behind limit (known word i) (result_of range (known word i) time a) time a ≡ csr_made word i (accessed i time a) a
+unfolding executed eval_of
+csr_behind range limit word (insn.Csr kind rd rs1 csr) time a is = by_access limit word kind rd rs1 csr time (accessed (insn.Csr kind rd rs1 csr) time a) a refl
+csr_behind range limit word (insn.Lui rd imm) time a is = cc
+csr_behind range limit word (insn.Auipc rd imm) time a is = cc
+csr_behind range limit word (insn.Jal rd imm) time a is = cc
+csr_behind range limit word (insn.Jalr rd rs1 imm) time a is = cc
+csr_behind range limit word (insn.Branch kind rs1 rs2 imm) time a is = cc
+csr_behind range limit word (insn.Load kind rd rs1 imm) time a is = cc
+csr_behind range limit word (insn.Store kind rs1 rs2 imm) time a is = cc
+csr_behind range limit word (insn.OpImm kind alt rd rs1 imm) time a is = cc
+csr_behind range limit word (insn.Op kind alt rd rs1 rs2) time a is = cc
+csr_behind range limit word (insn.MulDiv kind rd rs1 rs2) time a is = cc
+csr_behind range limit word (insn.Fence rd rs1 upper fetch) time a is = cc
+csr_behind range limit word insn.Ecall time a is = cc
+csr_behind range limit word insn.Ebreak time a is = cc
+csr_behind range limit word insn.Wfi time a is = cc
+csr_behind range limit word insn.Mret time a is = cc
+
+pub csr_silent : (range : RamRange) (word : ℕ) (i : Insn) (time : ℕ) (a : Arch) → is_csr_insn i ≡ true → note_of (result_of range (known word i) time a) a ≡ note.Nothing
+unfolding executed eval_of
+csr_silent range word (insn.Csr kind rd rs1 csr) time a is = csr_noted word (insn.Csr kind rd rs1 csr) a.pc (Some time) (accessed (insn.Csr kind rd rs1 csr) time a) a
+csr_silent range word (insn.Lui rd imm) time a is = cc
+csr_silent range word (insn.Auipc rd imm) time a is = cc
+csr_silent range word (insn.Jal rd imm) time a is = cc
+csr_silent range word (insn.Jalr rd rs1 imm) time a is = cc
+csr_silent range word (insn.Branch kind rs1 rs2 imm) time a is = cc
+csr_silent range word (insn.Load kind rd rs1 imm) time a is = cc
+csr_silent range word (insn.Store kind rs1 rs2 imm) time a is = cc
+csr_silent range word (insn.OpImm kind alt rd rs1 imm) time a is = cc
+csr_silent range word (insn.Op kind alt rd rs1 rs2) time a is = cc
+csr_silent range word (insn.MulDiv kind rd rs1 rs2) time a is = cc
+csr_silent range word (insn.Fence rd rs1 upper fetch) time a is = cc
+csr_silent range word insn.Ecall time a is = cc
+csr_silent range word insn.Ebreak time a is = cc
+csr_silent range word insn.Wfi time a is = cc
+csr_silent range word insn.Mret time a is = cc
+
+pub mret_behind : (range : RamRange) (limit word : ℕ) (i : Insn) (time : ℕ) (a : Arch) → is_mret_insn i ≡ true →
+    behind limit (known word i) (result_of range (known word i) time a) time a ≡ mret_made a
+unfolding executed eval_of effect retired
+mret_behind range limit word insn.Mret time a is = refl
+mret_behind range limit word (insn.Lui rd imm) time a is = cc
+mret_behind range limit word (insn.Auipc rd imm) time a is = cc
+mret_behind range limit word (insn.Jal rd imm) time a is = cc
+mret_behind range limit word (insn.Jalr rd rs1 imm) time a is = cc
+mret_behind range limit word (insn.Branch kind rs1 rs2 imm) time a is = cc
+mret_behind range limit word (insn.Load kind rd rs1 imm) time a is = cc
+mret_behind range limit word (insn.Store kind rs1 rs2 imm) time a is = cc
+mret_behind range limit word (insn.OpImm kind alt rd rs1 imm) time a is = cc
+mret_behind range limit word (insn.Op kind alt rd rs1 rs2) time a is = cc
+mret_behind range limit word (insn.MulDiv kind rd rs1 rs2) time a is = cc
+mret_behind range limit word (insn.Fence rd rs1 upper fetch) time a is = cc
+mret_behind range limit word insn.Ecall time a is = cc
+mret_behind range limit word insn.Ebreak time a is = cc
+mret_behind range limit word insn.Wfi time a is = cc
+mret_behind range limit word (insn.Csr kind rd rs1 csr) time a is = cc
+
+pub mret_silent : (range : RamRange) (word : ℕ) (i : Insn) (time : ℕ) (a : Arch) → is_mret_insn i ≡ true → note_of (result_of range (known word i) time a) a ≡ note.Nothing
+unfolding executed eval_of
+mret_silent range word insn.Mret time a is = refl
+mret_silent range word (insn.Lui rd imm) time a is = cc
+mret_silent range word (insn.Auipc rd imm) time a is = cc
+mret_silent range word (insn.Jal rd imm) time a is = cc
+mret_silent range word (insn.Jalr rd rs1 imm) time a is = cc
+mret_silent range word (insn.Branch kind rs1 rs2 imm) time a is = cc
+mret_silent range word (insn.Load kind rd rs1 imm) time a is = cc
+mret_silent range word (insn.Store kind rs1 rs2 imm) time a is = cc
+mret_silent range word (insn.OpImm kind alt rd rs1 imm) time a is = cc
+mret_silent range word (insn.Op kind alt rd rs1 rs2) time a is = cc
+mret_silent range word (insn.MulDiv kind rd rs1 rs2) time a is = cc
+mret_silent range word (insn.Fence rd rs1 upper fetch) time a is = cc
+mret_silent range word insn.Ecall time a is = cc
+mret_silent range word insn.Ebreak time a is = cc
+mret_silent range word insn.Wfi time a is = cc
+mret_silent range word (insn.Csr kind rd rs1 csr) time a is = cc
+
+-- nothing that can be executed
+pub refused_behind : (range : RamRange) (limit time : ℕ) (cause : Cause) (a : Arch) →
+    behind limit (refused cause) (result_of range (refused cause) time a) time a ≡ trapped (cause_number cause) a.pc a.pc a
+unfolding executed effect
+refused_behind range limit time cause a = refl
+
+pub refused_silent : (range : RamRange) (time : ℕ) (cause : Cause) (a : Arch) → note_of (result_of range (refused cause) time a) a ≡ note.Nothing
+unfolding executed
+refused_silent range time cause a = refl
+
+pub unknown_behind : (range : RamRange) (limit time word : ℕ) (a : Arch) →
+    behind limit (unknown word) (result_of range (unknown word) time a) time a ≡ trapped 2 word a.pc a
+unfolding executed effect
+unknown_behind range limit time word a = refl
+
+pub unknown_silent : (range : RamRange) (time word : ℕ) (a : Arch) → note_of (result_of range (unknown word) time a) a ≡ note.Nothing
+unfolding executed
+unknown_silent range time word a = refl
+
+-- every step that isn't a trap retires one instruction
+abbrev pub Keeping : List Row → Type 0
+Keeping [] = Unit {0}
+Keeping (r ∷ rs) = ((s : Csrs) (v : ℕ) → (r.keeps s v).retired ≡ s.retired) × Keeping rs
+
+kept_if : (here : Bool) (r : Row) (other : Option Row) (s : Csrs) (v : ℕ) → (r.keeps s v).retired ≡ s.retired → (kept_by other s v).retired ≡ s.retired →
+    (kept_by (if here then Some r else other) s v).retired ≡ s.retired
+kept_if true r other s v p q = p
+kept_if false r other s v p q = q
+
+kept_in : (rs : List Row) → Keeping rs → (csr : ℕ) (s : Csrs) (v : ℕ) → (kept_by (row_in rs csr) s v).retired ≡ s.retired
+kept_in [] keeps csr s v = refl
+kept_in (r ∷ rs) keeps csr s v = kept_if (r.address == csr) r (row_in rs csr) s v (keeps.0 s v) (kept_in rs keeps.1 csr s v)
+
+rows_keep : Keeping rows
+rows_keep = (λ s v. refl, (λ s v. refl, (λ s v. refl, (λ s v. refl, (λ s v. refl, (λ s v. refl, (λ s v. refl, (λ s v. refl, (λ s v. refl, (λ s v. refl, (λ s v. refl, (λ s v. refl, (λ s v. refl, (λ s v. refl, (λ s v. refl, (λ s v. refl, (λ s v. refl, (λ s v. refl, (λ s v. refl, (λ s v. refl, (λ s v. refl, (λ s v. refl, (λ s v. refl, (λ s v. refl, (λ s v. refl, (λ s v. refl, (λ s v. refl, (λ s v. refl, tt))))))))))))))))))))))))))))
+
+pub written_retired : (write : CsrWrite) (s : Csrs) → (csr_written write s).retired ≡ s.retired
+unfolding csr_written row_at
+written_retired write.Nothing s = refl
+written_retired (write.Put csr value) s = kept_in rows rows_keep csr s value

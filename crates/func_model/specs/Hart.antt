@@ -1,0 +1,52 @@
+-- What the parts of the functional side stand for.
+use Rattle.std.specs.Prelude.{ℕ, Bool, ◌&&◌, ◌%◌, ◌+◌, ◌==◌, if◌then◌else◌, Option, Some, None, slice_index, ◌<◌}
+use Rattle.fsim_base.specs.Memory.{from_bytes}
+use Rattle.fsim_base.specs.declared.cause.Cause.TheVariants.{InstructionMisaligned, InstructionAccess}
+use Rattle.rv_decode.specs.Decode.{decode_of}
+use Rattle.rv_decode.specs.Fits.{Fits}
+use Rattle.device_bus.specs.Bus.{Devices}
+use Rattle.mono_model.specs.Arch.{Arch}
+use Rattle.mono_model.specs.Found.{Found, refused, unknown, known, found_word}
+use Rattle.func_model.specs.declared.found.Fetched.{Fetched}
+use Rattle.func_model.specs.declared.found.Fetched.TheVariants as code
+use Rattle.func_model.specs.declared.hart.Hart.{Hart}
+use Rattle.func_model.specs.Memory.{ram_of, text_of}
+
+-- the code's answer of a fetch as what was found
+abbrev pub found_in : Fetched → Found
+found_in (code.Refused cause) = refused cause
+found_in (code.Unknown word) = unknown word
+found_in (code.Known word insn) = known word insn
+
+-- an instruction that was found is one that some word spells
+abbrev pub FetchedFits : Fetched → Type 0
+FetchedFits (code.Refused cause) = Unit {0}
+FetchedFits (code.Unknown word) = Unit {0}
+FetchedFits (code.Known word insn) = Fits insn
+
+-- what fetch finds at an address, by the executable addresses and the text
+abbrev pub has_text_by : (ℕ → Bool) → ℕ → Bool
+has_text_by is_text addr = is_text addr && is_text (addr + 1) && is_text (addr + 2) && is_text (addr + 3)
+
+unfoldable pub found_by : (ℕ → Bool) → (ℕ → ℕ) → ℕ → Found
+found_by is_text text addr =
+    if addr % 4 == 0
+    then (if has_text_by is_text addr then found_word (from_bytes 4 addr text) (decode_of (from_bytes 4 addr text)) else refused InstructionAccess)
+    else refused InstructionMisaligned
+
+-- a destination that exists
+abbrev pub IsDestination : Option ℕ → Type 0
+IsDestination None = Unit {0}
+IsDestination (Some register) = register < 32
+
+-- the state of a hart, with its devices
+unfoldable pub arch_of : Hart → Devices → Arch
+arch_of hart devices = record {
+  pc = hart.pc;
+  regs = λ register. slice_index hart.regs register;
+  ram = ram_of hart.memory;
+  text = text_of hart.memory;
+  csrs = hart.csrs;
+  devices = devices;
+  output = hart.output.items;
+}

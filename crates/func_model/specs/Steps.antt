@@ -1,0 +1,143 @@
+-- What an instruction does to the state, by the parts in which the code does it.
+use Rattle.std.specs.Prelude.{◌≡◌, ℕ, ◌%◌, Bool, false, if◌then◌else◌, Option, Some, None, List, nat_le, length}
+use Rattle.fsim_base.specs.declared.access.Access.TheVariants as access
+use Rattle.fsim_base.specs.declared.access.Width.{Width}
+use Rattle.fsim_base.specs.declared.access.Spot.{Spot}
+use Rattle.fsim_base.specs.declared.access.RamRange.{RamRange}
+use Rattle.fsim_base.specs.Cause.{cause_number}
+use Rattle.fsim_base.specs.Width.{width_bytes}
+use Rattle.fsim_base.specs.declared.cause.Cause.{Cause}
+use Rattle.fsim_base.specs.Number.{wrap_sum}
+use Rattle.rv_decode.specs.declared.insn.Insn.{Insn}
+use Rattle.rv_decode.specs.Class.{dest_of}
+use Rattle.machine_csr.specs.declared.csrs.CsrWrite.{CsrWrite}
+use Rattle.machine_csr.specs.Csr.{csr_written}
+use Rattle.machine_csr.specs.Trap.{trap_left, return_address}
+use Rattle.rv_exec.specs.declared.outcome.Outcome.{Outcome}
+use Rattle.rv_exec.specs.declared.outcome.Reach.{Reach}
+use Rattle.rv_exec.specs.declared.outcome.Reach.TheVariants as reach
+use Rattle.rv_exec.specs.Load.{loaded_value}
+use Rattle.device_bus.specs.declared.undo.Note.{Note}
+use Rattle.device_bus.specs.declared.undo.Note.TheVariants as note
+use Rattle.device_bus.specs.Bus.{Devices}
+use Rattle.mono_model.specs.Arch.{Arch, with_register, register_value, trapped}
+use Rattle.mono_model.specs.Found.{Found, first_source, second_source}
+use Rattle.mono_model.specs.Effect.{counted, with_store, with_access, with_note, access_note, note_of, effect}
+use Rattle.mono_model.specs.Result.{spot_of, raw_at, accepts_store, Result, executed}
+use Rattle.mono_model.specs.Sequence.{seen_in}
+use Rattle.func_model.specs.declared.hart.Stepped.{Stepped}
+use Rattle.func_model.specs.declared.hart.Stepped.TheVariants.{On, Full, Ended}
+
+-- an instruction that writes a register, if any, and goes on
+abbrev pub finished : Option ℕ → ℕ → ℕ → Arch → Arch
+finished destination value next a = record a { pc = next; regs = with_register destination value a.regs; csrs = counted a.csrs }
+
+-- a load whose bytes are these, if it can be made
+abbrev pub load_done : RamRange → Option ℕ → ℕ → ℕ → Width → Bool → Option ℕ → Arch → Arch
+load_done range destination next addr width signed None a = trapped 5 addr a.pc a
+load_done range destination next addr width signed (Some raw) a =
+    record (finished destination (loaded_value width signed raw) next a) { devices = with_access (access.Load addr width (spot_of range addr width)) 0 a.devices }
+
+-- an aligned load at a time
+abbrev pub load_made : RamRange → Option ℕ → ℕ → ℕ → Width → Bool → ℕ → Arch → Arch
+load_made range destination next addr width signed time a =
+    load_done range destination next addr width signed (raw_at (seen_in (Some time) a) addr width (spot_of range addr width)) a
+
+-- the devices after a read that gave these bytes, if any
+abbrev pub read_devices : Option ℕ → RamRange → ℕ → Width → Devices → Devices
+read_devices None range addr width devices = devices
+read_devices (Some raw) range addr width devices = with_access (access.Load addr width (spot_of range addr width)) 0 devices
+
+-- how an instruction with this note leaves the run, where the output has so much room
+abbrev pub is_full : ℕ → List ℕ → Note → Bool
+is_full limit output note.Nothing = false
+is_full limit output (note.Out byte) = nat_le limit (length output)
+is_full limit output (note.End halt) = false
+
+abbrev pub stepped_by : ℕ → List ℕ → Note → Stepped
+stepped_by limit output note.Nothing = On
+stepped_by limit output (note.Out byte) = if nat_le limit (length output) then Full else On
+stepped_by limit output (note.End halt) = Ended halt
+
+-- the state behind a store with this note, unless the output has no room for it
+abbrev pub concluded : ℕ → Note → ℕ → Arch → Arch
+concluded limit what next a =
+    if is_full limit a.output what then a else record (finished None 0 next a) { output = with_note what a.output }
+
+-- an aligned store that can be made
+abbrev pub store_done : ℕ → ℕ → ℕ → Width → ℕ → Spot → Arch → Arch
+store_done limit next addr width value spot a =
+    if is_full limit a.output (access_note (access.Store addr width spot) value a.devices) then a
+    else record (finished None 0 next a) {
+      ram = with_store (access.Store addr width spot) value a.ram;
+      devices = with_access (access.Store addr width spot) value a.devices;
+      output = with_note (access_note (access.Store addr width spot) value a.devices) a.output;
+    }
+
+-- an aligned store, and how it leaves the run
+abbrev pub store_made : RamRange → ℕ → ℕ → ℕ → Width → ℕ → Arch → Arch
+store_made range limit next addr width value a =
+    if accepts_store addr width (spot_of range addr width) then store_done limit next addr width value (spot_of range addr width) a else trapped 7 addr a.pc a
+
+abbrev pub store_stepped : RamRange → ℕ → ℕ → Width → ℕ → Arch → Stepped
+store_stepped range limit addr width value a =
+    if accepts_store addr width (spot_of range addr width)
+    then stepped_by limit a.output (access_note (access.Store addr width (spot_of range addr width)) value a.devices) else On
+
+-- what an instruction does whose outcome this is, where it is none of CSRs or MRET
+abbrev pub reached_made : RamRange → ℕ → Option ℕ → Outcome → ℕ → Arch → Reach → Arch
+reached_made range limit destination o time a reach.Nothing = finished destination o.value o.next a
+reached_made range limit destination o time a (reach.Load addr width signed) = load_made range destination o.next addr width signed time a
+reached_made range limit destination o time a (reach.Store addr width value) = store_made range limit o.next addr width value a
+
+abbrev pub caused_made : RamRange → ℕ → Option ℕ → Outcome → ℕ → Arch → Option (Cause × ℕ) → Arch
+caused_made range limit destination o time a None = reached_made range limit destination o time a o.reach
+caused_made range limit destination o time a (Some why) = trapped (cause_number why.0) why.1 a.pc a
+
+abbrev pub outcome_made : RamRange → ℕ → Option ℕ → Outcome → ℕ → Arch → Arch
+outcome_made range limit destination o time a = caused_made range limit destination o time a o.cause
+
+abbrev pub reached_stepped : RamRange → ℕ → Arch → Reach → Stepped
+reached_stepped range limit a reach.Nothing = On
+reached_stepped range limit a (reach.Load addr width signed) = On
+reached_stepped range limit a (reach.Store addr width value) = store_stepped range limit addr width value a
+
+abbrev pub caused_stepped : RamRange → ℕ → Outcome → Arch → Option (Cause × ℕ) → Stepped
+caused_stepped range limit o a None = reached_stepped range limit a o.reach
+caused_stepped range limit o a (Some why) = On
+
+abbrev pub outcome_stepped : RamRange → ℕ → Outcome → Arch → Stepped
+outcome_stepped range limit o a = caused_stepped range limit o a o.cause
+
+-- an access without a cause is aligned
+abbrev pub IsAlignedReach : Reach → Type 0
+IsAlignedReach reach.Nothing = Unit {0}
+IsAlignedReach (reach.Load addr width signed) = addr % width_bytes width ≡ 0
+IsAlignedReach (reach.Store addr width value) = addr % width_bytes width ≡ 0
+
+abbrev pub AlignedBy : Option (Cause × ℕ) → Reach → Type 0
+AlignedBy None what = IsAlignedReach what
+AlignedBy (Some why) what = Unit {0}
+
+-- a CSR instruction, by what it reads and writes
+abbrev pub csr_made : ℕ → Insn → Option (ℕ × CsrWrite) → Arch → Arch
+csr_made word insn None a = trapped 2 word a.pc a
+csr_made word insn (Some made) a =
+    record a {
+      pc = wrap_sum a.pc 4;
+      regs = with_register (dest_of insn) made.0 a.regs;
+      csrs = counted (csr_written made.1 a.csrs);
+    }
+
+-- MRET
+abbrev pub mret_made : Arch → Arch
+mret_made a = record a { pc = return_address a.csrs; csrs = counted (trap_left a.csrs) }
+
+-- what stands at the next address comes to this, at a time
+abbrev pub result_of : RamRange → Found → ℕ → Arch → Result
+result_of range found time a =
+    executed range found a.pc (register_value a.regs (first_source found)) (register_value a.regs (second_source found)) (seen_in (Some time) a)
+
+-- the state behind it, unless the output has no room for its byte
+abbrev pub behind : ℕ → Found → Result → ℕ → Arch → Arch
+behind limit found r time a = if is_full limit a.output (note_of r a) then a else effect found r (Some time) a.pc a

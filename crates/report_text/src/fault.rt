@@ -1,0 +1,176 @@
+ghost use Rattle.std.specs.Prelude.{◌≡◌, ◌+◌, ◌≤◌, ◌++◌, length, codes, decimal};
+ghost use Rattle.std.specs.Fmt.{signed_decimal};
+ghost use Rattle.fsim_ports.specs.Sink.{Puts};
+ghost use Rattle.mono_model.specs.Report.{line, line_feed};
+ghost use Rattle.report_text.specs.FaultText.{role_text, image_fault_text, machine_fault_text, fault_text};
+
+use crate::line::Line;
+use crate::put::{WriteFault, put_piece, put_two};
+use crate::report_lines::count_line;
+use crate::status::{Role, Status};
+use elf_image::ImageFault;
+use fsim_ports::Sink;
+use machine_file::MachineFault;
+
+/// A line's beginning and a file's role.
+fn role_head(head: &[u8], role: Role) -> Line
+    requires { length head.now ≤ 40 }
+    ensures text { result ≡ head.now ++ role_text role }
+    ensures len { length result ≤ length head.now + 7 }
+{
+    let mut line = Line::new();
+    line.bytes(head);
+    match role {
+        Role::Image => line.bytes(b"image"),
+        Role::Machine => line.bytes(b"machine"),
+        Role::Plan => line.bytes(b"plan"),
+        Role::Input => line.bytes(b"input"),
+    }
+    line
+}
+
+fn role_line(head: &[u8], role: Role) -> Line
+    requires { length head.now ≤ 40 }
+    ensures text { result ≡ line head.now (role_text role) }
+{
+    let mut line = role_head(head, role);
+    line.byte(b'\n');
+    line
+}
+
+fn too_long_line(role: Role, limit: u64) -> Line
+    ensures text { result ≡ codes "fast: too long: " ++ role_text role ++ codes " " ++ decimal limit ++ line_feed }
+{
+    let mut line = role_head(b"fast: too long: ", role);
+    line.byte(b' ');
+    line.number(limit);
+    line.byte(b'\n');
+    line
+}
+
+/// What is wrong with an image, behind the beginning of its line.
+fn image_head(fault: ImageFault) -> Line
+    ensures text { result ≡ codes "fast: image: " ++ image_fault_text fault }
+    ensures len { length result ≤ 100 }
+{
+    let mut line = Line::new();
+    line.bytes(b"fast: image: ");
+    match fault {
+        ImageFault::Short => line.bytes(b"short"),
+        ImageFault::Magic => line.bytes(b"magic"),
+        ImageFault::Class => line.bytes(b"class"),
+        ImageFault::Endian => line.bytes(b"endian"),
+        ImageFault::FileType => line.bytes(b"file type"),
+        ImageFault::Machine => line.bytes(b"machine"),
+        ImageFault::EntrySize => line.bytes(b"entry size"),
+        ImageFault::Count(count) => numbered(&mut line, b"count ", count),
+        ImageFault::TableOutside => line.bytes(b"table outside"),
+        ImageFault::FileOutside(index) => numbered(&mut line, b"file outside ", index),
+        ImageFault::Larger(index) => numbered(&mut line, b"larger ", index),
+        ImageFault::OutsideRam(index) => numbered(&mut line, b"outside ram ", index),
+        ImageFault::Overlap(index, earlier) => {
+            numbered(&mut line, b"overlap ", index);
+            numbered(&mut line, b" ", earlier);
+        }
+        ImageFault::Memory => {}
+    }
+    line
+}
+
+/// Appends words and a number.
+fn numbered(line: &mut Line, words: &[u8], number: u32)
+    requires words { length words.now ≤ 20 }
+    requires room { length line.old ≤ 60 }
+    ensures text { line.new ≡ line.old ++ words.now ++ decimal number }
+    ensures len { length line.new ≤ length line.old + length words.now + 20 }
+{
+    line.bytes(words);
+    line.number(u64::from(number));
+}
+
+fn image_line(fault: ImageFault) -> Line
+    ensures text { result ≡ line (codes "fast: image: ") (image_fault_text fault) }
+{
+    let mut line = image_head(fault);
+    line.byte(b'\n');
+    line
+}
+
+/// What stands behind a key: a blank, its value and the line's end.
+fn value_tail(value: i64) -> Line
+    ensures text { result ≡ codes " " ++ signed_decimal value ++ line_feed }
+{
+    let mut line = Line::new();
+    line.byte(b' ');
+    line.signed(value);
+    line.byte(b'\n');
+    line
+}
+
+/// Writes a beginning, a key and what stands behind it.
+fn put_key<K: Sink>(head: &[u8], key: &[u8], tail: &[u8], sink: &mut K) -> Result<(), WriteFault>
+    ensures count { K.faults sink.old ≤ K.faults sink.new }
+    ensures written { Puts (head.now ++ key.now ++ tail.now) (K.faults sink.old) (K.faults sink.new) (K.written sink.old) (K.written sink.new) result }
+{
+    match put_two(head, key, sink) {
+        Ok(()) => put_piece(tail, sink),
+        Err(fault) => Err(fault),
+    }
+}
+
+/// Writes a beginning, a key and its value. The key may have any length.
+fn put_value<K: Sink>(head: &[u8], key: &[u8], value: &i64, sink: &mut K) -> Result<(), WriteFault>
+    ensures count { K.faults sink.old ≤ K.faults sink.new }
+    ensures written { Puts (head.now ++ key.now ++ codes " " ++ signed_decimal value.now ++ line_feed) (K.faults sink.old) (K.faults sink.new) (K.written sink.old) (K.written sink.new) result }
+{
+    let tail = value_tail(*value);
+    put_key(head, key, tail.as_slice(), sink)
+}
+
+/// Writes what is wrong with a machine file. Its keys may have any length, so it is put in pieces.
+fn machine_line<K: Sink>(fault: &MachineFault, sink: &mut K) -> Result<(), WriteFault>
+    ensures count { K.faults sink.old ≤ K.faults sink.new }
+    ensures written { Puts (line (codes "fast: machine: ") (machine_fault_text fault.now)) (K.faults sink.old) (K.faults sink.new) (K.written sink.old) (K.written sink.new) result }
+{
+    match fault {
+        MachineFault::NotToml => put_piece(b"fast: machine: not toml\n", sink),
+        MachineFault::Unknown(key) => {
+            put_key(b"fast: machine: unknown ", key.as_slice(), b"\n", sink)
+        }
+        MachineFault::Kind(key) => put_key(b"fast: machine: kind ", key.as_slice(), b"\n", sink),
+        MachineFault::Range(key, value) => {
+            put_value(b"fast: machine: range ", key.as_slice(), value, sink)
+        }
+        MachineFault::Power(key, value) => {
+            put_value(b"fast: machine: power ", key.as_slice(), value, sink)
+        }
+        MachineFault::Memory => put_piece(b"fast: machine: \n", sink),
+    }
+}
+
+/// Writes the line of an answer: nothing for the answers that a report goes with, and for that of the sink's fault.
+///
+/// Ok says that the whole line was written. A fault comes only where the sink's count of faults rose, and then a proper
+/// prefix of the line was written. It takes no memory.
+#[tactic(auto, unfolding(crate::specs::FaultText::fault_text))]
+pub fn fault_line<K: Sink>(status: &Status, sink: &mut K) -> Result<(), WriteFault>
+    ensures count { K.faults sink.old ≤ K.faults sink.new }
+    ensures written { Puts (fault_text status.now) (K.faults sink.old) (K.faults sink.new) (K.written sink.old) (K.written sink.new) result }
+{
+    match status {
+        Status::Usage => put_piece(b"fast: usage: fast func IMAGE\n", sink),
+        Status::Image(fault) => put_piece(image_line(*fault).as_slice(), sink),
+        Status::Machine(fault) => machine_line(fault, sink),
+        Status::Missing(role) => put_piece(role_line(b"fast: missing: ", *role).as_slice(), sink),
+        Status::ReadFault(role) => {
+            put_piece(role_line(b"fast: read fault: ", *role).as_slice(), sink)
+        }
+        Status::Memory => put_piece(b"fast: no memory\n", sink),
+        Status::TooLong(role, limit) => put_piece(too_long_line(*role, *limit).as_slice(), sink),
+        Status::BadPlan(place) => put_piece(
+            count_line(b"fast: bad plan: ", *place).as_slice(),
+            sink,
+        ),
+        _ => put_piece(b"", sink),
+    }
+}

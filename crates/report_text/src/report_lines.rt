@@ -1,0 +1,135 @@
+ghost use Rattle.std.specs.Prelude.{◌≡◌, ◌+◌, ◌≤◌, ◌<◌, length, codes, decimal, ◌++◌, slice_index};
+ghost use Rattle.mono_model.specs.Report.{line, count_line, status_text, register_text, register_line, hex};
+ghost use Rattle.machine_csr.specs.Csr.{flag};
+ghost use Rattle.report_text.specs.Lines.{output_line, pc_line, interrupt_csrs_line, trap_csrs_line};
+
+use crate::line::Line;
+use machine_csr::Csrs;
+use mono_model::{End, Final};
+
+/// `status: pass`, and so on.
+pub fn status_line(end: End) -> Line
+    ensures text { result ≡ line (codes "status: ") (status_text end) }
+{
+    let mut line = Line::new();
+    line.bytes(b"status: ");
+    match end {
+        End::Pass => line.bytes(b"pass"),
+        End::Fail(code) => {
+            line.bytes(b"fail ");
+            line.number(u64::from(code));
+        }
+        End::Limit => line.bytes(b"limit"),
+        End::OutputFull => line.bytes(b"output full"),
+        End::Running => line.bytes(b"running"),
+    }
+    line.byte(b'\n');
+    line
+}
+
+/// A name and a number.
+pub fn count_line(name: &[u8], number: u64) -> Line
+    requires { length name.now ≤ 40 }
+    ensures text { result ≡ count_line name.now number }
+{
+    let mut line = Line::new();
+    line.bytes(name);
+    line.number(number);
+    line.byte(b'\n');
+    line
+}
+
+/// How many bytes of output there are.
+pub fn output_line(bytes: u64) -> Line
+    ensures text { result ≡ output_line bytes }
+{
+    let mut line = Line::new();
+    line.bytes(b"output: ");
+    line.number(bytes);
+    line.bytes(b" bytes\n");
+    line
+}
+
+/// The address of the next instruction to commit.
+pub fn pc_line(pc: u32) -> Line
+    ensures text { result ≡ pc_line pc }
+{
+    let mut line = Line::new();
+    line.bytes(b"pc: ");
+    line.hex(8, u64::from(pc));
+    line.byte(b'\n');
+    line
+}
+
+/// Appends a register's number and value.
+fn register(line: &mut Line, regs: &[u32; 32], number: usize)
+    requires register { number < 32 }
+    requires room { length line.old + 30 ≤ 160 }
+    ensures text { line.new ≡ line.old ++ register_text regs.now number }
+    ensures len { length line.new ≤ length line.old + 30 }
+{
+    line.byte(b'x');
+    line.number(number as u64);
+    line.byte(b'=');
+    line.hex(8, u64::from(regs[number]));
+}
+
+/// Four registers, from this one on.
+pub fn register_line(regs: &[u32; 32], first: usize) -> Line
+    requires { first + 3 < 32 }
+    ensures text { result ≡ register_line regs.now first }
+{
+    let mut line = Line::new();
+    register(&mut line, regs, first);
+    line.byte(b' ');
+    register(&mut line, regs, first + 1);
+    line.byte(b' ');
+    register(&mut line, regs, first + 2);
+    line.byte(b' ');
+    register(&mut line, regs, first + 3);
+    line.byte(b'\n');
+    line
+}
+
+/// The CSRs that say whether and where interrupts go, as CSRRS would read them.
+pub fn interrupt_csrs_line(csrs: &Csrs) -> Line
+    ensures text { result ≡ interrupt_csrs_line csrs.now }
+{
+    let mut line = Line::new();
+    line.bytes(b"mstatus=");
+    line.hex(8, mstatus(csrs));
+    line.bytes(b" mie=");
+    line.hex(8, if csrs.mtie { 0x80 } else { 0 });
+    line.bytes(b" mtvec=");
+    line.hex(8, u64::from(csrs.mtvec));
+    line.bytes(b" mscratch=");
+    line.hex(8, u64::from(csrs.mscratch));
+    line.byte(b'\n');
+    line
+}
+
+/// The CSRs of the last trap, and mtimecmp.
+pub fn trap_csrs_line(csrs: &Csrs, cmp: u64) -> Line
+    ensures text { result ≡ trap_csrs_line csrs.now cmp }
+{
+    let mut line = Line::new();
+    line.bytes(b"mepc=");
+    line.hex(8, u64::from(csrs.mepc));
+    line.bytes(b" mcause=");
+    line.hex(8, u64::from(csrs.mcause));
+    line.bytes(b" mtval=");
+    line.hex(8, u64::from(csrs.mtval));
+    line.bytes(b" mtimecmp=");
+    line.hex(16, cmp);
+    line.byte(b'\n');
+    line
+}
+
+/// mstatus: MPP is always machine mode.
+fn mstatus(csrs: &Csrs) -> u64
+    ensures value { result ≡ 0x1800 + flag 7 csrs.now.mpie + flag 3 csrs.now.mie }
+{
+    let enabled_before = if csrs.mpie { 0x80 } else { 0 };
+    let enabled = if csrs.mie { 8 } else { 0 };
+    0x1800 + enabled_before + enabled
+}

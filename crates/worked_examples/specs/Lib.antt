@@ -1,0 +1,9 @@
+pub mod Setups
+pub mod Machines
+pub mod Pipeline
+pub mod Memory
+pub mod Traps
+pub mod Time
+pub mod Devices
+pub mod Fences
+pub mod Plan
