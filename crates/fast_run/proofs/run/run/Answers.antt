@@ -1,4 +1,4 @@
-use Rattle.std.proofs.Common.{◌≡◌, ◌≤◌, refl, sym, ◌∙◌, arith}
+use Rattle.std.proofs.Common.{refl, ◌∙◌, arith}
 use Rattle.fast_run.specs.Run.{whole_run}
 use Rattle.fast_run.proofs.Setups.{is_setup-steps}
 use Rattle.fast_run.proofs.run.run.Goals as goal
@@ -16,6 +16,6 @@ returns g c =
     let opened = c.in-Ok.ensures.opened in
     record {
       outcome = c.finish.ensures.outcome setup (omega (arith, (is_setup-steps setup c.requires.sound).0))
-        (c.output.ensures.output ∙ c.alone-last.ensures.output setup refl opened)
-        (c.alone-last.ensures.reported setup refl opened);
+          (c.output.ensures.output ∙ c.alone-last.ensures.output setup refl opened)
+          (c.alone-last.ensures.reported setup refl opened);
     }
