@@ -1,0 +1,10 @@
+pub mod PageBytes
+pub mod Page
+pub mod Fetch
+pub mod Ram
+pub mod Segment
+pub use Rattle.fsim_base.specs.Memory
+pub use Rattle.fsim_base.specs.Range
+pub use Rattle.fsim_base.specs.Width
+pub use Rattle.elf_image.specs.Load
+pub use Rattle.elf_image.specs.Sound
