@@ -1,0 +1,11 @@
+pub mod Digits
+pub mod Commands
+pub mod Parses
+pub mod Names
+pub mod Rows
+pub mod OnWords
+pub mod Looks
+pub mod Uses
+pub mod Walks
+pub mod Readings
+pub mod Forms

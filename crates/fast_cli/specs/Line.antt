@@ -1,0 +1,163 @@
+-- The line of the words, or none: a command, and behind it names and options.
+use Rattle.std.specs.Prelude.{List, [], ◌∷◌, Option, Some, None, codes, find}
+use Rattle.std.specs.Str.{bytes_eq}
+use Rattle.fast_cli.specs.Words.{◌>>=◌, Form, Text, Values, values_in}
+use Rattle.fast_cli.specs.Values.{given_number_at, name_at, names_at, number_at, options_at}
+use Rattle.fast_cli.specs.declared.line.Line.{Line}
+use Rattle.fast_cli.specs.declared.line.Line.TheVariants.{Back, Func, Inorder, Run, Sched, Soak, Sweep}
+
+-- a command: what its words are, and the line that they make
+pub record Command : Type 0 where
+  pub form : Form
+  pub read : Values → Option Line
+
+abbrev pub line_by : Command → List Text → Option Line
+line_by command words = do
+  values ← values_in command.form words
+  command.read values
+
+-- the options of each command that runs an image
+abbrev pub limits : List Text
+limits = codes "cycles" ∷ codes "input" ∷ codes "output" ∷ []
+
+-- `func IMAGE`
+abbrev pub func_form : Form
+func_form = record {
+  word = codes "func";
+  names = codes "IMAGE" ∷ [];
+  rest = None;
+  options = limits;
+}
+
+unfoldable pub func_at : Values → Option Line
+func_at values = do
+  image ← name_at (codes "IMAGE") values
+  options ← options_at values
+  Some (Func image options)
+
+abbrev pub func_command : Command
+func_command = record { form = func_form; read = func_at }
+
+-- `run IMAGE MACHINE`
+abbrev pub run_form : Form
+run_form = record {
+  word = codes "run";
+  names = codes "IMAGE" ∷ codes "MACHINE" ∷ [];
+  rest = None;
+  options = codes "ring" ∷ limits;
+}
+
+unfoldable pub run_at : Values → Option Line
+run_at values = do
+  image ← name_at (codes "IMAGE") values
+  machine ← name_at (codes "MACHINE") values
+  options ← options_at values
+  Some (Run image machine options)
+
+abbrev pub run_command : Command
+run_command = record { form = run_form; read = run_at }
+
+-- a command that plays a plan on a machine
+abbrev pub plan_form : Text → Form
+plan_form word = record {
+  word = word;
+  names = codes "IMAGE" ∷ codes "MACHINE" ∷ codes "PLAN" ∷ [];
+  rest = None;
+  options = codes "ring" ∷ limits;
+}
+
+-- `sched IMAGE MACHINE PLAN`
+abbrev pub sched_form : Form
+sched_form = plan_form (codes "sched")
+
+unfoldable pub sched_at : Values → Option Line
+sched_at values = do
+  image ← name_at (codes "IMAGE") values
+  machine ← name_at (codes "MACHINE") values
+  plan ← name_at (codes "PLAN") values
+  options ← options_at values
+  Some (Sched image machine plan options)
+
+abbrev pub sched_command : Command
+sched_command = record { form = sched_form; read = sched_at }
+
+-- `soak SEED`, which has no option
+abbrev pub soak_form : Form
+soak_form = record {
+  word = codes "soak";
+  names = codes "SEED" ∷ [];
+  rest = None;
+  options = [];
+}
+
+unfoldable pub soak_at : Values → Option Line
+soak_at values = do
+  seed ← given_number_at (codes "SEED") 0 18446744073709551615 values
+  Some (Soak seed)
+
+abbrev pub soak_command : Command
+soak_command = record { form = soak_form; read = soak_at }
+
+-- `back IMAGE SCRIPT`
+abbrev pub back_form : Form
+back_form = record {
+  word = codes "back";
+  names = codes "IMAGE" ∷ codes "SCRIPT" ∷ [];
+  rest = None;
+  options = codes "history" ∷ limits;
+}
+
+unfoldable pub back_at : Values → Option Line
+back_at values = do
+  image ← name_at (codes "IMAGE") values
+  script ← name_at (codes "SCRIPT") values
+  history ← number_at (codes "history") 1 1048576 65536 values
+  options ← options_at values
+  Some (Back image script history options)
+
+abbrev pub back_command : Command
+back_command = record { form = back_form; read = back_at }
+
+-- `inorder IMAGE MACHINE PLAN`
+abbrev pub inorder_form : Form
+inorder_form = plan_form (codes "inorder")
+
+unfoldable pub inorder_at : Values → Option Line
+inorder_at values = do
+  image ← name_at (codes "IMAGE") values
+  machine ← name_at (codes "MACHINE") values
+  plan ← name_at (codes "PLAN") values
+  options ← options_at values
+  Some (Inorder image machine plan options)
+
+abbrev pub inorder_command : Command
+inorder_command = record { form = inorder_form; read = inorder_at }
+
+-- `sweep IMAGE MACHINES`, with one machine or more
+abbrev pub sweep_form : Form
+sweep_form = record {
+  word = codes "sweep";
+  names = codes "IMAGE" ∷ [];
+  rest = Some (codes "MACHINES");
+  options = codes "ring" ∷ limits;
+}
+
+unfoldable pub sweep_at : Values → Option Line
+sweep_at values = do
+  image ← name_at (codes "IMAGE") values
+  machines ← names_at (codes "MACHINES") values
+  options ← options_at values
+  Some (Sweep image machines options)
+
+abbrev pub sweep_command : Command
+sweep_command = record { form = sweep_form; read = sweep_at }
+
+abbrev pub commands : List Command
+commands = func_command ∷ run_command ∷ sched_command ∷ soak_command ∷ back_command ∷ inorder_command ∷ sweep_command ∷ []
+
+-- the line of the words, or none; the first of them is the command's
+unfoldable pub line : List Text → Option Line
+line [] = None
+line (word ∷ words) = do
+  command ← find (λ command. bytes_eq word command.form.word) commands
+  line_by command words

@@ -1,0 +1,22 @@
+-- The ranges in which the numbers of each line are.
+use Rattle.std.specs.Prelude.{ℕ, ◌≤◌, length}
+use Rattle.fast_cli.specs.declared.line.Line.{Line}
+use Rattle.fast_cli.specs.declared.line.Line.TheVariants.{Back, Func, Inorder, Run, Sched, Soak, Sweep}
+use Rattle.fast_cli.specs.declared.line.Options.{Options}
+
+abbrev pub IsFrom : ℕ → ℕ → ℕ → Type 0
+IsFrom least most n = (least ≤ n) × (n ≤ most)
+
+pub record HasRanges (options : Options) : Type 0 where
+  pub ring : IsFrom 1 65536 options.ring
+  pub cycles : IsFrom 1 1099511627776 options.cycles
+  pub output : options.output ≤ 16777216
+
+abbrev pub IsInRange : Line → Type 0
+IsInRange (Func image options) = HasRanges options
+IsInRange (Run image machine options) = HasRanges options
+IsInRange (Sched image machine plan options) = HasRanges options
+IsInRange (Soak seed) = seed ≤ 18446744073709551615
+IsInRange (Back image script history options) = IsFrom 1 1048576 history × HasRanges options
+IsInRange (Inorder image machine plan options) = HasRanges options
+IsInRange (Sweep image machines options) = IsFrom 1 64 (length machines) × HasRanges options

@@ -1,0 +1,59 @@
+-- What a line takes from the values that its words give: names, numbers in their ranges, and defaults.
+use Rattle.std.specs.Prelude.{ℕ, Bool, List, Option, Some, None, ◌&&◌, ◌==◌, codes, if◌then◌else◌, length, not}
+use Rattle.std.specs.Prelude.{option_map, slice_get}
+use Rattle.std.specs.List.{list_all}
+use Rattle.fast_cli.specs.Number.{is_between, number_in}
+use Rattle.fast_cli.specs.Words.{◌>>=◌, Text, Values}
+use Rattle.fast_cli.specs.declared.line.Options.{Options}
+
+-- the value that stands first under a name or an option
+abbrev pub first_at : Text → Values → Option Text
+first_at id values = values id >>= (λ texts. slice_get texts 0)
+
+-- a name has at least one byte
+abbrev pub is_name : Text → Bool
+is_name text = not (length text == 0)
+
+abbrev pub name_in : Text → Option Text
+name_in text = if is_name text then Some text else None
+
+-- from 1 to 64 names
+unfoldable pub names_in : List Text → Option (List Text)
+names_in texts = if is_between 1 64 (length texts) && list_all is_name texts then Some texts else None
+
+-- the name that must be there
+unfoldable pub name_at : Text → Values → Option Text
+name_at id values = first_at id values >>= name_in
+
+-- the names that must be there
+unfoldable pub names_at : Text → Values → Option (List Text)
+names_at id values = values id >>= names_in
+
+-- the number that must be there, from `least` to `most`
+unfoldable pub given_number_at : Text → ℕ → ℕ → Values → Option ℕ
+given_number_at id least most values = first_at id values >>= number_in least most
+
+abbrev pub number_or : ℕ → ℕ → ℕ → Option Text → Option ℕ
+number_or least most default None = Some default
+number_or least most default (Some text) = number_in least most text
+
+-- the number of the option `id`, from `least` to `most`, or its default where the words leave it out
+unfoldable pub number_at : Text → ℕ → ℕ → ℕ → Values → Option ℕ
+number_at id least most default values = number_or least most default (first_at id values)
+
+abbrev pub name_or_none : Option Text → Option (Option Text)
+name_or_none None = Some None
+name_or_none (Some text) = option_map (λ name. Some name) (name_in text)
+
+-- the name of the console's input, if there is one
+unfoldable pub input_at : Values → Option (Option Text)
+input_at values = name_or_none (first_at (codes "input") values)
+
+-- the options with their ranges and defaults; one that the command doesn't know has its default
+unfoldable pub options_at : Values → Option Options
+options_at values = do
+  ring ← number_at (codes "ring") 1 65536 64 values
+  cycles ← number_at (codes "cycles") 1 1099511627776 10000000 values
+  output ← number_at (codes "output") 0 16777216 16777216 values
+  input ← input_at values
+  Some (record { ring = ring; cycles = cycles; output = output; input = input })

@@ -1,0 +1,116 @@
+//! The commands as `clap` builds and parses them.
+ghost use Rattle.std.specs.Prelude.{◌≡◌, IfOk, [], map, true, Some, None, Err};
+ghost use Rattle.clap.specs.Words.{app_of, is_simple_and_free, with_rule};
+ghost use Rattle.fast_cli.specs.Words.{AreText, values_in};
+ghost use Rattle.fast_cli.specs.Command.{ReadsAs, command_by, command_of, name_rule, names_rule, option_rule, parsed};
+ghost use Rattle.fast_cli.specs.Command.{values_of, with_rest};
+ghost use Rattle.fast_cli.specs.Form.{form_of};
+
+use crate::form::Form;
+use crate::line::UsageFault;
+use clap::error::ErrorKind;
+use clap::{Arg, ArgAction, ArgMatches, Command};
+use std::alloc::{AllocError, Global};
+
+// A command with no names and options yet.
+fn bare_command<'a>(alloc: Global, word: &'a str) -> Command<'a>
+    ensures { app_of result ≡ command_of word.entry.now [] [] }
+{
+    Command::new(alloc, word)
+        .no_binary_name(true)
+        .disable_help_flag(true)
+        .disable_version_flag(true)
+}
+
+fn with_name<'a>(
+    alloc: Global,
+    command: Command<'a>,
+    name: &'a str,
+) -> Result<Command<'a>, AllocError>
+    ensures { IfOk result (λ c. app_of c ≡ with_rule (app_of command.entry) (name_rule name.entry.now)) }
+{
+    let arg = Arg::new(alloc, name).required(true);
+    command.arg(arg)
+}
+
+fn with_option<'a>(
+    alloc: Global,
+    command: Command<'a>,
+    name: &'a str,
+) -> Result<Command<'a>, AllocError>
+    ensures { IfOk result (λ c. app_of c ≡ with_rule (app_of command.entry) (option_rule name.entry.now)) }
+{
+    let arg = Arg::new(alloc, name).long(name);
+    command.arg(arg)
+}
+
+fn with_names<'a>(
+    alloc: Global,
+    command: Command<'a>,
+    name: &'a str,
+) -> Result<Command<'a>, AllocError>
+    ensures { IfOk result (λ c. app_of c ≡ with_rule (app_of command.entry) (names_rule name.entry.now)) }
+{
+    let arg = Arg::new(alloc, name)
+        .required(true)
+        .action(ArgAction::Append);
+    command.arg(arg)
+}
+
+// The command with its names but for the rest, and with its options.
+fn with_places<'a>(alloc: Global, form: &Form<'a>) -> Result<Command<'a>, AllocError>
+    ensures { IfOk result (λ c. app_of c
+        ≡ command_of (form_of form.now).word (form_of form.now).names (form_of form.now).options) }
+{
+    let mut command = bare_command(alloc, form.word);
+    for name in form.names {
+        command = with_name(alloc, command, name)?;
+    }
+    for option in form.options {
+        command = with_option(alloc, command, option)?;
+    }
+    Ok(command)
+}
+
+fn make_command<'a>(alloc: Global, form: &Form<'a>) -> Result<Command<'a>, AllocError>
+    ensures { IfOk result (λ c. app_of c ≡ command_by (form_of form.now)) }
+{
+    let command = with_places(alloc, form)?;
+    match form.rest {
+        Some(name) => with_names(alloc, command, name),
+        None => Ok(command),
+    }
+}
+
+fn parse<'a>(command: Command<'a>, words: &'a [&'a str]) -> Result<ArgMatches<'a>, UsageFault>
+    requires { is_simple_and_free (app_of command) ≡ true }
+    ensures ok { IfOk result (λ m. parsed (app_of command.entry) (map (λ w. w.now) words.entry.now) ≡ Some (values_of m)) }
+    ensures words { result ≡ Err UsageFault.Words
+        → parsed (app_of command.entry) (map (λ w. w.now) words.entry.now) ≡ None }
+{
+    match command.try_get_matches_from(words) {
+        Ok(matches) => Ok(matches),
+        Err(error) => match error.kind() {
+            ErrorKind::OutOfMemory => Err(UsageFault::Memory),
+            _ => Err(UsageFault::Words),
+        },
+    }
+}
+
+/// Parses the words behind a command's word.
+pub(crate) fn parse_form<'a>(
+    alloc: Global,
+    form: &Form<'a>,
+    words: &'a [&'a str],
+) -> Result<ArgMatches<'a>, UsageFault>
+    requires reads { ReadsAs (form_of form.now) }
+    requires text { AreText (map (λ w. w.now) words.now) }
+    ensures ok { IfOk result (λ m. values_in (form_of form.now) (map (λ w. w.now) words.entry.now) ≡ Some (values_of m)) }
+    ensures words { result ≡ Err UsageFault.Words
+        → values_in (form_of form.now) (map (λ w. w.now) words.entry.now) ≡ None }
+{
+    match make_command(alloc, form) {
+        Ok(command) => parse(command, words),
+        Err(_) => Err(UsageFault::Memory),
+    }
+}

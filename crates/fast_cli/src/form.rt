@@ -1,0 +1,12 @@
+/// What a command takes.
+#[derive(Clone, Copy)]
+pub(crate) struct Form<'a> {
+    /// The command's word.
+    pub word: &'a str,
+    /// Its names, in their order.
+    pub names: &'a [&'a str],
+    /// A name for all names behind those, of which one must be there.
+    pub rest: Option<&'a str>,
+    /// Its options, each with a value.
+    pub options: &'a [&'a str],
+}

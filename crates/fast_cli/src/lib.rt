@@ -1,0 +1,18 @@
+//! The command lines of the program: which words make a line, and the line that they make.
+#![tactic(auto)]
+
+mod command;
+mod examples;
+mod form;
+mod line;
+mod lines;
+mod number;
+mod read;
+#[cfg(test)]
+mod tests;
+mod texts;
+mod values;
+
+pub use line::{Line, Options, UsageFault};
+pub use read::read_words;
+pub use texts::Texts;

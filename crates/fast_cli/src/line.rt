@@ -1,0 +1,74 @@
+use crate::texts::Texts;
+use fsim_base::Text;
+use thiserror::Error;
+
+/// What a command line asks for: its command, with the names of files and the options that it gives.
+#[derive(Debug, Drop)]
+pub enum Line {
+    /// Executes the image sequentially.
+    Func {
+        image: Text,
+        options: Options,
+    },
+    /// Runs the image on the machine, with two threads.
+    Run {
+        image: Text,
+        machine: Text,
+        options: Options,
+    },
+    /// Plays a plan of the core's events on one thread, and goes on to the next cycle boundary.
+    Sched {
+        image: Text,
+        machine: Text,
+        plan: Text,
+        options: Options,
+    },
+    /// Runs the image that the seed makes.
+    Soak {
+        seed: u64,
+    },
+    /// Plays a debugger's script; at most `history` steps can be taken back, from 1 to 1,048,576.
+    Back {
+        image: Text,
+        script: Text,
+        history: u32,
+        options: Options,
+    },
+    /// Plays a plan on the in-order machine, and goes on to its end.
+    Inorder {
+        image: Text,
+        machine: Text,
+        plan: Text,
+        options: Options,
+    },
+    /// Runs the image on each of 1 to 64 machines.
+    Sweep {
+        image: Text,
+        machines: Texts,
+        options: Options,
+    },
+}
+
+/// The options of a line, each with its default where the words leave it out.
+#[derive(Debug, Drop)]
+pub struct Options {
+    /// How many entries the trace ring holds, from 1 to 65,536.
+    pub ring: u32,
+    /// The limit of cycles, or of steps where no machine is timed, from 1 to 1,099,511,627,776.
+    pub cycles: u64,
+    /// How many bytes the console may put out, at most 16,777,216.
+    pub output: u32,
+    /// The name of the file that the console reads.
+    pub input: Option<Text>,
+}
+
+/// Why words gave no line.
+#[derive(Clone, Copy, Debug, PartialEq, Eq, Error)]
+pub enum UsageFault {
+    /// They make none.
+    #[error("the words are no command line")]
+    Words,
+    /// No memory was left to read them.
+    #[error("no memory is left")]
+    Memory,
+}
