@@ -9,7 +9,7 @@ pub struct Past {
     pub number: u64,
     /// The instruction's address.
     pub addr: u32,
-    /// The register that it wrote, with its value before; None where it wrote none.
+    /// The register that it writes, if it has one, with its value before, also where it traps.
     pub reg: Option<(u8, u32)>,
     /// The address and width of the bytes of RAM that it stored, with their value before; None without such a store.
     pub mem: Option<(u32, Width, u32)>,
