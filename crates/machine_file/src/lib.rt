@@ -2,5 +2,19 @@
 #![tactic(auto)]
 
 mod fault;
+mod faults;
+mod given;
+mod held;
+mod held_value;
+mod names;
+mod numbers;
+mod params;
+mod range;
+mod reader;
+mod rows;
+mod table;
+#[cfg(test)]
+mod tests;
 
 pub use fault::MachineFault;
+pub use reader::read;

@@ -1,0 +1,4 @@
+pub mod Base
+pub mod Steps
+pub mod Documents
+pub mod Ranged

@@ -1,0 +1,9 @@
+use Rattle.std.proofs.Common.{◌≡◌, map, drop}
+use Rattle.std.specs.List.{list_any}
+use Rattle.machine_file.specs.File.{has_top}
+use Rattle.machine_file.specs.Code.{row_of}
+use Rattle.machine_file.proofs.names.is_top.Given as goal
+
+-- one of the rows that are left has the name exactly where one of all has
+abbrev pub invariant-loop-row : goal.invariant-loop-row
+invariant-loop-row l = list_any (has_top l.top) (map row_of (drop l.row-index l.rows)) ≡ list_any (has_top l.top) (map row_of l.rows)
