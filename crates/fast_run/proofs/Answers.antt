@@ -9,8 +9,9 @@ use Rattle.mono_model.specs.declared.final_state.Final.{Final}
 use Rattle.mono_model.specs.Alone.{Alone, alone_final}
 use Rattle.mono_model.specs.Report.{closed_output, func_report_text}
 use Rattle.report_text.specs.declared.status.Status.{Status}
-use Rattle.report_text.specs.declared.status.Status.TheVariants.{Pass, Fail, Limit, OutputFull, Running, Usage, Image, Machine, Missing, ReadFault, WriteFault, Memory, TooLong, BadPlan}
+use Rattle.report_text.specs.declared.status.Status.TheVariants.{Pass, Fail, Limit, OutputFull, Running, Shown, Usage, Image, Machine, Missing, ReadFault, WriteFault, Memory, TooLong, BadPlan, Later, BadScript, Sets}
 use Rattle.report_text.specs.FaultText.{fault_text}
+use Rattle.fast_cli.specs.declared.line.Line.{Line}
 use Rattle.fast_run.specs.Run.{whole_run, run_text, status_for}
 use Rattle.fast_run.proofs.Ends.{whole_run-ended}
 use Rattle.fast_run.specs.Answer.{Opens, IsCause, IsOutcome, IsAnswer}
@@ -38,36 +39,43 @@ outcome-written setup output last before after old new some same_output same_las
     reported setup last.end before after old new some ended (written ∙ ap (grown old) (run_text-of setup output last same_output same_last))
 
 -- a run gives one of the answers that a run has
-pub answer-run : (words : List (List ℕ)) (told : Option Names) (f g before after : ℕ) (old new : Option (List ℕ)) (setup : Setup) (status : Status) → Opens words told setup → IsOutcome setup before after old new status → IsAnswer words told f g before after old new status
-answer-run words told f g before after old new setup Pass opened outcome = record { setup = setup; opened = opened; outcome = outcome }
-answer-run words told f g before after old new setup (Fail code) opened outcome = record { setup = setup; opened = opened; outcome = outcome }
-answer-run words told f g before after old new setup Limit opened outcome = record { setup = setup; opened = opened; outcome = outcome }
-answer-run words told f g before after old new setup OutputFull opened outcome = record { setup = setup; opened = opened; outcome = outcome }
-answer-run words told f g before after old new setup Running opened outcome = absurd outcome
-answer-run words told f g before after old new setup WriteFault opened outcome = record { setup = setup; opened = opened; outcome = outcome }
-answer-run words told f g before after old new setup Memory opened outcome =
-    record { cause = record { name = opened.read.name; named = opened.read.named; fact = tt }; line = outcome }
-answer-run words told f g before after old new setup Usage opened outcome = absurd outcome
-answer-run words told f g before after old new setup (Image fault) opened outcome = absurd outcome
-answer-run words told f g before after old new setup (Machine fault) opened outcome = absurd outcome
-answer-run words told f g before after old new setup (Missing role) opened outcome = absurd outcome
-answer-run words told f g before after old new setup (ReadFault role) opened outcome = absurd outcome
-answer-run words told f g before after old new setup (TooLong role limit) opened outcome = absurd outcome
-answer-run words told f g before after old new setup (BadPlan place) opened outcome = absurd outcome
+pub answer-run : (asked : Option Line) (told : Option Names) (f g before after : ℕ) (old new : Option (List ℕ)) (setup : Setup) (status : Status) → Opens asked told setup → IsOutcome setup before after old new status → IsAnswer asked told f g before after old new status
+answer-run asked told f g before after old new setup Pass opened outcome = record { setup = setup; opened = opened; outcome = outcome }
+answer-run asked told f g before after old new setup (Fail code) opened outcome = record { setup = setup; opened = opened; outcome = outcome }
+answer-run asked told f g before after old new setup Limit opened outcome = record { setup = setup; opened = opened; outcome = outcome }
+answer-run asked told f g before after old new setup OutputFull opened outcome = record { setup = setup; opened = opened; outcome = outcome }
+answer-run asked told f g before after old new setup Running opened outcome = absurd outcome
+answer-run asked told f g before after old new setup Shown opened outcome = absurd outcome
+answer-run asked told f g before after old new setup Usage opened outcome = absurd outcome
+answer-run asked told f g before after old new setup (Image fault) opened outcome = absurd outcome
+answer-run asked told f g before after old new setup (Machine fault) opened outcome = absurd outcome
+answer-run asked told f g before after old new setup (Missing role) opened outcome = absurd outcome
+answer-run asked told f g before after old new setup (ReadFault role) opened outcome = absurd outcome
+answer-run asked told f g before after old new setup WriteFault opened outcome = record { setup = setup; opened = opened; outcome = outcome }
+answer-run asked told f g before after old new setup Memory opened outcome = record { cause = tt; line = outcome }
+answer-run asked told f g before after old new setup (TooLong role limit) opened outcome = absurd outcome
+answer-run asked told f g before after old new setup (BadPlan place) opened outcome = absurd outcome
+answer-run asked told f g before after old new setup (Later command) opened outcome = absurd outcome
+answer-run asked told f g before after old new setup (BadScript line) opened outcome = absurd outcome
+answer-run asked told f g before after old new setup (Sets machine) opened outcome = absurd outcome
 
 -- a cause gives one of the answers that has a line
-pub answer-refused : (words : List (List ℕ)) (told : Option Names) (f g before after : ℕ) (old new : Option (List ℕ)) (status : Status) → IsCause words told f g status → Wrote (fault_text status) before after old new → IsAnswer words told f g before after old new status
-answer-refused words told f g before after old new Pass cause line = absurd cause
-answer-refused words told f g before after old new (Fail code) cause line = absurd cause
-answer-refused words told f g before after old new Limit cause line = absurd cause
-answer-refused words told f g before after old new OutputFull cause line = absurd cause
-answer-refused words told f g before after old new Running cause line = absurd cause
-answer-refused words told f g before after old new WriteFault cause line = absurd cause
-answer-refused words told f g before after old new Usage cause line = record { cause = cause; line = line }
-answer-refused words told f g before after old new (Image fault) cause line = record { cause = cause; line = line }
-answer-refused words told f g before after old new (Machine fault) cause line = record { cause = cause; line = line }
-answer-refused words told f g before after old new (Missing role) cause line = record { cause = cause; line = line }
-answer-refused words told f g before after old new (ReadFault role) cause line = record { cause = cause; line = line }
-answer-refused words told f g before after old new Memory cause line = record { cause = cause; line = line }
-answer-refused words told f g before after old new (TooLong role limit) cause line = record { cause = cause; line = line }
-answer-refused words told f g before after old new (BadPlan place) cause line = record { cause = cause; line = line }
+pub answer-refused : (asked : Option Line) (told : Option Names) (f g before after : ℕ) (old new : Option (List ℕ)) (status : Status) → IsCause asked told f g status → Wrote (fault_text status) before after old new → IsAnswer asked told f g before after old new status
+answer-refused asked told f g before after old new Pass cause line = absurd cause
+answer-refused asked told f g before after old new (Fail code) cause line = absurd cause
+answer-refused asked told f g before after old new Limit cause line = absurd cause
+answer-refused asked told f g before after old new OutputFull cause line = absurd cause
+answer-refused asked told f g before after old new Running cause line = absurd cause
+answer-refused asked told f g before after old new Shown cause line = absurd cause
+answer-refused asked told f g before after old new Usage cause line = record { cause = cause; line = line }
+answer-refused asked told f g before after old new (Image fault) cause line = record { cause = cause; line = line }
+answer-refused asked told f g before after old new (Machine fault) cause line = absurd cause
+answer-refused asked told f g before after old new (Missing role) cause line = record { cause = cause; line = line }
+answer-refused asked told f g before after old new (ReadFault role) cause line = record { cause = cause; line = line }
+answer-refused asked told f g before after old new WriteFault cause line = absurd cause
+answer-refused asked told f g before after old new Memory cause line = record { cause = cause; line = line }
+answer-refused asked told f g before after old new (TooLong role limit) cause line = record { cause = cause; line = line }
+answer-refused asked told f g before after old new (BadPlan place) cause line = absurd cause
+answer-refused asked told f g before after old new (Later command) cause line = record { cause = cause; line = line }
+answer-refused asked told f g before after old new (BadScript place) cause line = absurd cause
+answer-refused asked told f g before after old new (Sets machine) cause line = absurd cause

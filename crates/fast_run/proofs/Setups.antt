@@ -1,5 +1,5 @@
 -- A run may have the setup of an image that was read.
-use Rattle.std.proofs.Common.{◌≡◌, ℕ, ◌≤◌, Bool, true, false, ◌&&◌, nat_le, ap, refl, arith}
+use Rattle.std.proofs.Common.{◌≡◌, ℕ, ◌≤◌, List, length, Bool, true, false, ◌&&◌, nat_le, ap, refl, ◌∙◌, arith}
 use lib.Count.{ones}
 use Rattle.mono_model.specs.declared.setup.Setup.{Setup}
 use Rattle.elf_image.specs.declared.image.Image.{Image}
@@ -7,12 +7,28 @@ use Rattle.elf_image.specs.Sound.{IsSound}
 use Rattle.elf_image.proofs.Ordered.{test-from_IsSound}
 use Rattle.mono_model.specs.Ranges.{is_between}
 use Rattle.mono_model.specs.Setup.{is_setup, are_params}
-use Rattle.fast_run.specs.Plain.{plain_ram}
+use Rattle.fast_cli.specs.declared.line.Options.{Options}
+use Rattle.fast_cli.specs.Ranges.{HasRanges}
+use Rattle.fast_run.specs.Plain.{plain_ram, plain_params}
 use Rattle.fast_run.specs.Run.{setup_for}
 
-pub is_setup-setup_for : (image : Image) → IsSound image plain_ram → is_setup (setup_for image) ≡ true
-unfolding is_setup are_params ones
-is_setup-setup_for image sound = ap (λ b. b && true && true && true && true && true) (test-from_IsSound image plain_ram sound)
+and-both : {a b : Bool} → a ≡ true → b ≡ true → (a && b) ≡ true
+and-both {a} {b} left right = ap (λ x. x && b) left ∙ right
+
+at_most : (a b : ℕ) → a ≤ b → nat_le a b ≡ true
+at_most a b below = grind (arith, below)
+
+is_from : (low high n : ℕ) → (low ≤ n) × (n ≤ high) → is_between low high n ≡ true
+is_from low high n inside = and-both (at_most low n inside.0) (at_most n high inside.1)
+
+plain-in_range : are_params plain_params ≡ true
+unfolding are_params ones
+plain-in_range = refl
+
+pub is_setup-setup_for : (options : Options) (image : Image) (input : List ℕ) → IsSound image plain_ram → HasRanges options → length input ≤ 16777216 → is_setup (setup_for options image input) ≡ true
+unfolding is_setup
+is_setup-setup_for options image input sound ranges short =
+    and-both (and-both (and-both (and-both (and-both (test-from_IsSound image plain_ram sound) plain-in_range) (at_most (length input) 16777216 short)) (is_from 1 1099511627776 options.cycles ranges.cycles)) (at_most options.output 16777216 ranges.output)) (is_from 1 65536 options.ring ranges.ring)
 
 and-left : (a b : Bool) → (a && b) ≡ true → a ≡ true
 and-left true b both = refl

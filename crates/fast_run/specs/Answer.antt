@@ -1,5 +1,5 @@
 -- When each answer of the program comes, and what is written then.
-use Rattle.std.specs.Prelude.{◌≡◌, ℕ, List, Option, Some, None}
+use Rattle.std.specs.Prelude.{◌≡◌, ℕ, List, [], Option, Some, None, codes}
 use Rattle.fsim_ports.specs.Files.{Names, Holding, holding_of, IsGone, IsFault}
 use Rattle.fsim_ports.specs.Loading.{IsWhole, IsLonger}
 use Rattle.fsim_ports.specs.Sink.{grown, Breaks, Wrote}
@@ -11,55 +11,119 @@ use Rattle.mono_model.specs.declared.final_state.End.TheVariants as end
 use Rattle.report_text.specs.declared.status.Role.{Role}
 use Rattle.report_text.specs.declared.status.Role.TheVariants as role
 use Rattle.report_text.specs.declared.status.Status.{Status}
-use Rattle.report_text.specs.declared.status.Status.TheVariants.{Pass, Fail, Limit, OutputFull, Usage, Image, Missing, ReadFault, WriteFault, Memory, TooLong}
+use Rattle.report_text.specs.declared.status.Status.TheVariants.{Pass, Fail, Limit, OutputFull, Usage, Image, Missing, ReadFault, WriteFault, Memory, TooLong, Later}
 use Rattle.report_text.specs.FaultText.{fault_text}
-use Rattle.fast_run.specs.Words.{line_of}
+use Rattle.fast_cli.specs.declared.line.Line.{Line}
+use Rattle.fast_cli.specs.declared.line.Line.TheVariants.{Back, Func, Inorder, Run, Sched, Soak, Sweep}
+use Rattle.fast_cli.specs.declared.line.Options.{Options}
 use Rattle.fast_run.specs.Plain.{plain_ram}
 use Rattle.fast_run.specs.Run.{setup_of, whole_run, run_text}
 
--- how long an image file may be
+-- how long an image file and an input file may be
 abbrev pub image_limit : ℕ
 image_limit = 67108864
 
--- the words are a line, and this is so of what its name holds
-pub record AtName (words : List (List ℕ)) (told : Option Names) (P : Holding → Type 0) : Type 0 where
+abbrev pub input_limit : ℕ
+input_limit = 16777216
+
+-- the command's word on a line that isn't run yet
+abbrev pub later_word : Line → Option (List ℕ)
+later_word (Func image options) = None
+later_word (Run image machine options) = Some (codes "run")
+later_word (Sched image machine plan options) = Some (codes "sched")
+later_word (Soak seed) = Some (codes "soak")
+later_word (Back image script history options) = Some (codes "back")
+later_word (Inorder image machine plan options) = Some (codes "inorder")
+later_word (Sweep image machines options) = Some (codes "sweep")
+
+-- what the console reads: the bytes of the file that the option names, or, where that isn't told, what was read there;
+-- nothing where there is no such option
+abbrev pub IsInput : Option Names → Option (List ℕ) → List ℕ → Type 0
+IsInput told None bytes = bytes ≡ []
+IsInput told (Some name) bytes = IsWhole (holding_of told name) input_limit bytes
+
+-- the words are a line `func` that names this image, and this is so of what the name holds; `asked` is the words' line
+pub record AtImage (asked : Option Line) (told : Option Names) (P : Holding → Type 0) : Type 0 where
   pub name : List ℕ
-  pub named : line_of words ≡ Some name
+  pub options : Options
+  pub named : asked ≡ Some (Func name options)
   pub fact : P (holding_of told name)
 
--- the words are a line whose name holds these bytes, or, where that isn't told, they were read there
-pub record HasRead (words : List (List ℕ)) (told : Option Names) (bytes : List ℕ) : Type 0 where
-  pub name : List ℕ
-  pub named : line_of words ≡ Some name
-  pub whole : IsWhole (holding_of told name) image_limit bytes
-
--- the bytes that were read are an image, and this is its setup
-pub record Opens (words : List (List ℕ)) (told : Option Names) (setup : Setup) : Type 0 where
+-- the words are a line `func` whose image was read and that names this input, and this is so of what that name holds
+pub record AtInput (asked : Option Line) (told : Option Names) (P : Holding → Type 0) : Type 0 where
+  pub image : List ℕ
+  pub options : Options
+  pub named : asked ≡ Some (Func image options)
   pub bytes : List ℕ
-  pub read : HasRead words told bytes
+  pub before : IsWhole (holding_of told image) image_limit bytes
+  pub name : List ℕ
+  pub given : options.input ≡ Some name
+  pub fact : P (holding_of told name)
+
+-- the words name a file of this role, the files before it were read, and this is so of what its name holds
+abbrev pub AtRole : Role → Option Line → Option Names → (Holding → Type 0) → Type 0
+AtRole role.Image asked told P = AtImage asked told P
+AtRole role.Input asked told P = AtInput asked told P
+AtRole role asked told P = ⊥
+
+-- how long a file of this role may be
+abbrev pub limit_of : Role → ℕ
+limit_of role.Image = image_limit
+limit_of role.Input = input_limit
+limit_of role = 0
+
+-- the words are a line `func` with these options, whose names hold these bytes, or, where that isn't told, they were read
+-- there
+pub record HasRead (asked : Option Line) (told : Option Names) (options : Options) (bytes input : List ℕ) : Type 0 where
+  pub name : List ℕ
+  pub named : asked ≡ Some (Func name options)
+  pub whole : IsWhole (holding_of told name) image_limit bytes
+  pub given : IsInput told options.input input
+
+-- the bytes that were read are an image, and this is its setup, with the input that was read and the options
+pub record Opens (asked : Option Line) (told : Option Names) (setup : Setup) : Type 0 where
+  pub options : Options
+  pub bytes : List ℕ
+  pub input : List ℕ
+  pub read : HasRead asked told options bytes input
   pub clear : image_fault bytes plain_ram ≡ None
-  pub same : setup ≡ setup_of bytes
+  pub same : setup ≡ setup_of options bytes input
 
 -- the bytes that were read are no image, by this fault
-pub record IsNoImage (words : List (List ℕ)) (told : Option Names) (fault : ImageFault) : Type 0 where
+pub record IsNoImage (asked : Option Line) (told : Option Names) (fault : ImageFault) : Type 0 where
+  pub options : Options
   pub bytes : List ℕ
-  pub read : HasRead words told bytes
+  pub input : List ℕ
+  pub read : HasRead asked told options bytes input
   pub first : image_fault bytes plain_ram ≡ Some fault
 
--- the same of the image's file alone
-abbrev pub OfImage : Role → Type 0 → Type 0
-OfImage role.Image P = P
-OfImage role P = ⊥
+-- the words are no line, and no file was read: the files' count of faults stands
+pub record IsNoLine (asked : Option Line) (before after : ℕ) : Type 0 where
+  pub none : asked ≡ None
+  pub unread : after ≡ before
 
--- why there is no run, by the answer; `before` and `after` are the files' counts of faults
-abbrev pub IsCause : List (List ℕ) → Option Names → ℕ → ℕ → Status → Type 0
-IsCause words told before after Usage = line_of words ≡ None
-IsCause words told before after (Missing role) = OfImage role (AtName words told (λ holding. IsGone holding before after))
-IsCause words told before after (ReadFault role) = OfImage role (AtName words told (λ holding. IsFault holding before after))
-IsCause words told before after (TooLong role limit) = OfImage role ((limit ≡ image_limit) × AtName words told (λ holding. IsLonger holding image_limit))
-IsCause words told before after (Image fault) = IsNoImage words told fault
-IsCause words told before after Memory = AtName words told (λ holding. Unit {0})
-IsCause words told before after status = ⊥
+-- the words are a line of a command that isn't run yet, and no file was read
+pub record IsLater (asked : Option Line) (before after : ℕ) (command : List ℕ) : Type 0 where
+  pub line : Line
+  pub named : asked ≡ Some line
+  pub word : later_word line ≡ Some command
+  pub unread : after ≡ before
+
+-- the file is longer than its role allows, and this is the limit
+pub record IsTooLong (role : Role) (limit : ℕ) (asked : Option Line) (told : Option Names) : Type 0 where
+  pub most : limit ≡ limit_of role
+  pub longer : AtRole role asked told (λ holding. IsLonger holding limit)
+
+-- why there is no run, by the answer; `before` and `after` are the files' counts of faults. Want of memory is free
+abbrev pub IsCause : Option Line → Option Names → ℕ → ℕ → Status → Type 0
+IsCause asked told before after Usage = IsNoLine asked before after
+IsCause asked told before after (Later command) = IsLater asked before after command
+IsCause asked told before after (Missing role) = AtRole role asked told (λ holding. IsGone holding before after)
+IsCause asked told before after (ReadFault role) = AtRole role asked told (λ holding. IsFault holding before after)
+IsCause asked told before after (TooLong role limit) = IsTooLong role limit asked told
+IsCause asked told before after (Image fault) = IsNoImage asked told fault
+IsCause asked told before after Memory = Unit {0}
+IsCause asked told before after status = ⊥
 
 -- the run of this setup ended so, and all of it was written
 pub record IsReported (setup : Setup) (end : End) (old new : Option (List ℕ)) : Type 0 where
@@ -77,21 +141,21 @@ IsOutcome setup before after old new Memory = Wrote (fault_text Memory) before a
 IsOutcome setup before after old new status = ⊥
 
 -- an image was opened, and this is so of the answer to its run
-pub record HasRun (words : List (List ℕ)) (told : Option Names) (before after : ℕ) (old new : Option (List ℕ)) (status : Status) : Type 0 where
+pub record HasRun (asked : Option Line) (told : Option Names) (before after : ℕ) (old new : Option (List ℕ)) (status : Status) : Type 0 where
   pub setup : Setup
-  pub opened : Opens words told setup
+  pub opened : Opens asked told setup
   pub outcome : IsOutcome setup before after old new status
 
 -- there was no run, and the line of the answer was written, or broke off where the sink's count rose
-pub record IsRefused (words : List (List ℕ)) (told : Option Names) (f g before after : ℕ) (old new : Option (List ℕ)) (status : Status) : Type 0 where
-  pub cause : IsCause words told f g status
+pub record IsRefused (asked : Option Line) (told : Option Names) (f g before after : ℕ) (old new : Option (List ℕ)) (status : Status) : Type 0 where
+  pub cause : IsCause asked told f g status
   pub line : Wrote (fault_text status) before after old new
 
--- the answer of the program
-abbrev pub IsAnswer : List (List ℕ) → Option Names → ℕ → ℕ → ℕ → ℕ → Option (List ℕ) → Option (List ℕ) → Status → Type 0
-IsAnswer words told f g before after old new Pass = HasRun words told before after old new Pass
-IsAnswer words told f g before after old new (Fail code) = HasRun words told before after old new (Fail code)
-IsAnswer words told f g before after old new Limit = HasRun words told before after old new Limit
-IsAnswer words told f g before after old new OutputFull = HasRun words told before after old new OutputFull
-IsAnswer words told f g before after old new WriteFault = HasRun words told before after old new WriteFault
-IsAnswer words told f g before after old new status = IsRefused words told f g before after old new status
+-- the answer of the program; `asked` is the line that the words are, if they are one
+abbrev pub IsAnswer : Option Line → Option Names → ℕ → ℕ → ℕ → ℕ → Option (List ℕ) → Option (List ℕ) → Status → Type 0
+IsAnswer asked told f g before after old new Pass = HasRun asked told before after old new Pass
+IsAnswer asked told f g before after old new (Fail code) = HasRun asked told before after old new (Fail code)
+IsAnswer asked told f g before after old new Limit = HasRun asked told before after old new Limit
+IsAnswer asked told f g before after old new OutputFull = HasRun asked told before after old new OutputFull
+IsAnswer asked told f g before after old new WriteFault = HasRun asked told before after old new WriteFault
+IsAnswer asked told f g before after old new status = IsRefused asked told f g before after old new status

@@ -1,5 +1,5 @@
-pub mod Words
 pub mod Plain
 pub mod Run
 pub mod Answer
+pub mod Told
 pub mod Stages

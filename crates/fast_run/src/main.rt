@@ -3,7 +3,10 @@
 
 mod answer;
 mod finish;
+mod func;
 mod image;
+mod line;
+mod load;
 mod open;
 mod plain;
 mod program;
@@ -11,7 +14,6 @@ mod run;
 mod tell;
 #[cfg(test)]
 mod tests;
-mod words;
 
 use std::process::ExitCode;
 

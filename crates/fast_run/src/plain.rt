@@ -1,20 +1,15 @@
-ghost use Rattle.std.specs.Prelude.{◌≡◌, true, []};
+ghost use Rattle.std.specs.Prelude.{◌≡◌, ◌≤◌, true, length};
 ghost use Rattle.elf_image.specs.Sound.{IsSound};
 ghost use Rattle.mono_model.specs.Setup.{is_setup};
+ghost use Rattle.fast_cli.specs.Ranges.{HasRanges};
 ghost use Rattle.fast_run.specs.Plain.{plain_params, plain_ram};
 ghost use Rattle.fast_run.specs.Run.{setup_for};
 
 use branch_predictor::PredKind;
 use elf_image::Image;
+use fast_cli::Options;
 use fsim_base::{Bytes, RamRange};
 use mono_model::{Params, Setup};
-use std::alloc::Global;
-
-/// How many steps a run has at most.
-const STEP_LIMIT: u64 = 10_000_000;
-
-/// How many bytes of output have room.
-const OUTPUT_LIMIT: u32 = 16_777_216;
 
 /// The RAM of the plain machine: 16 MiB from 0x80000000.
 pub fn plain_ram() -> RamRange
@@ -68,18 +63,20 @@ pub fn plain_params() -> Params
     }
 }
 
-/// The setup of an image on the plain machine, without input.
-pub fn setup_for(alloc: Global, image: Image) -> Setup
+/// The setup of an image on the plain machine, with what the console reads.
+pub fn setup_for(options: &Options, image: Image, input: Bytes) -> Setup
     requires sound { IsSound image plain_ram }
-    ensures setup { result ≡ setup_for image }
+    requires ranges { HasRanges options.now }
+    requires input { length input ≤ 16777216 }
+    ensures setup { result ≡ setup_for options.now image input }
     ensures sound { is_setup result ≡ true }
 {
     Setup {
         image,
         params: plain_params(),
-        input: Bytes::new(Vec::new(alloc)),
-        cycles: STEP_LIMIT,
-        output: OUTPUT_LIMIT,
-        ring: 64,
+        input,
+        cycles: options.cycles,
+        output: options.output,
+        ring: options.ring,
     }
 }

@@ -1,5 +1,5 @@
 -- One instruction of a run, put together from what the hart ensures.
-use Rattle.std.proofs.Common.{◌≡◌, ℕ, ◌&&◌, Bool, true, false, Option, Some, None, is_none, refl, ap, ◌∙◌}
+use Rattle.std.proofs.Common.{◌≡◌, ℕ, nat_le, ◌&&◌, Bool, true, false, Option, Some, None, is_none, refl, ap, sym, ◌∙◌}
 use Rattle.fsim_base.specs.declared.access.RamRange.{RamRange}
 use Rattle.rv_decode.specs.declared.insn.Insn.TheVariants as insn
 use Rattle.rv_exec.specs.Eval.{eval_of}
@@ -15,22 +15,22 @@ use Rattle.mono_model.specs.Result.{Result, executed}
 use Rattle.fsim_base.specs.declared.cause.Cause.{Cause}
 use Rattle.mono_model.specs.Effect.{effect, note_of, is_fence_result}
 use Rattle.mono_model.specs.Sequence.{found_next, result_at}
-use Rattle.func_model.specs.Memory.{text_from}
+use Rattle.phys_mem.specs.Ram.{text_from}
 use Rattle.func_model.specs.Hart.{found_by}
-use Rattle.func_model.specs.declared.hart.Stepped.{Stepped}
+use Rattle.func_model.specs.declared.done.Stepped.{Stepped}
 use Rattle.func_model.specs.Steps.{behind, result_of, stepped_by}
-use Rattle.func_model.specs.Side.{after_instruction, before}
+use Rattle.func_model.specs.Contents.{after_instruction, before}
 
 pub found_same : (image : Image) (text : ℕ → ℕ) (addr : ℕ) → found_by (is_executable image) text addr ≡ found_at image text addr
 unfolding found_by found_at
 found_same image text addr = refl
 
-pub result_same : (s : Setup) (time : ℕ) (a : Arch) → result_of (ram_range s.params) (found_next s a) time a ≡ result_at s (Some time) a
+pub result_same : (s : Setup) (time : Option ℕ) (a : Arch) → result_of (ram_range s.params) (found_next s a) time a ≡ result_at s time a
 unfolding result_at
 result_same s time a = refl
 
 -- a FENCE.I has no cause and sends nothing
-pub fence_plain : (range : RamRange) (found : Found) (time : ℕ) (a : Arch) → is_fence_i found ≡ true → (result_of range found time a).cause ≡ None
+pub fence_plain : (range : RamRange) (found : Found) (time : Option ℕ) (a : Arch) → is_fence_i found ≡ true → (result_of range found time a).cause ≡ None
 unfolding executed eval_of
 fence_plain range (refused cause) time a is = cc
 fence_plain range (unknown word) time a is = cc
@@ -51,7 +51,7 @@ fence_plain range (known word insn.Mret) time a is = cc
 fence_plain range (known word insn.Wfi) time a is = cc
 fence_plain range (known word (insn.Csr kind rd rs1 csr)) time a is = cc
 
-pub fence_silent : (range : RamRange) (found : Found) (time : ℕ) (a : Arch) → is_fence_i found ≡ true → note_of (result_of range found time a) a ≡ note.Nothing
+pub fence_silent : (range : RamRange) (found : Found) (time : Option ℕ) (a : Arch) → is_fence_i found ≡ true → note_of (result_of range found time a) a ≡ note.Nothing
 unfolding executed eval_of
 fence_silent range (refused cause) time a is = cc
 fence_silent range (unknown word) time a is = cc
@@ -72,14 +72,14 @@ fence_silent range (known word insn.Mret) time a is = cc
 fence_silent range (known word insn.Wfi) time a is = cc
 fence_silent range (known word (insn.Csr kind rd rs1 csr)) time a is = cc
 
-pub after_plain : (s : Setup) (found : Found) (r : Result) (time : ℕ) (a b : Arch) → is_fence_i found ≡ false → b ≡ behind s.output found r time a → b ≡ after_instruction s found r time a
+pub after_plain : (s : Setup) (found : Found) (r : Result) (time : ℕ) (a b : Arch) → is_fence_i found ≡ false → b ≡ behind s.output found r (Some time) a → b ≡ after_instruction s found r time a
 after_plain s found r time a b fence made = rw fence made
 
 fenced_is : (fence : Bool) (cause : Option Cause) → fence ≡ true → cause ≡ None → (fence && is_none cause) ≡ true
 fenced_is fence cause is none = rw (is, none) refl
 
 pub after_fence : (s : Setup) (found : Found) (r : Result) (time : ℕ) (a b c : Arch) (is_text : ℕ → Bool) → is_fence_i found ≡ true → r.cause ≡ None → note_of r a ≡ note.Nothing →
-    is_text ≡ is_executable s.image → b ≡ behind s.output found r time a → c ≡ record b { text = text_from is_text b.ram } → c ≡ after_instruction s found r time a
+    is_text ≡ is_executable s.image → b ≡ behind s.output found r (Some time) a → c ≡ record b { text = text_from is_text b.ram } → c ≡ after_instruction s found r time a
 unfolding synced
 after_fence s found r time a b c is_text fence plain silent exec made synced_is =
     let e : b ≡ effect found r (Some time) a.pc a = rw silent at made in
@@ -92,8 +92,8 @@ pub met_found : (s : Setup) (is_text : ℕ → Bool) (found : Found) (b a : Arch
 met_found s is_text found b a exec arch is =
     is ∙ ap (λ (t : ℕ → Bool). found_by t b.text b.pc) exec ∙ found_same s.image b.text b.pc ∙ ap (λ (x : Arch). found_at s.image x.text x.pc) arch
 
-pub met_behind : (s : Setup) (time limit : ℕ) (range : RamRange) (found : Found) (b a c : Arch) → limit ≡ s.output → range ≡ ram_range s.params → b ≡ a → found ≡ found_next s a →
-    c ≡ behind limit found (result_of range found time b) time b → c ≡ behind s.output (found_next s a) (result_at s (Some time) a) time a
+pub met_behind : (s : Setup) (time : Option ℕ) (limit : ℕ) (range : RamRange) (found : Found) (b a c : Arch) → limit ≡ s.output → range ≡ ram_range s.params → b ≡ a → found ≡ found_next s a →
+    c ≡ behind limit found (result_of range found time b) time b → c ≡ behind s.output (found_next s a) (result_at s time a) time a
 met_behind s time limit range found b a c el er ea ef made =
     made
     ∙ ap (λ (l : ℕ). behind l found (result_of range found time b) time b) el
@@ -102,8 +102,8 @@ met_behind s time limit range found b a c el er ea ef made =
     ∙ ap (λ (f : Found). behind s.output f (result_of (ram_range s.params) f time a) time a) ef
     ∙ ap (λ (r : Result). behind s.output (found_next s a) r time a) (result_same s time a)
 
-pub met_stepped : (s : Setup) (time limit : ℕ) (range : RamRange) (found : Found) (b a : Arch) (stepped : Stepped) → limit ≡ s.output → range ≡ ram_range s.params → b ≡ a → found ≡ found_next s a →
-    stepped ≡ stepped_by limit b.output (note_of (result_of range found time b) b) → stepped ≡ stepped_by s.output a.output (note_of (result_at s (Some time) a) a)
+pub met_stepped : (s : Setup) (time : Option ℕ) (limit : ℕ) (range : RamRange) (found : Found) (b a : Arch) (stepped : Stepped) → limit ≡ s.output → range ≡ ram_range s.params → b ≡ a → found ≡ found_next s a →
+    stepped ≡ stepped_by limit b.output (note_of (result_of range found time b) b) → stepped ≡ stepped_by s.output a.output (note_of (result_at s time a) a)
 met_stepped s time limit range found b a stepped el er ea ef made =
     made
     ∙ ap (λ (l : ℕ). stepped_by l b.output (note_of (result_of range found time b) b)) el
@@ -122,3 +122,9 @@ before_idle time a idle = rw idle refl
 
 pub before_trap : (time : ℕ) (a : Arch) → timer_pending a.csrs time (compare_of a.devices) ≡ true → trapped timer_interrupt 0 a.pc a ≡ before time a
 before_trap time a due = rw due refl
+
+-- with interrupts off none is pending
+pub off_idle : (a b : Arch) (time : ℕ) (takes : Bool) → b ≡ a → takes ≡ (b.csrs.mie && b.csrs.mtie) → takes ≡ false → timer_pending a.csrs time (compare_of a.devices) ≡ false
+off_idle a b time takes same is off =
+    let none : (a.csrs.mie && a.csrs.mtie) ≡ false = sym (is ∙ ap (λ (x : Arch). x.csrs.mie && x.csrs.mtie) same) ∙ off in
+    ap (λ (t : Bool). t && nat_le (compare_of a.devices) time) none

@@ -1,5 +1,5 @@
 -- The end of a store, by what it does outside its device.
-use Rattle.std.proofs.Common.{◌≡◌, ℕ, false, nat_le, List, [], ◌∷◌, ◌++◌, length, Option, None, ap, ◌∙◌}
+use Rattle.std.proofs.Common.{◌≡◌, ℕ, Bool, false, nat_le, List, [], ◌∷◌, ◌++◌, length, Option, Some, None, refl, ap, sym, subst, ◌∙◌}
 use Rattle.fsim_base.specs.declared.instruction.Halt.{Halt}
 use Rattle.device_bus.specs.declared.undo.Note.{Note}
 use Rattle.device_bus.specs.declared.undo.Note.TheVariants as note
@@ -7,7 +7,14 @@ use Rattle.mono_model.specs.Arch.{Arch}
 use Rattle.fsim_base.specs.declared.access.RamRange.{RamRange}
 use Rattle.rv_exec.specs.declared.outcome.Outcome.{Outcome}
 use Rattle.rv_exec.specs.declared.outcome.Reach.TheVariants as reach
-use Rattle.func_model.specs.Steps.{finished, concluded, outcome_made}
+use Rattle.fsim_base.specs.declared.access.Width.{Width}
+use Rattle.mono_model.specs.Result.{Seen, Result, spot_of, loaded_at, resulting, failing_access}
+use Rattle.fsim_base.specs.declared.access.Access.{Access}
+use Rattle.fsim_base.specs.declared.access.Access.TheVariants as access
+use Rattle.fsim_base.specs.declared.cause.Cause.{Cause}
+use Rattle.func_model.specs.declared.done.Done.{Done}
+use Rattle.func_model.specs.declared.done.Stepped.TheVariants.{On}
+use Rattle.func_model.specs.Steps.{finished, concluded, outcome_made, outcome_result, Told}
 
 pub conclude_nothing : (limit next : ℕ) (what : Note) (a b : Arch) → what ≡ note.Nothing → b ≡ finished None 0 next a → b ≡ concluded limit what next a
 conclude_nothing limit next what a b is made = rw is made
@@ -20,6 +27,30 @@ pub conclude_out : (limit next byte : ℕ) (what : Note) (items : List ℕ) (a b
 conclude_out limit next byte what items a b is room grown made = rw (is, room) (made ∙ ap (λ o. finished None 0 next (record a { output = o })) grown)
 
 -- an instruction that reaches nothing
-pub nothing_made : (range : RamRange) (limit : ℕ) (destination : Option ℕ) (o : Outcome) (time : ℕ) (a b : Arch) → o.cause ≡ None → o.reach ≡ reach.Nothing →
+pub nothing_made : (range : RamRange) (limit : ℕ) (destination : Option ℕ) (o : Outcome) (time : Option ℕ) (a b : Arch) → o.cause ≡ None → o.reach ≡ reach.Nothing →
     b ≡ finished destination o.value o.next a → b ≡ outcome_made range limit destination o time a
 nothing_made range limit destination o time a b none plain made = rw (none, plain) made
+
+-- what a load comes to, by its outcome
+pub load_result : (range : RamRange) (e : Seen) (o : Outcome) (addr : ℕ) (width : Width) (signed : Bool) → o.cause ≡ None → o.reach ≡ reach.Load addr width signed →
+    loaded_at o.next addr width signed e (spot_of range addr width) ≡ outcome_result range e o
+load_result range e o addr width signed none there = rw (none, there) refl
+
+-- what is told of one result is told of an equal one
+pub told_same : (limit : ℕ) (r s : Result) (a : Arch) (done : Done) → r ≡ s → Told limit r a done → Told limit s a done
+told_same limit r s a done same told =
+    let P : Result → Type 0 = λ x. Told limit x a done in
+    subst P same told
+
+-- what is told where nothing was reached, and of a trap
+pub told_plain : (limit value next : ℕ) (a : Arch) (done : Done) → done ≡ record { stepped = On; sent = None; access = access.Nothing; cause = None; mem = None; dev = None } →
+    Told limit (resulting value next access.Nothing) a done
+told_plain limit value next a done is =
+    let P : Done → Type 0 = λ x. Told limit (resulting value next access.Nothing) a x in
+    subst P (sym is) (record { stepped = refl; sent = refl; access = refl; cause = refl })
+
+pub told_failed : (limit next : ℕ) (tried : Access) (cause : Cause) (mtval : ℕ) (a : Arch) (done : Done) → done ≡ record { stepped = On; sent = None; access = tried; cause = Some cause; mem = None; dev = None } →
+    Told limit (failing_access next tried cause mtval) a done
+told_failed limit next tried cause mtval a done is =
+    let P : Done → Type 0 = λ x. Told limit (failing_access next tried cause mtval) a x in
+    subst P (sym is) (record { stepped = refl; sent = refl; access = refl; cause = refl })

@@ -38,5 +38,5 @@ if_bound : (b : Bool) (x y : Arch) (n : ℕ) → x.csrs.retired ≤ n → y.csrs
 if_bound true x y n p q = p
 if_bound false x y n p q = q
 
-pub behind_retired : (limit : ℕ) (found : Found) (r : Result) (time : ℕ) (a : Arch) → (behind limit found r time a).csrs.retired ≤ a.csrs.retired + 1
-behind_retired limit found r time a = if_bound _ a (effect found r (Some time) a.pc a) (a.csrs.retired + 1) (omega arith) (omega (arith, effect_retired found r (Some time) a.pc a))
+pub behind_retired : (limit : ℕ) (found : Found) (r : Result) (time : Option ℕ) (a : Arch) → (behind limit found r time a).csrs.retired ≤ a.csrs.retired + 1
+behind_retired limit found r time a = if_bound _ a (effect found r time a.pc a) (a.csrs.retired + 1) (omega arith) (omega (arith, effect_retired found r time a.pc a))

@@ -11,16 +11,15 @@ use Rattle.rv_exec.specs.declared.outcome.Outcome.{Outcome}
 use Rattle.rv_exec.specs.declared.outcome.Reach.{Reach}
 use Rattle.rv_exec.specs.declared.outcome.Reach.TheVariants as reach
 use Rattle.rv_exec.specs.Eval.{eval_of}
-use Rattle.device_bus.specs.declared.undo.Note.TheVariants as note
 use Rattle.mono_model.specs.Arch.{Arch, register_value}
 use Rattle.mono_model.specs.Found.{known, is_csr_insn, is_mret_insn}
-use Rattle.mono_model.specs.Result.{executed, by_cause, reached, loaded_raw, stored_at, raw_at, spot_of, accepts_store}
-use Rattle.mono_model.specs.Effect.{effect, retired, note_of}
+use Rattle.mono_model.specs.Result.{Seen, executed, by_cause, reached, loaded_raw, stored_at, raw_at, spot_of, accepts_store}
+use Rattle.mono_model.specs.Effect.{effect, retired}
 use Rattle.mono_model.specs.Sequence.{seen_in}
-use Rattle.func_model.specs.Steps.{load_done, store_made, reached_made, caused_made, outcome_made, behind, result_of, stepped_by, store_stepped, reached_stepped, caused_stepped, outcome_stepped}
+use Rattle.func_model.specs.Steps.{load_done, store_made, reached_made, caused_made, outcome_made, reached_result, caused_result, outcome_result, behind, result_of}
 use Rattle.func_model.proofs.Evaluated.{NoDestination, stores_write_none}
 
-loaded_behind : (range : RamRange) (limit word time : ℕ) (i : Insn) (next addr : ℕ) (width : Width) (signed : Bool) (spot : Spot) (raw : Option ℕ) (a : Arch) → is_csr_insn i ≡ false → is_mret_insn i ≡ false → spot ≡ spot_of range addr width →
+loaded_behind : (range : RamRange) (limit word : ℕ) (time : Option ℕ) (i : Insn) (next addr : ℕ) (width : Width) (signed : Bool) (spot : Spot) (raw : Option ℕ) (a : Arch) → is_csr_insn i ≡ false → is_mret_insn i ≡ false → spot ≡ spot_of range addr width →
     behind limit (known word i) (loaded_raw next addr width signed spot raw) time a ≡ load_done range (dest_of i) next addr width signed raw a
 unfolding effect retired
 loaded_behind range limit word time i next addr width signed spot None a csr mret where_is = refl
@@ -28,75 +27,64 @@ loaded_behind range limit word time i next addr width signed Ram (Some raw) a cs
 loaded_behind range limit word time i next addr width signed Device (Some raw) a csr mret where_is = rw (csr, mret, ← where_is) refl
 loaded_behind range limit word time i next addr width signed Nowhere (Some raw) a csr mret where_is = rw (csr, mret, ← where_is) refl
 
-stored_behind : (range : RamRange) (limit word time : ℕ) (i : Insn) (next addr : ℕ) (width : Width) (value : ℕ) (spot : Spot) (accepts : Bool) (a : Arch) → is_csr_insn i ≡ false → is_mret_insn i ≡ false → dest_of i ≡ None → accepts ≡ accepts_store addr width spot → spot ≡ spot_of range addr width →
+stored_behind : (range : RamRange) (limit word : ℕ) (time : Option ℕ) (i : Insn) (next addr : ℕ) (width : Width) (value : ℕ) (spot : Spot) (accepts : Bool) (a : Arch) → is_csr_insn i ≡ false → is_mret_insn i ≡ false → dest_of i ≡ None → accepts ≡ accepts_store addr width spot → spot ≡ spot_of range addr width →
     behind limit (known word i) (stored_at next addr width value spot) time a ≡ store_made range limit next addr width value a
 unfolding effect retired
 stored_behind range limit word time i next addr width value spot true a csr mret none accepts where_is = rw (← where_is, ← accepts, csr, mret, none) refl
 stored_behind range limit word time i next addr width value spot false a csr mret none accepts where_is = rw (← where_is, ← accepts) refl
 
-reached_behind : (range : RamRange) (limit word : ℕ) (i : Insn) (x time : ℕ) (o : Outcome) (what : Reach) (a : Arch) → is_csr_insn i ≡ false → is_mret_insn i ≡ false → NoDestination (dest_of i) what →
-    behind limit (known word i) (reached range word i a.pc x (seen_in (Some time) a) o what) time a ≡ reached_made range limit (dest_of i) o time a what
+reached_behind : (range : RamRange) (limit word : ℕ) (i : Insn) (x : ℕ) (time : Option ℕ) (o : Outcome) (what : Reach) (a : Arch) → is_csr_insn i ≡ false → is_mret_insn i ≡ false → NoDestination (dest_of i) what →
+    behind limit (known word i) (reached range word i a.pc x (seen_in time a) o what) time a ≡ reached_made range limit (dest_of i) o time a what
 unfolding effect retired
 reached_behind range limit word i x time o reach.Nothing a csr mret none = rw (csr, mret) (rw (csr, mret) refl)
 reached_behind range limit word i x time o (reach.Load addr width signed) a csr mret none =
-    loaded_behind range limit word time i o.next addr width signed (spot_of range addr width) (raw_at (seen_in (Some time) a) addr width (spot_of range addr width)) a csr mret refl
+    loaded_behind range limit word time i o.next addr width signed (spot_of range addr width) (raw_at (seen_in time a) addr width (spot_of range addr width)) a csr mret refl
 reached_behind range limit word i x time o (reach.Store addr width value) a csr mret none =
     stored_behind range limit word time i o.next addr width value (spot_of range addr width) (accepts_store addr width (spot_of range addr width)) a csr mret none refl refl
 
-caused_behind : (range : RamRange) (limit word : ℕ) (i : Insn) (x time : ℕ) (o : Outcome) (why : Option (Cause × ℕ)) (a : Arch) → is_csr_insn i ≡ false → is_mret_insn i ≡ false → NoDestination (dest_of i) o.reach →
-    behind limit (known word i) (by_cause range word i a.pc x (seen_in (Some time) a) o why) time a ≡ caused_made range limit (dest_of i) o time a why
+caused_behind : (range : RamRange) (limit word : ℕ) (i : Insn) (x : ℕ) (time : Option ℕ) (o : Outcome) (why : Option (Cause × ℕ)) (a : Arch) → is_csr_insn i ≡ false → is_mret_insn i ≡ false → NoDestination (dest_of i) o.reach →
+    behind limit (known word i) (by_cause range word i a.pc x (seen_in time a) o why) time a ≡ caused_made range limit (dest_of i) o time a why
 unfolding effect
 caused_behind range limit word i x time o None a csr mret none = reached_behind range limit word i x time o o.reach a csr mret none
 caused_behind range limit word i x time o (Some why) a csr mret none = refl
 
 -- an instruction that is none of CSRs or MRET
-pub instruction_behind : (range : RamRange) (limit word : ℕ) (i : Insn) (x y time : ℕ) (a : Arch) → is_csr_insn i ≡ false → is_mret_insn i ≡ false →
-    behind limit (known word i) (executed range (known word i) a.pc x y (seen_in (Some time) a)) time a ≡ outcome_made range limit (dest_of i) (eval_of i a.pc x y) time a
+pub instruction_behind : (range : RamRange) (limit word : ℕ) (i : Insn) (x y : ℕ) (time : Option ℕ) (a : Arch) → is_csr_insn i ≡ false → is_mret_insn i ≡ false →
+    behind limit (known word i) (executed range (known word i) a.pc x y (seen_in time a)) time a ≡ outcome_made range limit (dest_of i) (eval_of i a.pc x y) time a
 unfolding executed
 instruction_behind range limit word i x y time a csr mret =
     caused_behind range limit word i x time (eval_of i a.pc x y) (eval_of i a.pc x y).cause a csr mret (stores_write_none i a.pc x y)
 
--- how it leaves the run
-loaded_noted : (next addr : ℕ) (width : Width) (signed : Bool) (spot : Spot) (raw : Option ℕ) (a : Arch) → note_of (loaded_raw next addr width signed spot raw) a ≡ note.Nothing
-loaded_noted next addr width signed spot None a = refl
-loaded_noted next addr width signed spot (Some raw) a = refl
+-- what such an instruction comes to
+reached_is : (range : RamRange) (word : ℕ) (i : Insn) (addr x : ℕ) (e : Seen) (o : Outcome) (what : Reach) → is_csr_insn i ≡ false → is_mret_insn i ≡ false →
+    reached range word i addr x e o what ≡ reached_result range e o what
+reached_is range word i addr x e o reach.Nothing csr mret = rw (csr, mret) refl
+reached_is range word i addr x e o (reach.Load target width signed) csr mret = refl
+reached_is range word i addr x e o (reach.Store target width value) csr mret = refl
 
-stored_stepped : (range : RamRange) (limit next addr : ℕ) (width : Width) (value : ℕ) (spot : Spot) (accepts : Bool) (a : Arch) → accepts ≡ accepts_store addr width spot → spot ≡ spot_of range addr width →
-    stepped_by limit a.output (note_of (stored_at next addr width value spot) a) ≡ store_stepped range limit addr width value a
-stored_stepped range limit next addr width value spot true a accepts where_is = rw (← where_is, ← accepts) refl
-stored_stepped range limit next addr width value spot false a accepts where_is = rw (← where_is, ← accepts) refl
+caused_is : (range : RamRange) (word : ℕ) (i : Insn) (addr x : ℕ) (e : Seen) (o : Outcome) (why : Option (Cause × ℕ)) → is_csr_insn i ≡ false → is_mret_insn i ≡ false →
+    by_cause range word i addr x e o why ≡ caused_result range e o why
+caused_is range word i addr x e o None csr mret = reached_is range word i addr x e o o.reach csr mret
+caused_is range word i addr x e o (Some why) csr mret = refl
 
-reached_noted : (range : RamRange) (limit word : ℕ) (i : Insn) (x time : ℕ) (o : Outcome) (what : Reach) (a : Arch) → is_csr_insn i ≡ false → is_mret_insn i ≡ false →
-    stepped_by limit a.output (note_of (reached range word i a.pc x (seen_in (Some time) a) o what) a) ≡ reached_stepped range limit a what
-reached_noted range limit word i x time o reach.Nothing a csr mret = rw (csr, mret) refl
-reached_noted range limit word i x time o (reach.Load addr width signed) a csr mret =
-    ap (stepped_by limit a.output) (loaded_noted o.next addr width signed (spot_of range addr width) (raw_at (seen_in (Some time) a) addr width (spot_of range addr width)) a)
-reached_noted range limit word i x time o (reach.Store addr width value) a csr mret =
-    stored_stepped range limit o.next addr width value (spot_of range addr width) (accepts_store addr width (spot_of range addr width)) a refl refl
-
-caused_noted : (range : RamRange) (limit word : ℕ) (i : Insn) (x time : ℕ) (o : Outcome) (why : Option (Cause × ℕ)) (a : Arch) → is_csr_insn i ≡ false → is_mret_insn i ≡ false →
-    stepped_by limit a.output (note_of (by_cause range word i a.pc x (seen_in (Some time) a) o why) a) ≡ caused_stepped range limit o a why
-caused_noted range limit word i x time o None a csr mret = reached_noted range limit word i x time o o.reach a csr mret
-caused_noted range limit word i x time o (Some why) a csr mret = refl
-
-pub instruction_noted : (range : RamRange) (limit word : ℕ) (i : Insn) (x y time : ℕ) (a : Arch) → is_csr_insn i ≡ false → is_mret_insn i ≡ false →
-    stepped_by limit a.output (note_of (executed range (known word i) a.pc x y (seen_in (Some time) a)) a) ≡ outcome_stepped range limit (eval_of i a.pc x y) a
+pub instruction_is : (range : RamRange) (word : ℕ) (i : Insn) (addr x y : ℕ) (e : Seen) → is_csr_insn i ≡ false → is_mret_insn i ≡ false →
+    executed range (known word i) addr x y e ≡ outcome_result range e (eval_of i addr x y)
 unfolding executed
-instruction_noted range limit word i x y time a csr mret =
-    caused_noted range limit word i x time (eval_of i a.pc x y) (eval_of i a.pc x y).cause a csr mret
+instruction_is range word i addr x y e csr mret = caused_is range word i addr x e (eval_of i addr x y) (eval_of i addr x y).cause csr mret
 
 -- the same of what the code computed
-pub evaluated_stepped : (range : RamRange) (limit word : ℕ) (i : Insn) (x y time : ℕ) (o : Outcome) (a : Arch) → is_csr_insn i ≡ false → is_mret_insn i ≡ false →
+pub evaluated_result : (range : RamRange) (word : ℕ) (i : Insn) (x y : ℕ) (time : Option ℕ) (o : Outcome) (a : Arch) → is_csr_insn i ≡ false → is_mret_insn i ≡ false →
     o ≡ eval_of i a.pc x y → x ≡ register_value a.regs (sources_of i).0 → y ≡ register_value a.regs (sources_of i).1 →
-    outcome_stepped range limit o a ≡ stepped_by limit a.output (note_of (result_of range (known word i) time a) a)
-evaluated_stepped range limit word i x y time o a csr mret is first second =
-    ap (λ (e : Outcome). outcome_stepped range limit e a) (is ∙ ap (λ v. eval_of i a.pc v y) first ∙ ap (λ w. eval_of i a.pc (register_value a.regs (sources_of i).0) w) second)
-    ∙ sym (instruction_noted range limit word i (register_value a.regs (sources_of i).0) (register_value a.regs (sources_of i).1) time a csr mret)
+    outcome_result range (seen_in time a) o ≡ result_of range (known word i) time a
+evaluated_result range word i x y time o a csr mret is first second =
+    ap (λ (e : Outcome). outcome_result range (seen_in time a) e) (is ∙ ap (λ v. eval_of i a.pc v y) first ∙ ap (λ w. eval_of i a.pc (register_value a.regs (sources_of i).0) w) second)
+    ∙ sym (instruction_is range word i a.pc (register_value a.regs (sources_of i).0) (register_value a.regs (sources_of i).1) (seen_in time a) csr mret)
 
-pub evaluated_behind : (range : RamRange) (limit word : ℕ) (i : Insn) (x y time : ℕ) (o : Outcome) (destination : Option ℕ) (a : Arch) → is_csr_insn i ≡ false → is_mret_insn i ≡ false →
+pub evaluated_behind : (range : RamRange) (limit word : ℕ) (i : Insn) (x y : ℕ) (time : Option ℕ) (o : Outcome) (destination : Option ℕ) (a b : Arch) → is_csr_insn i ≡ false → is_mret_insn i ≡ false →
     o ≡ eval_of i a.pc x y → destination ≡ dest_of i → x ≡ register_value a.regs (sources_of i).0 → y ≡ register_value a.regs (sources_of i).1 →
-    outcome_made range limit destination o time a ≡ behind limit (known word i) (result_of range (known word i) time a) time a
-evaluated_behind range limit word i x y time o destination a csr mret is register first second =
-    ap (λ d. outcome_made range limit d o time a) register
+    b ≡ outcome_made range limit destination o time a → b ≡ behind limit (known word i) (result_of range (known word i) time a) time a
+evaluated_behind range limit word i x y time o destination a b csr mret is register first second made =
+    made
+    ∙ ap (λ d. outcome_made range limit d o time a) register
     ∙ ap (λ (e : Outcome). outcome_made range limit (dest_of i) e time a) (is ∙ ap (λ v. eval_of i a.pc v y) first ∙ ap (λ w. eval_of i a.pc (register_value a.regs (sources_of i).0) w) second)
     ∙ sym (instruction_behind range limit word i (register_value a.regs (sources_of i).0) (register_value a.regs (sources_of i).1) time a csr mret)

@@ -1,11 +1,12 @@
 -- What evaluation tells of an instruction's access and destination.
-use Rattle.std.proofs.Common.{◌≡◌, ℕ, ◌<◌, ◌==◌, Bool, true, false, if◌then◌else◌, Option, Some, None, refl, arith}
+use Rattle.std.proofs.Common.{◌≡◌, ℕ, ◌<◌, ◌==◌, Bool, true, false, if◌then◌else◌, Option, Some, None, refl, sym, subst, arith}
 use Rattle.std.proofs.lemmas.Grind.{common_steps}
 use Rattle.fsim_base.specs.declared.cause.Cause.{Cause}
 use Rattle.rv_decode.specs.declared.insn.Insn.{Insn}
 use Rattle.rv_decode.specs.declared.insn.Insn.TheVariants as insn
 use Rattle.rv_decode.specs.Class.{dest_of, written}
 use Rattle.rv_decode.specs.Fits.{Fits}
+use Rattle.rv_exec.specs.declared.outcome.Outcome.{Outcome}
 use Rattle.rv_exec.specs.declared.outcome.Reach.{Reach}
 use Rattle.rv_exec.specs.declared.outcome.Reach.TheVariants as reach
 use Rattle.rv_exec.specs.Eval.{eval_of, branched}
@@ -26,7 +27,7 @@ by_test true why what holds = holds refl
 by_test false why what holds = tt
 
 -- an access without a cause is aligned
-pub outcome_aligned : (i : Insn) (addr a b : ℕ) → AlignedBy (eval_of i addr a b).cause (eval_of i addr a b).reach
+outcome_aligned : (i : Insn) (addr a b : ℕ) → AlignedBy (eval_of i addr a b).cause (eval_of i addr a b).reach
 unfolding eval_of
 outcome_aligned (insn.Lui rd imm) addr a b = tt
 outcome_aligned (insn.Auipc rd imm) addr a b = tt
@@ -44,6 +45,12 @@ outcome_aligned insn.Ebreak addr a b = tt
 outcome_aligned insn.Mret addr a b = tt
 outcome_aligned insn.Wfi addr a b = tt
 outcome_aligned (insn.Csr kind rd rs1 csr) addr a b = tt
+
+-- the same of what the code computed
+pub aligned_by : (o : Outcome) (i : Insn) (addr a b : ℕ) → o ≡ eval_of i addr a b → AlignedBy o.cause o.reach
+aligned_by o i addr a b is =
+    let P : Outcome → Type 0 = λ x. AlignedBy x.cause x.reach in
+    subst P (sym is) (outcome_aligned i addr a b)
 
 written_exists : (rd : ℕ) → rd < 32 → IsDestination (written rd)
 written_exists rd small = by_zero (rd == 0)

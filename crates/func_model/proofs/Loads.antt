@@ -12,7 +12,7 @@ use Rattle.device_bus.specs.Device.{Register, transfer, line_control, line_statu
 use Rattle.device_bus.specs.Bus.{Devices, state_of, with_state, devices_after, kind_at, find_of}
 use Rattle.mono_model.specs.Effect.{with_access}
 use Rattle.mono_model.specs.Result.{spot_of}
-use Rattle.func_model.specs.Memory.{loaded}
+use Rattle.phys_mem.specs.Ram.{loaded}
 
 numbers_alike : (register : Register) (input numbers : List ℕ) (time : ℕ) → (load_answer register input numbers time).numbers ≡ (load_answer register input numbers 0).numbers
 numbers_alike transfer input numbers time = refl

@@ -1,5 +1,5 @@
 -- Stores, put together from what the code's calls ensure.
-use Rattle.std.proofs.Common.{◌≡◌, ℕ, ◌%◌, Bool, true, false, if◌then◌else◌, List, Option, Some, None, is_some, refl, ap, sym, ◌∙◌}
+use Rattle.std.proofs.Common.{◌≡◌, ℕ, ◌%◌, Bool, true, false, not, if◌then◌else◌, List, Option, Some, None, is_some, refl, ap, sym, ◌∙◌}
 use Rattle.fsim_base.specs.Width.{width_bytes}
 use Rattle.fsim_base.specs.Range.{is_inside}
 use Rattle.fsim_base.specs.Memory.{put_bytes}
@@ -16,7 +16,7 @@ use Rattle.device_bus.specs.Bus.{Devices, state_of, with_state, devices_after, a
 use Rattle.mono_model.specs.Arch.{Arch, trapped}
 use Rattle.mono_model.specs.Effect.{with_note}
 use Rattle.mono_model.specs.Result.{accepts_place}
-use Rattle.func_model.specs.Memory.{loaded, stored}
+use Rattle.phys_mem.specs.Ram.{loaded, stored}
 use Rattle.func_model.specs.Steps.{finished, is_full, concluded, store_made}
 use Rattle.func_model.proofs.Loads.{spot_device}
 
@@ -80,6 +80,14 @@ pub store_device : (range : RamRange) (limit next addr : ℕ) (width : Width) (v
 store_device range limit next addr width value place what after a b aligned none there accepted noted changed made =
     rw (spot_device range a.ram addr width place aligned none there, there, accepted, ← noted, ← changed)
     (by_note limit next what a b after (λ byte sent. changed ∙ sent_alike a.devices (kind_at place.device) place.off width value byte (sym noted ∙ sent)) made)
+
+pub is_accepted : (accepted : Bool) → not accepted ≡ false → accepted ≡ true
+is_accepted true is = refl
+is_accepted false is = cc
+
+pub is_refused : (accepted : Bool) → not accepted ≡ true → accepted ≡ false
+is_refused true is = cc
+is_refused false is = refl
 
 -- a store that can't be made
 pub store_none : (range : RamRange) (limit next addr : ℕ) (width : Width) (value : ℕ) (place : Option Place) (a b : Arch) → addr % width_bytes width ≡ 0 →

@@ -1,5 +1,5 @@
 -- The effect of a CSR instruction and of MRET.
-use Rattle.std.proofs.Common.{◌≡◌, ℕ, ◌&&◌, ◌==◌, List, [], ◌∷◌, Bool, true, false, if◌then◌else◌, Option, Some, None, refl}
+use Rattle.std.proofs.Common.{◌≡◌, ℕ, ◌==◌, List, [], ◌∷◌, Bool, true, false, if◌then◌else◌, Option, Some, None, unwrap_or, refl, ap, sym, ◌∙◌}
 use Rattle.fsim_base.specs.declared.access.RamRange.{RamRange}
 use Rattle.rv_decode.specs.declared.insn.Insn.{Insn}
 use Rattle.rv_decode.specs.declared.insn.Insn.TheVariants as insn
@@ -8,41 +8,31 @@ use Rattle.rv_exec.specs.Eval.{eval_of}
 use Rattle.machine_csr.specs.declared.csrs.CsrWrite.{CsrWrite}
 use Rattle.machine_csr.specs.declared.csrs.Csrs.{Csrs}
 use Rattle.machine_csr.specs.declared.csrs.CsrWrite.TheVariants as write
-use Rattle.machine_csr.specs.Csr.{csr_access, reads_time_of, csr_written, Row, rows, row_in, row_at, kept_by}
-use Rattle.device_bus.specs.declared.undo.Note.TheVariants as note
+use Rattle.machine_csr.specs.Csr.{csr_access, csr_written, Row, rows, row_in, row_at, kept_by}
+use Rattle.machine_csr.specs.Trap.{return_address}
+use Rattle.fsim_base.specs.declared.access.Access.TheVariants as access
 use Rattle.fsim_base.specs.Cause.{cause_number}
+use Rattle.fsim_base.specs.declared.cause.Cause.TheVariants.{IllegalInstruction}
 use Rattle.fsim_base.specs.declared.cause.Cause.{Cause}
 use Rattle.mono_model.specs.Arch.{Arch, register_value, compare_of, trapped}
 use Rattle.mono_model.specs.Found.{refused, unknown, known, is_csr_insn, is_mret_insn}
-use Rattle.mono_model.specs.Result.{executed, csr_result, csr_value}
-use Rattle.mono_model.specs.Effect.{effect, retired, note_of}
+use Rattle.mono_model.specs.Result.{executed, csr_result, failing, resulting}
+use Rattle.mono_model.specs.Effect.{effect, retired}
 use Rattle.func_model.specs.Steps.{behind, result_of, csr_made, mret_made}
 
--- with a time, the value that was read is given
-timed : (insn : Insn) (time value : ℕ) → csr_value insn (Some time) value ≡ value
-timed i time value = by_test (reads_time_of i)
-  where
-    by_test : (b : Bool) → (if b && false then 0 else value) ≡ value
-    by_test true = refl
-    by_test false = refl
-
-by_access : (limit word kind rd rs1 csr time : ℕ) (given : Option (ℕ × CsrWrite)) (a : Arch) →
-    given ≡ csr_access a.csrs (insn.Csr kind rd rs1 csr) (register_value a.regs (sources_of (insn.Csr kind rd rs1 csr)).0) time (compare_of a.devices) →
-    behind limit (known word (insn.Csr kind rd rs1 csr)) (csr_result word (insn.Csr kind rd rs1 csr) a.pc (Some time) given) time a ≡ csr_made word (insn.Csr kind rd rs1 csr) given a
+by_access : (limit word kind rd rs1 csr : ℕ) (time : Option ℕ) (given : Option (ℕ × CsrWrite)) (a : Arch) →
+    given ≡ csr_access a.csrs (insn.Csr kind rd rs1 csr) (register_value a.regs (sources_of (insn.Csr kind rd rs1 csr)).0) (unwrap_or time 0) (compare_of a.devices) →
+    behind limit (known word (insn.Csr kind rd rs1 csr)) (csr_result word (insn.Csr kind rd rs1 csr) a.pc time given) time a ≡ csr_made word (insn.Csr kind rd rs1 csr) time given a
 unfolding effect retired
 by_access limit word kind rd rs1 csr time None a is = refl
-by_access limit word kind rd rs1 csr time (Some made) a is = rw (← is) (rw timed refl)
-
-csr_noted : (word : ℕ) (i : Insn) (addr : ℕ) (time : Option ℕ) (given : Option (ℕ × CsrWrite)) (a : Arch) → note_of (csr_result word i addr time given) a ≡ note.Nothing
-csr_noted word i addr time None a = refl
-csr_noted word i addr time (Some made) a = refl
+by_access limit word kind rd rs1 csr time (Some made) a is = rw (← is) refl
 
 -- what the code reads of the CSRs
-abbrev pub accessed : Insn → ℕ → Arch → Option (ℕ × CsrWrite)
-accessed i time a = csr_access a.csrs i (register_value a.regs (sources_of i).0) time (compare_of a.devices)
+abbrev pub accessed : Insn → Option ℕ → Arch → Option (ℕ × CsrWrite)
+accessed i time a = csr_access a.csrs i (register_value a.regs (sources_of i).0) (unwrap_or time 0) (compare_of a.devices)
 
-pub csr_behind : (range : RamRange) (limit word : ℕ) (i : Insn) (time : ℕ) (a : Arch) → is_csr_insn i ≡ true →
-    behind limit (known word i) (result_of range (known word i) time a) time a ≡ csr_made word i (accessed i time a) a
+pub csr_behind : (range : RamRange) (limit word : ℕ) (i : Insn) (time : Option ℕ) (a : Arch) → is_csr_insn i ≡ true →
+    behind limit (known word i) (result_of range (known word i) time a) time a ≡ csr_made word i time (accessed i time a) a
 unfolding executed eval_of
 csr_behind range limit word (insn.Csr kind rd rs1 csr) time a is = by_access limit word kind rd rs1 csr time (accessed (insn.Csr kind rd rs1 csr) time a) a refl
 csr_behind range limit word (insn.Lui rd imm) time a is = cc
@@ -61,26 +51,42 @@ csr_behind range limit word insn.Ebreak time a is = cc
 csr_behind range limit word insn.Wfi time a is = cc
 csr_behind range limit word insn.Mret time a is = cc
 
-pub csr_silent : (range : RamRange) (word : ℕ) (i : Insn) (time : ℕ) (a : Arch) → is_csr_insn i ≡ true → note_of (result_of range (known word i) time a) a ≡ note.Nothing
+pub csr_result_of : (range : RamRange) (word : ℕ) (i : Insn) (time : Option ℕ) (a : Arch) → is_csr_insn i ≡ true → result_of range (known word i) time a ≡ csr_result word i a.pc time (accessed i time a)
 unfolding executed eval_of
-csr_silent range word (insn.Csr kind rd rs1 csr) time a is = csr_noted word (insn.Csr kind rd rs1 csr) a.pc (Some time) (accessed (insn.Csr kind rd rs1 csr) time a) a
-csr_silent range word (insn.Lui rd imm) time a is = cc
-csr_silent range word (insn.Auipc rd imm) time a is = cc
-csr_silent range word (insn.Jal rd imm) time a is = cc
-csr_silent range word (insn.Jalr rd rs1 imm) time a is = cc
-csr_silent range word (insn.Branch kind rs1 rs2 imm) time a is = cc
-csr_silent range word (insn.Load kind rd rs1 imm) time a is = cc
-csr_silent range word (insn.Store kind rs1 rs2 imm) time a is = cc
-csr_silent range word (insn.OpImm kind alt rd rs1 imm) time a is = cc
-csr_silent range word (insn.Op kind alt rd rs1 rs2) time a is = cc
-csr_silent range word (insn.MulDiv kind rd rs1 rs2) time a is = cc
-csr_silent range word (insn.Fence rd rs1 upper fetch) time a is = cc
-csr_silent range word insn.Ecall time a is = cc
-csr_silent range word insn.Ebreak time a is = cc
-csr_silent range word insn.Wfi time a is = cc
-csr_silent range word insn.Mret time a is = cc
+csr_result_of range word (insn.Csr kind rd rs1 csr) time a is = refl
+csr_result_of range word (insn.Lui rd imm) time a is = cc
+csr_result_of range word (insn.Auipc rd imm) time a is = cc
+csr_result_of range word (insn.Jal rd imm) time a is = cc
+csr_result_of range word (insn.Jalr rd rs1 imm) time a is = cc
+csr_result_of range word (insn.Branch kind rs1 rs2 imm) time a is = cc
+csr_result_of range word (insn.Load kind rd rs1 imm) time a is = cc
+csr_result_of range word (insn.Store kind rs1 rs2 imm) time a is = cc
+csr_result_of range word (insn.OpImm kind alt rd rs1 imm) time a is = cc
+csr_result_of range word (insn.Op kind alt rd rs1 rs2) time a is = cc
+csr_result_of range word (insn.MulDiv kind rd rs1 rs2) time a is = cc
+csr_result_of range word (insn.Fence rd rs1 upper fetch) time a is = cc
+csr_result_of range word insn.Ecall time a is = cc
+csr_result_of range word insn.Ebreak time a is = cc
+csr_result_of range word insn.Wfi time a is = cc
+csr_result_of range word insn.Mret time a is = cc
 
-pub mret_behind : (range : RamRange) (limit word : ℕ) (i : Insn) (time : ℕ) (a : Arch) → is_mret_insn i ≡ true →
+-- the same of what the code read of registers and devices
+pub csr_result_by : (range : RamRange) (word : ℕ) (i : Insn) (x cmp : ℕ) (time : Option ℕ) (a : Arch) → is_csr_insn i ≡ true → x ≡ register_value a.regs (sources_of i).0 → cmp ≡ compare_of a.devices →
+    csr_result word i a.pc time (csr_access a.csrs i x (unwrap_or time 0) cmp) ≡ result_of range (known word i) time a
+csr_result_by range word i x cmp time a is source compared =
+    ap (λ (v : ℕ). csr_result word i a.pc time (csr_access a.csrs i v (unwrap_or time 0) cmp)) source
+    ∙ ap (λ (c : ℕ). csr_result word i a.pc time (csr_access a.csrs i (register_value a.regs (sources_of i).0) (unwrap_or time 0) c)) compared
+    ∙ sym (csr_result_of range word i time a is)
+
+pub csr_behind_by : (range : RamRange) (limit word : ℕ) (i : Insn) (x cmp : ℕ) (time : Option ℕ) (a b : Arch) → is_csr_insn i ≡ true → x ≡ register_value a.regs (sources_of i).0 → cmp ≡ compare_of a.devices →
+    b ≡ csr_made word i time (csr_access a.csrs i x (unwrap_or time 0) cmp) a → b ≡ behind limit (known word i) (result_of range (known word i) time a) time a
+csr_behind_by range limit word i x cmp time a b is source compared made =
+    made
+    ∙ ap (λ (v : ℕ). csr_made word i time (csr_access a.csrs i v (unwrap_or time 0) cmp) a) source
+    ∙ ap (λ (c : ℕ). csr_made word i time (csr_access a.csrs i (register_value a.regs (sources_of i).0) (unwrap_or time 0) c) a) compared
+    ∙ sym (csr_behind range limit word i time a is)
+
+pub mret_behind : (range : RamRange) (limit word : ℕ) (i : Insn) (time : Option ℕ) (a : Arch) → is_mret_insn i ≡ true →
     behind limit (known word i) (result_of range (known word i) time a) time a ≡ mret_made a
 unfolding executed eval_of effect retired
 mret_behind range limit word insn.Mret time a is = refl
@@ -100,43 +106,43 @@ mret_behind range limit word insn.Ebreak time a is = cc
 mret_behind range limit word insn.Wfi time a is = cc
 mret_behind range limit word (insn.Csr kind rd rs1 csr) time a is = cc
 
-pub mret_silent : (range : RamRange) (word : ℕ) (i : Insn) (time : ℕ) (a : Arch) → is_mret_insn i ≡ true → note_of (result_of range (known word i) time a) a ≡ note.Nothing
+pub mret_result_of : (range : RamRange) (word : ℕ) (i : Insn) (time : Option ℕ) (a : Arch) → is_mret_insn i ≡ true → result_of range (known word i) time a ≡ resulting 0 (return_address a.csrs) access.Nothing
 unfolding executed eval_of
-mret_silent range word insn.Mret time a is = refl
-mret_silent range word (insn.Lui rd imm) time a is = cc
-mret_silent range word (insn.Auipc rd imm) time a is = cc
-mret_silent range word (insn.Jal rd imm) time a is = cc
-mret_silent range word (insn.Jalr rd rs1 imm) time a is = cc
-mret_silent range word (insn.Branch kind rs1 rs2 imm) time a is = cc
-mret_silent range word (insn.Load kind rd rs1 imm) time a is = cc
-mret_silent range word (insn.Store kind rs1 rs2 imm) time a is = cc
-mret_silent range word (insn.OpImm kind alt rd rs1 imm) time a is = cc
-mret_silent range word (insn.Op kind alt rd rs1 rs2) time a is = cc
-mret_silent range word (insn.MulDiv kind rd rs1 rs2) time a is = cc
-mret_silent range word (insn.Fence rd rs1 upper fetch) time a is = cc
-mret_silent range word insn.Ecall time a is = cc
-mret_silent range word insn.Ebreak time a is = cc
-mret_silent range word insn.Wfi time a is = cc
-mret_silent range word (insn.Csr kind rd rs1 csr) time a is = cc
+mret_result_of range word insn.Mret time a is = refl
+mret_result_of range word (insn.Lui rd imm) time a is = cc
+mret_result_of range word (insn.Auipc rd imm) time a is = cc
+mret_result_of range word (insn.Jal rd imm) time a is = cc
+mret_result_of range word (insn.Jalr rd rs1 imm) time a is = cc
+mret_result_of range word (insn.Branch kind rs1 rs2 imm) time a is = cc
+mret_result_of range word (insn.Load kind rd rs1 imm) time a is = cc
+mret_result_of range word (insn.Store kind rs1 rs2 imm) time a is = cc
+mret_result_of range word (insn.OpImm kind alt rd rs1 imm) time a is = cc
+mret_result_of range word (insn.Op kind alt rd rs1 rs2) time a is = cc
+mret_result_of range word (insn.MulDiv kind rd rs1 rs2) time a is = cc
+mret_result_of range word (insn.Fence rd rs1 upper fetch) time a is = cc
+mret_result_of range word insn.Ecall time a is = cc
+mret_result_of range word insn.Ebreak time a is = cc
+mret_result_of range word insn.Wfi time a is = cc
+mret_result_of range word (insn.Csr kind rd rs1 csr) time a is = cc
 
 -- nothing that can be executed
-pub refused_behind : (range : RamRange) (limit time : ℕ) (cause : Cause) (a : Arch) →
+pub refused_behind : (range : RamRange) (limit : ℕ) (time : Option ℕ) (cause : Cause) (a : Arch) →
     behind limit (refused cause) (result_of range (refused cause) time a) time a ≡ trapped (cause_number cause) a.pc a.pc a
 unfolding executed effect
 refused_behind range limit time cause a = refl
 
-pub refused_silent : (range : RamRange) (time : ℕ) (cause : Cause) (a : Arch) → note_of (result_of range (refused cause) time a) a ≡ note.Nothing
+pub refused_result_of : (range : RamRange) (time : Option ℕ) (cause : Cause) (a : Arch) → result_of range (refused cause) time a ≡ failing a.pc cause a.pc
 unfolding executed
-refused_silent range time cause a = refl
+refused_result_of range time cause a = refl
 
-pub unknown_behind : (range : RamRange) (limit time word : ℕ) (a : Arch) →
+pub unknown_behind : (range : RamRange) (limit : ℕ) (time : Option ℕ) (word : ℕ) (a : Arch) →
     behind limit (unknown word) (result_of range (unknown word) time a) time a ≡ trapped 2 word a.pc a
 unfolding executed effect
 unknown_behind range limit time word a = refl
 
-pub unknown_silent : (range : RamRange) (time word : ℕ) (a : Arch) → note_of (result_of range (unknown word) time a) a ≡ note.Nothing
+pub unknown_result_of : (range : RamRange) (time : Option ℕ) (word : ℕ) (a : Arch) → result_of range (unknown word) time a ≡ failing a.pc IllegalInstruction word
 unfolding executed
-unknown_silent range time word a = refl
+unknown_result_of range time word a = refl
 
 -- every step that isn't a trap retires one instruction
 abbrev pub Keeping : List Row → Type 0

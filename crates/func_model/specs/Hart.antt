@@ -10,7 +10,7 @@ use Rattle.mono_model.specs.Found.{Found, refused, unknown, known, found_word}
 use Rattle.func_model.specs.declared.found.Fetched.{Fetched}
 use Rattle.func_model.specs.declared.found.Fetched.TheVariants as code
 use Rattle.func_model.specs.declared.hart.Hart.{Hart}
-use Rattle.func_model.specs.Memory.{ram_of, text_of}
+use Rattle.phys_mem.specs.Ram.{ram_of, text_of}
 
 -- the code's answer of a fetch as what was found
 abbrev pub found_in : Fetched → Found

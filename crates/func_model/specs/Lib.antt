@@ -1,5 +1,6 @@
-pub mod Memory
-pub mod Fill
 pub mod Hart
 pub mod Steps
+pub mod Undo
+pub mod Contents
+pub mod Walk
 pub mod Side

@@ -23,10 +23,11 @@ use Rattle.device_bus.specs.Bus.{Devices}
 use Rattle.mono_model.specs.Arch.{Arch, with_register, register_value, trapped}
 use Rattle.mono_model.specs.Found.{Found, first_source, second_source}
 use Rattle.mono_model.specs.Effect.{counted, with_store, with_access, with_note, access_note, note_of, effect}
-use Rattle.mono_model.specs.Result.{spot_of, raw_at, accepts_store, Result, executed}
-use Rattle.mono_model.specs.Sequence.{seen_in}
-use Rattle.func_model.specs.declared.hart.Stepped.{Stepped}
-use Rattle.func_model.specs.declared.hart.Stepped.TheVariants.{On, Full, Ended}
+use Rattle.mono_model.specs.Result.{Seen, spot_of, raw_at, accepts_store, Result, executed, resulting, loaded_at, stored_at, failing_access, attempted, csr_value}
+use Rattle.mono_model.specs.Sequence.{seen_in, byte_in}
+use Rattle.func_model.specs.declared.done.Done.{Done}
+use Rattle.func_model.specs.declared.done.Stepped.{Stepped}
+use Rattle.func_model.specs.declared.done.Stepped.TheVariants.{On, Full, Ended}
 
 -- an instruction that writes a register, if any, and goes on
 abbrev pub finished : Option ℕ → ℕ → ℕ → Arch → Arch
@@ -39,9 +40,9 @@ load_done range destination next addr width signed (Some raw) a =
     record (finished destination (loaded_value width signed raw) next a) { devices = with_access (access.Load addr width (spot_of range addr width)) 0 a.devices }
 
 -- an aligned load at a time
-abbrev pub load_made : RamRange → Option ℕ → ℕ → ℕ → Width → Bool → ℕ → Arch → Arch
+abbrev pub load_made : RamRange → Option ℕ → ℕ → ℕ → Width → Bool → Option ℕ → Arch → Arch
 load_made range destination next addr width signed time a =
-    load_done range destination next addr width signed (raw_at (seen_in (Some time) a) addr width (spot_of range addr width)) a
+    load_done range destination next addr width signed (raw_at (seen_in time a) addr width (spot_of range addr width)) a
 
 -- the devices after a read that gave these bytes, if any
 abbrev pub read_devices : Option ℕ → RamRange → ℕ → Width → Devices → Devices
@@ -79,35 +80,38 @@ abbrev pub store_made : RamRange → ℕ → ℕ → ℕ → Width → ℕ → A
 store_made range limit next addr width value a =
     if accepts_store addr width (spot_of range addr width) then store_done limit next addr width value (spot_of range addr width) a else trapped 7 addr a.pc a
 
-abbrev pub store_stepped : RamRange → ℕ → ℕ → Width → ℕ → Arch → Stepped
-store_stepped range limit addr width value a =
-    if accepts_store addr width (spot_of range addr width)
-    then stepped_by limit a.output (access_note (access.Store addr width (spot_of range addr width)) value a.devices) else On
-
 -- what an instruction does whose outcome this is, where it is none of CSRs or MRET
-abbrev pub reached_made : RamRange → ℕ → Option ℕ → Outcome → ℕ → Arch → Reach → Arch
+abbrev pub reached_made : RamRange → ℕ → Option ℕ → Outcome → Option ℕ → Arch → Reach → Arch
 reached_made range limit destination o time a reach.Nothing = finished destination o.value o.next a
 reached_made range limit destination o time a (reach.Load addr width signed) = load_made range destination o.next addr width signed time a
 reached_made range limit destination o time a (reach.Store addr width value) = store_made range limit o.next addr width value a
 
-abbrev pub caused_made : RamRange → ℕ → Option ℕ → Outcome → ℕ → Arch → Option (Cause × ℕ) → Arch
+abbrev pub caused_made : RamRange → ℕ → Option ℕ → Outcome → Option ℕ → Arch → Option (Cause × ℕ) → Arch
 caused_made range limit destination o time a None = reached_made range limit destination o time a o.reach
 caused_made range limit destination o time a (Some why) = trapped (cause_number why.0) why.1 a.pc a
 
-abbrev pub outcome_made : RamRange → ℕ → Option ℕ → Outcome → ℕ → Arch → Arch
+abbrev pub outcome_made : RamRange → ℕ → Option ℕ → Outcome → Option ℕ → Arch → Arch
 outcome_made range limit destination o time a = caused_made range limit destination o time a o.cause
 
-abbrev pub reached_stepped : RamRange → ℕ → Arch → Reach → Stepped
-reached_stepped range limit a reach.Nothing = On
-reached_stepped range limit a (reach.Load addr width signed) = On
-reached_stepped range limit a (reach.Store addr width value) = store_stepped range limit addr width value a
+-- what such an instruction comes to
+abbrev pub reached_result : RamRange → Seen → Outcome → Reach → Result
+reached_result range e o reach.Nothing = resulting o.value o.next access.Nothing
+reached_result range e o (reach.Load addr width signed) = loaded_at o.next addr width signed e (spot_of range addr width)
+reached_result range e o (reach.Store addr width value) = stored_at o.next addr width value (spot_of range addr width)
 
-abbrev pub caused_stepped : RamRange → ℕ → Outcome → Arch → Option (Cause × ℕ) → Stepped
-caused_stepped range limit o a None = reached_stepped range limit a o.reach
-caused_stepped range limit o a (Some why) = On
+abbrev pub caused_result : RamRange → Seen → Outcome → Option (Cause × ℕ) → Result
+caused_result range e o None = reached_result range e o o.reach
+caused_result range e o (Some why) = failing_access o.next (attempted o.reach) why.0 why.1
 
-abbrev pub outcome_stepped : RamRange → ℕ → Outcome → Arch → Stepped
-outcome_stepped range limit o a = caused_stepped range limit o a o.cause
+abbrev pub outcome_result : RamRange → Seen → Outcome → Result
+outcome_result range e o = caused_result range e o o.cause
+
+-- what is told of an instruction that comes to this, where the output has so much room
+pub record Told (limit : ℕ) (r : Result) (a : Arch) (done : Done) : Type 0 where
+  pub stepped : done.stepped ≡ stepped_by limit a.output (note_of r a)
+  pub sent : done.sent ≡ byte_in (note_of r a)
+  pub access : done.access ≡ r.access
+  pub cause : done.cause ≡ r.cause
 
 -- an access without a cause is aligned
 abbrev pub IsAlignedReach : Reach → Type 0
@@ -120,12 +124,12 @@ AlignedBy None what = IsAlignedReach what
 AlignedBy (Some why) what = Unit {0}
 
 -- a CSR instruction, by what it reads and writes
-abbrev pub csr_made : ℕ → Insn → Option (ℕ × CsrWrite) → Arch → Arch
-csr_made word insn None a = trapped 2 word a.pc a
-csr_made word insn (Some made) a =
+abbrev pub csr_made : ℕ → Insn → Option ℕ → Option (ℕ × CsrWrite) → Arch → Arch
+csr_made word insn time None a = trapped 2 word a.pc a
+csr_made word insn time (Some made) a =
     record a {
       pc = wrap_sum a.pc 4;
-      regs = with_register (dest_of insn) made.0 a.regs;
+      regs = with_register (dest_of insn) (csr_value insn time made.0) a.regs;
       csrs = counted (csr_written made.1 a.csrs);
     }
 
@@ -134,10 +138,10 @@ abbrev pub mret_made : Arch → Arch
 mret_made a = record a { pc = return_address a.csrs; csrs = counted (trap_left a.csrs) }
 
 -- what stands at the next address comes to this, at a time
-abbrev pub result_of : RamRange → Found → ℕ → Arch → Result
+abbrev pub result_of : RamRange → Found → Option ℕ → Arch → Result
 result_of range found time a =
-    executed range found a.pc (register_value a.regs (first_source found)) (register_value a.regs (second_source found)) (seen_in (Some time) a)
+    executed range found a.pc (register_value a.regs (first_source found)) (register_value a.regs (second_source found)) (seen_in time a)
 
 -- the state behind it, unless the output has no room for its byte
-abbrev pub behind : ℕ → Found → Result → ℕ → Arch → Arch
-behind limit found r time a = if is_full limit a.output (note_of r a) then a else effect found r (Some time) a.pc a
+abbrev pub behind : ℕ → Found → Result → Option ℕ → Arch → Arch
+behind limit found r time a = if is_full limit a.output (note_of r a) then a else effect found r time a.pc a

@@ -1,15 +1,18 @@
-ghost use Rattle.std.specs.Prelude.{◌≡◌, ◌≤◌, ◌<◌, ◌^◌, ◌+◌, ◌-◌, ◌%◌, ℕ, Some, IfNone, IfSome, false, true, length, slice_index, vec_capacity};
+ghost use Rattle.std.specs.Prelude.{◌≡◌, ◌≤◌, ◌<◌, ◌^◌, ◌+◌, ◌-◌, ◌%◌, ℕ, None, Some, false, length, slice_index, vec_capacity, unwrap_or, if◌then◌else◌};
 ghost use Rattle.mono_model.specs.Arch.{compare_of};
 ghost use Rattle.mono_model.specs.Found.{is_csr_insn, is_mret_insn};
-ghost use Rattle.mono_model.specs.Result.{accepts_place};
+ghost use Rattle.mono_model.specs.Result.{attempted, csr_value};
+ghost use Rattle.mono_model.specs.Sequence.{byte_in};
 
+use crate::done::{Done, Stepped};
 use crate::found::Fetched;
-use crate::memory::Memory;
-use device_bus::{Bus, Device, Note, Place};
-use fsim_base::{Cause, Halt, Width, wrap_add};
-use machine_csr::Csrs;
+use device_bus::{Bus, DevUndo, Device, Note};
+use fsim_base::{Access, Cause, Spot, Width, wrap_add};
+use machine_csr::{Csrs, reads_time};
+use phys_mem::Ram;
 use rv_decode::{Insn, decode};
 use rv_exec::{Outcome, Reach, eval, extend};
+use undo_journal::Past;
 
 /// The registers, memory and output of the hart, changed in place by each instruction.
 #[derive(Drop)]
@@ -17,12 +20,12 @@ pub struct Hart {
     pub pc: u32,
     pub regs: [u32; 32],
     pub csrs: Csrs,
-    pub memory: Memory,
+    pub memory: Ram,
     /// The bytes sent to the console.
     pub output: Vec<u8>,
     /// How many of them have room.
-    pub limit: u32,
-    ghost room: { limit ≤ vec_capacity output },
+    pub room: u32,
+    ghost holds: { room ≤ vec_capacity output },
 }
 
 /// A load, by its address, and the address of the instruction behind it.
@@ -43,15 +46,12 @@ struct StoreAccess {
     value: u32,
 }
 
-/// How an instruction leaves the run.
-#[derive(Clone, Copy, Debug, PartialEq, Eq)]
-pub enum Stepped {
-    /// It goes on.
-    On,
-    /// The output has no room for the byte that the instruction sends; it wasn't executed.
-    Full,
-    /// The program ended it.
-    Ended(Halt),
+/// The bytes of a load, as a number, where it can be made; where they lie; and what takes an access to a device back.
+#[derive(Clone, Copy)]
+struct Read {
+    raw: Option<u32>,
+    spot: Spot,
+    dev: Option<(u32, DevUndo)>,
 }
 
 /// Whether the instruction is one of Zicsr.
@@ -74,33 +74,90 @@ pub fn compare<D: Device>(bus: &Bus<D>) -> u64
     u64::from(bus.number(1, 0)) + (u64::from(bus.number(1, 1)) << 32)
 }
 
-/// The place, if the device accepts the access there.
-fn accepted(place: Option<Place>) -> Option<Place>
-    ensures refused { IfNone result (accepts_place place ≡ false) }
-    ensures there { IfSome result (λ p. place ≡ Some p) }
-    ensures accepted { IfSome result (λ p. p.accepted ≡ true) }
+/// A load or store as it is attempted where it is misaligned.
+fn attempted(reach: Reach) -> Access
+    ensures access { result ≡ attempted reach }
 {
-    match place {
-        Some(place) if place.accepted => Some(place),
+    match reach {
+        Reach::Nothing => Access::Nothing,
+        Reach::Load { addr, width, .. } => Access::Load {
+            addr,
+            width,
+            spot: Spot::Nowhere,
+        },
+        Reach::Store { addr, width, .. } => Access::Store {
+            addr,
+            width,
+            spot: Spot::Nowhere,
+        },
+    }
+}
+
+/// The byte that is sent, if one is.
+fn byte_in(note: Note) -> Option<u8>
+    ensures byte { result ≡ byte_in note }
+{
+    match note {
+        Note::Out(byte) => Some(byte),
         _ => None,
+    }
+}
+
+/// What a CSR instruction that read this gives at a time or none.
+fn csr_value(insn: Insn, time: Option<u64>, value: u32) -> u32
+    ensures value { result ≡ csr_value insn time value }
+{
+    if reads_time(insn) && time.is_none() {
+        0
+    } else {
+        value
+    }
+}
+
+/// What an instruction did that reached neither memory nor a device.
+fn plain() -> Done
+    ensures done { result ≡ record { stepped = Stepped.On; sent = None; access = Access.Nothing; cause = None; mem = None; dev = None } }
+{
+    Done {
+        stepped: Stepped::On,
+        sent: None,
+        access: Access::Nothing,
+        cause: None,
+        mem: None,
+        dev: None,
+    }
+}
+
+/// What an instruction did that trapped, with the access that it attempted.
+fn failed(access: Access, cause: Cause) -> Done
+    ensures done { result ≡ record { stepped = Stepped.On; sent = None; access = access; cause = Some cause; mem = None; dev = None } }
+{
+    Done {
+        stepped: Stepped::On,
+        sent: None,
+        access,
+        cause: Some(cause),
+        mem: None,
+        dev: None,
     }
 }
 
 impl Hart {
     ghost use Rattle.device_bus.specs.Bus.{Devices};
     ghost use Rattle.fsim_base.specs.Cause.{cause_number};
-    ghost use Rattle.mono_model.specs.Arch.{Arch, register_value, with_register, trapped, interrupted};
     ghost use Rattle.fsim_base.specs.Width.{width_bytes};
-    ghost use Rattle.mono_model.specs.Result.{raw_at, spot_of};
+    ghost use Rattle.mono_model.specs.Arch.{Arch, register_value, with_register, trapped};
+    ghost use Rattle.mono_model.specs.Found.{known, destination_in};
+    ghost use Rattle.mono_model.specs.Result.{raw_at, spot_of, loaded_at, stored_at, resulting, csr_result};
     ghost use Rattle.mono_model.specs.Sequence.{seen_in};
-    ghost use Rattle.func_model.specs.Steps.{finished, read_devices, load_made, stepped_by, concluded, store_stepped, store_made, outcome_made, outcome_stepped, AlignedBy, csr_made, mret_made, behind, result_of};
     ghost use Rattle.rv_decode.specs.Fits.{Fits};
-    ghost use Rattle.mono_model.specs.Found.{known};
-    ghost use Rattle.mono_model.specs.Effect.{note_of};
     ghost use Rattle.machine_csr.specs.Csr.{csr_access};
+    ghost use Rattle.machine_csr.specs.Trap.{return_address};
     ghost use Rattle.rv_decode.specs.Class.{dest_of};
-    ghost use Rattle.func_model.specs.Memory.{ram_of, text_of, exec_of, range_of, text_from};
+    ghost use Rattle.phys_mem.specs.Ram.{ram_of, text_of, exec_of, range_of, text_from};
+    ghost use Rattle.func_model.specs.Steps.{finished, read_devices, load_made, stepped_by, concluded, store_made, outcome_made, outcome_result, AlignedBy, csr_made, mret_made, behind, result_of, Told};
     ghost use Rattle.func_model.specs.Hart.{found_in, FetchedFits, found_by, IsDestination, arch_of};
+    ghost use Rattle.func_model.specs.Undo.{undone, TakesBack, IsRestorable, IsDevicePast, devices_back, register_before};
 
     /// What stands at the next address.
     #[tactic(auto, unfolding(crate::specs::Hart::found_by))]
@@ -135,7 +192,7 @@ impl Hart {
     pub fn trap(&mut self, cause: u32, mtval: u32)
         ensures arch { (d : Devices) → arch_of self.new d ≡ trapped cause mtval self.old.pc (arch_of self.old d) }
         ensures memory { self.new.memory ≡ self.old.memory }
-        ensures limit { self.new.limit ≡ self.old.limit }
+        ensures room { self.new.room ≡ self.old.room }
     {
         self.pc = self.csrs.trap(cause, self.pc, mtval);
     }
@@ -158,7 +215,7 @@ impl Hart {
         requires count { self.old.csrs.retired < 2 ^ 64 - 1 }
         ensures arch { (d : Devices) → arch_of self.new d ≡ finished destination value next (arch_of self.old d) }
         ensures memory { self.new.memory ≡ self.old.memory }
-        ensures limit { self.new.limit ≡ self.old.limit }
+        ensures room { self.new.room ≡ self.old.room }
         ensures output { self.new.output ≡ self.old.output }
     {
         self.write(destination, value);
@@ -166,29 +223,50 @@ impl Hart {
         self.csrs.retired += 1;
     }
 
-    /// The bytes of an aligned load at a time, as a number; None where the load can't be made.
+    /// The bytes of an aligned load at a time; without a time a device sees time 0.
     #[tactic(auto, unfolding(crate::specs::Hart::arch_of))]
     fn read<D: Device>(
         &mut self,
         bus: &mut Bus<D>,
         addr: u32,
         width: Width,
-        time: u64,
-    ) -> Option<u32>
+        time: Option<u64>,
+    ) -> Read
         requires aligned { addr % width_bytes width ≡ 0 }
-        ensures raw { result ≡ raw_at (seen_in (Some time) (arch_of self.old bus.old)) addr width (spot_of (range_of self.old.memory) addr width) }
-        ensures devices { bus.new ≡ read_devices result (range_of self.old.memory) addr width bus.old }
+        ensures raw { result.raw ≡ raw_at (seen_in time (arch_of self.old bus.old)) addr width (spot_of (range_of self.old.memory) addr width) }
+        ensures spot { result.spot ≡ spot_of (range_of self.old.memory) addr width }
+        ensures devices { bus.new ≡ read_devices result.raw (range_of self.old.memory) addr width bus.old }
+        ensures back { devices_back result.dev bus.new ≡ bus.old }
+        ensures exists { IsDevicePast result.dev }
         ensures same { self.new ≡ self.old }
     {
-        let raw = self.memory.get(addr, width);
-        if raw.is_some() {
-            return raw;
+        if let Some(raw) = self.memory.get(addr, width) {
+            return Read {
+                raw: Some(raw),
+                spot: Spot::Ram,
+                dev: None,
+            };
         }
-        let place = bus.find(addr, width)?;
+        let Some(place) = bus.find(addr, width) else {
+            return Read {
+                raw: None,
+                spot: Spot::Nowhere,
+                dev: None,
+            };
+        };
         if !place.accepted {
-            return None;
+            return Read {
+                raw: None,
+                spot: Spot::Device,
+                dev: None,
+            };
         }
-        Some(bus.load(place.device, place.off, width, time).0)
+        let (raw, undo) = bus.load(place.device, place.off, width, time.unwrap_or(0));
+        Read {
+            raw: Some(raw),
+            spot: Spot::Device,
+            dev: Some((place.device, undo)),
+        }
     }
 
     /// An aligned load at a time, with the register that it writes.
@@ -198,32 +276,49 @@ impl Hart {
         bus: &mut Bus<D>,
         destination: Option<u8>,
         access: LoadAccess,
-        time: u64,
-    )
+        time: Option<u64>,
+    ) -> Done
         requires exists { IsDestination destination }
         requires count { self.old.csrs.retired < 2 ^ 64 - 1 }
         requires aligned { access.addr % width_bytes access.width ≡ 0 }
+        ensures told { (limit : ℕ) → Told limit (loaded_at access.next access.addr access.width access.signed (seen_in time (arch_of self.old bus.old)) (spot_of (range_of self.old.memory) access.addr access.width)) (arch_of self.old bus.old) result }
         ensures arch { arch_of self.new bus.new ≡ load_made (range_of self.old.memory) destination access.next access.addr access.width access.signed time (arch_of self.old bus.old) }
+        ensures back { TakesBack (range_of self.old.memory) result (arch_of self.old bus.old) (arch_of self.new bus.new) }
         ensures memory { self.new.memory ≡ self.old.memory }
-        ensures limit { self.new.limit ≡ self.old.limit }
+        ensures room { self.new.room ≡ self.old.room }
     {
-        match self.read(bus, access.addr, access.width, time) {
-            None => self.trap(5, access.addr),
+        let read = self.read(bus, access.addr, access.width, time);
+        let made = Access::Load {
+            addr: access.addr,
+            width: access.width,
+            spot: read.spot,
+        };
+        match read.raw {
+            None => {
+                self.trap(5, access.addr);
+                failed(made, Cause::LoadAccess)
+            }
             Some(raw) => {
                 let value = extend(raw, access.width, access.signed);
                 self.finish(destination, value, access.next);
+                Done {
+                    access: made,
+                    dev: read.dev,
+                    ..plain()
+                }
             }
         }
     }
 
     /// Ends a store that does this outside its device: sends a byte, if there is room for it, or ends the run.
     #[tactic(auto, unfolding(crate::specs::Hart::arch_of))]
-    fn conclude(&mut self, note: Note, next: u32) -> Stepped
+    fn conclude(&mut self, note: Note, next: u32, limit: u32) -> Stepped
         requires count { self.old.csrs.retired < 2 ^ 64 - 1 }
-        ensures stepped { result ≡ stepped_by self.old.limit self.old.output.items note }
-        ensures arch { (d : Devices) → arch_of self.new d ≡ concluded self.old.limit note next (arch_of self.old d) }
+        requires limit { limit ≤ self.old.room }
+        ensures stepped { result ≡ stepped_by limit self.old.output.items note }
+        ensures arch { (d : Devices) → arch_of self.new d ≡ concluded limit note next (arch_of self.old d) }
         ensures memory { self.new.memory ≡ self.old.memory }
-        ensures limit { self.new.limit ≡ self.old.limit }
+        ensures room { self.new.room ≡ self.old.room }
     {
         match note {
             Note::Nothing => {
@@ -231,7 +326,7 @@ impl Hart {
                 Stepped::On
             }
             Note::Out(byte) => {
-                if self.output.len() >= self.limit as usize {
+                if self.output.len() >= limit as usize {
                     return Stepped::Full;
                 }
                 self.output.push_reserved(byte);
@@ -245,60 +340,89 @@ impl Hart {
         }
     }
 
-    /// An aligned store, and how it leaves the run.
+    /// An aligned store, with an output limit.
     #[tactic(auto, unfolding(crate::specs::Hart::arch_of))]
-    fn store<D: Device>(&mut self, bus: &mut Bus<D>, access: StoreAccess) -> Stepped
+    fn store<D: Device>(&mut self, bus: &mut Bus<D>, access: StoreAccess, limit: u32) -> Done
         requires count { self.old.csrs.retired < 2 ^ 64 - 1 }
         requires aligned { access.addr % width_bytes access.width ≡ 0 }
-        ensures stepped { result ≡ store_stepped (range_of self.old.memory) self.old.limit access.addr access.width access.value (arch_of self.old bus.old) }
-        ensures arch { arch_of self.new bus.new ≡ store_made (range_of self.old.memory) self.old.limit access.next access.addr access.width access.value (arch_of self.old bus.old) }
+        requires limit { limit ≤ self.old.room }
+        ensures told { Told limit (stored_at access.next access.addr access.width access.value (spot_of (range_of self.old.memory) access.addr access.width)) (arch_of self.old bus.old) result }
+        ensures arch { arch_of self.new bus.new ≡ store_made (range_of self.old.memory) limit access.next access.addr access.width access.value (arch_of self.old bus.old) }
+        ensures back { TakesBack (range_of self.old.memory) result (arch_of self.old bus.old) (arch_of self.new bus.new) }
         ensures range { range_of self.new.memory ≡ range_of self.old.memory }
         ensures exec { exec_of self.new.memory ≡ exec_of self.old.memory }
-        ensures limit { self.new.limit ≡ self.old.limit }
+        ensures room { self.new.room ≡ self.old.room }
     {
-        if self
-            .memory
-            .set(access.addr, access.width, access.value)
-            .is_some()
-        {
-            self.finish(None, 0, access.next);
-            return Stepped::On;
+        let StoreAccess {
+            next,
+            addr,
+            width,
+            value,
+        } = access;
+        if let Some(old) = self.memory.set(addr, width, value) {
+            self.finish(None, 0, next);
+            return Done {
+                access: Access::Store {
+                    addr,
+                    width,
+                    spot: Spot::Ram,
+                },
+                mem: Some((addr, width, old)),
+                ..plain()
+            };
         }
-        let Some(place) = accepted(bus.find(access.addr, access.width)) else {
-            self.trap(7, access.addr);
-            return Stepped::On;
+        let Some(place) = bus.find(addr, width) else {
+            self.trap(7, addr);
+            let spot = Spot::Nowhere;
+            return failed(Access::Store { addr, width, spot }, Cause::StoreAccess);
         };
-        let (note, _) = bus.store(place.device, place.off, access.width, access.value);
-        self.conclude(note, access.next)
+        let spot = Spot::Device;
+        let made = Access::Store { addr, width, spot };
+        if !place.accepted {
+            self.trap(7, addr);
+            return failed(made, Cause::StoreAccess);
+        }
+        let (note, undo) = bus.store(place.device, place.off, width, value);
+        Done {
+            stepped: self.conclude(note, next, limit),
+            sent: byte_in(note),
+            access: made,
+            cause: None,
+            mem: None,
+            dev: Some((place.device, undo)),
+        }
     }
 
-    /// Does what an instruction does whose outcome this is.
+    /// Does what an instruction does whose outcome this is, with an output limit.
     #[tactic(auto, unfolding(crate::specs::Hart::arch_of))]
     fn reach<D: Device>(
         &mut self,
         bus: &mut Bus<D>,
         destination: Option<u8>,
         outcome: Outcome,
-        time: u64,
-    ) -> Stepped
+        time: Option<u64>,
+        limit: u32,
+    ) -> Done
         requires exists { IsDestination destination }
         requires count { self.old.csrs.retired < 2 ^ 64 - 1 }
         requires aligned { AlignedBy outcome.cause outcome.reach }
-        ensures stepped { result ≡ outcome_stepped (range_of self.old.memory) self.old.limit outcome (arch_of self.old bus.old) }
-        ensures arch { arch_of self.new bus.new ≡ outcome_made (range_of self.old.memory) self.old.limit destination outcome time (arch_of self.old bus.old) }
+        requires limit { limit ≤ self.old.room }
+        ensures told { Told limit (outcome_result (range_of self.old.memory) (seen_in time (arch_of self.old bus.old)) outcome) (arch_of self.old bus.old) result }
+        ensures arch { arch_of self.new bus.new ≡ outcome_made (range_of self.old.memory) limit destination outcome time (arch_of self.old bus.old) }
+        ensures back { TakesBack (range_of self.old.memory) result (arch_of self.old bus.old) (arch_of self.new bus.new) }
         ensures range { range_of self.new.memory ≡ range_of self.old.memory }
         ensures exec { exec_of self.new.memory ≡ exec_of self.old.memory }
-        ensures limit { self.new.limit ≡ self.old.limit }
+        ensures room { self.new.room ≡ self.old.room }
     {
         if let Some((cause, mtval)) = outcome.cause {
             self.trap(cause.number(), mtval);
-            return Stepped::On;
+            return failed(attempted(outcome.reach), cause);
         }
         let next = outcome.next;
         match outcome.reach {
             Reach::Nothing => {
                 self.finish(destination, outcome.value, next);
-                Stepped::On
+                plain()
             }
             Reach::Load {
                 addr,
@@ -311,36 +435,42 @@ impl Hart {
                     width,
                     signed,
                 };
-                self.load(bus, destination, access, time);
-                Stepped::On
+                self.load(bus, destination, access, time)
             }
-            Reach::Store { addr, width, value } => self.store(
-                bus,
-                StoreAccess {
+            Reach::Store { addr, width, value } => {
+                let access = StoreAccess {
                     next,
                     addr,
                     width,
                     value,
-                },
-            ),
+                };
+                self.store(bus, access, limit)
+            }
         }
     }
 
-    /// Reads and writes a control and status register, or traps where the access is illegal.
+    /// Reads and writes a control and status register, or traps where the access is illegal. Without a time, a register
+    /// that shows it reads 0.
     #[tactic(auto, unfolding(crate::specs::Hart::arch_of))]
-    fn access_csr(&mut self, word: u32, insn: Insn, x: u32, time: u64, cmp: u64)
+    fn access_csr(&mut self, word: u32, insn: Insn, x: u32, time: Option<u64>, cmp: u64) -> Done
         requires exists { IsDestination (dest_of insn) }
         requires count { self.old.csrs.retired < 2 ^ 64 - 1 }
-        ensures arch { (d : Devices) → arch_of self.new d ≡ csr_made word insn (csr_access self.old.csrs insn x time cmp) (arch_of self.old d) }
+        ensures told { (limit : ℕ) (d : Devices) → Told limit (csr_result word insn self.old.pc time (csr_access self.old.csrs insn x (unwrap_or time 0) cmp)) (arch_of self.old d) result }
+        ensures arch { (d : Devices) → arch_of self.new d ≡ csr_made word insn time (csr_access self.old.csrs insn x (unwrap_or time 0) cmp) (arch_of self.old d) }
+        ensures nothing { (result.mem ≡ None) × (result.dev ≡ None) }
         ensures memory { self.new.memory ≡ self.old.memory }
-        ensures limit { self.new.limit ≡ self.old.limit }
+        ensures room { self.new.room ≡ self.old.room }
     {
-        match self.csrs.access(insn, x, time, cmp) {
-            None => self.trap(2, word),
+        match self.csrs.access(insn, x, time.unwrap_or(0), cmp) {
+            None => {
+                self.trap(2, word);
+                failed(Access::Nothing, Cause::IllegalInstruction)
+            }
             Some((value, write)) => {
                 self.csrs.apply(write);
                 let next = wrap_add(self.pc, 4);
-                self.finish(insn.dest(), value, next);
+                self.finish(insn.dest(), csr_value(insn, time, value), next);
+                plain()
             }
         }
     }
@@ -351,59 +481,76 @@ impl Hart {
         requires count { self.old.csrs.retired < 2 ^ 64 - 1 }
         ensures arch { (d : Devices) → arch_of self.new d ≡ mret_made (arch_of self.old d) }
         ensures memory { self.new.memory ≡ self.old.memory }
-        ensures limit { self.new.limit ≡ self.old.limit }
+        ensures room { self.new.room ≡ self.old.room }
     {
         let next = self.csrs.leave();
         self.finish(None, 0, next);
     }
 
-    /// Executes an instruction with a time, and says how it leaves the run.
+    /// Executes an instruction with a time or none and an output limit.
     #[tactic(auto, unfolding(crate::specs::Hart::arch_of))]
-    fn perform<D: Device>(&mut self, bus: &mut Bus<D>, word: u32, insn: Insn, time: u64) -> Stepped
+    fn perform<D: Device>(
+        &mut self,
+        bus: &mut Bus<D>,
+        word: u32,
+        insn: Insn,
+        time: Option<u64>,
+        limit: u32,
+    ) -> Done
         requires fits { Fits insn }
         requires count { self.old.csrs.retired < 2 ^ 64 - 1 }
-        ensures stepped { result ≡ stepped_by self.old.limit self.old.output.items (note_of (result_of (range_of self.old.memory) (known word insn) time (arch_of self.old bus.old)) (arch_of self.old bus.old)) }
-        ensures arch { arch_of self.new bus.new ≡ behind self.old.limit (known word insn) (result_of (range_of self.old.memory) (known word insn) time (arch_of self.old bus.old)) time (arch_of self.old bus.old) }
+        requires limit { limit ≤ self.old.room }
+        ensures told { Told limit (result_of (range_of self.old.memory) (known word insn) time (arch_of self.old bus.old)) (arch_of self.old bus.old) result }
+        ensures arch { arch_of self.new bus.new ≡ behind limit (known word insn) (result_of (range_of self.old.memory) (known word insn) time (arch_of self.old bus.old)) time (arch_of self.old bus.old) }
+        ensures back { TakesBack (range_of self.old.memory) result (arch_of self.old bus.old) (arch_of self.new bus.new) }
         ensures range { range_of self.new.memory ≡ range_of self.old.memory }
         ensures exec { exec_of self.new.memory ≡ exec_of self.old.memory }
-        ensures limit { self.new.limit ≡ self.old.limit }
+        ensures room { self.new.room ≡ self.old.room }
     {
         let (first, second) = insn.sources();
         let x = self.operand(first);
         if is_csr(insn) {
-            self.access_csr(word, insn, x, time, compare(bus));
-            return Stepped::On;
+            return self.access_csr(word, insn, x, time, compare(bus));
         }
         if is_mret(insn) {
             self.leave();
-            return Stepped::On;
+            return plain();
         }
         let y = self.operand(second);
         let outcome = eval(insn, self.pc, x, y);
-        self.reach(bus, insn.dest(), outcome, time)
+        self.reach(bus, insn.dest(), outcome, time, limit)
     }
 
-    /// Executes what was fetched, with a time, and says how it leaves the run.
+    /// Executes what was fetched, with a time or none. Where the output already has as many bytes as the limit, an
+    /// instruction that sends one isn't executed.
     #[tactic(auto, unfolding(crate::specs::Hart::arch_of))]
-    pub fn execute<D: Device>(&mut self, bus: &mut Bus<D>, fetched: Fetched, time: u64) -> Stepped
+    pub fn execute<D: Device>(
+        &mut self,
+        bus: &mut Bus<D>,
+        fetched: Fetched,
+        time: Option<u64>,
+        limit: u32,
+    ) -> Done
         requires fits { FetchedFits fetched }
         requires count { self.old.csrs.retired < 2 ^ 64 - 1 }
-        ensures stepped { result ≡ stepped_by self.old.limit self.old.output.items (note_of (result_of (range_of self.old.memory) (found_in fetched) time (arch_of self.old bus.old)) (arch_of self.old bus.old)) }
-        ensures arch { arch_of self.new bus.new ≡ behind self.old.limit (found_in fetched) (result_of (range_of self.old.memory) (found_in fetched) time (arch_of self.old bus.old)) time (arch_of self.old bus.old) }
+        requires limit { limit ≤ self.old.room }
+        ensures told { Told limit (result_of (range_of self.old.memory) (found_in fetched) time (arch_of self.old bus.old)) (arch_of self.old bus.old) result }
+        ensures arch { arch_of self.new bus.new ≡ behind limit (found_in fetched) (result_of (range_of self.old.memory) (found_in fetched) time (arch_of self.old bus.old)) time (arch_of self.old bus.old) }
+        ensures back { TakesBack (range_of self.old.memory) result (arch_of self.old bus.old) (arch_of self.new bus.new) }
         ensures range { range_of self.new.memory ≡ range_of self.old.memory }
         ensures exec { exec_of self.new.memory ≡ exec_of self.old.memory }
-        ensures limit { self.new.limit ≡ self.old.limit }
+        ensures room { self.new.room ≡ self.old.room }
     {
         match fetched {
             Fetched::Refused(cause) => {
                 self.trap(cause.number(), self.pc);
-                Stepped::On
+                failed(Access::Nothing, cause)
             }
             Fetched::Unknown(word) => {
                 self.trap(2, word);
-                Stepped::On
+                failed(Access::Nothing, Cause::IllegalInstruction)
             }
-            Fetched::Known(word, insn) => self.perform(bus, word, insn, time),
+            Fetched::Known(word, insn) => self.perform(bus, word, insn, time, limit),
         }
     }
 
@@ -413,9 +560,61 @@ impl Hart {
         ensures arch { (d : Devices) → arch_of self.new d ≡ record (arch_of self.old d) { text = text_from (exec_of self.old.memory) (ram_of self.old.memory) } }
         ensures range { range_of self.new.memory ≡ range_of self.old.memory }
         ensures exec { exec_of self.new.memory ≡ exec_of self.old.memory }
-        ensures limit { self.new.limit ≡ self.old.limit }
+        ensures room { self.new.room ≡ self.old.room }
         ensures csrs { self.new.csrs ≡ self.old.csrs }
     {
         self.memory.sync();
+    }
+
+    /// What takes back what was fetched, before it is executed: its address, its register and the control and status
+    /// registers. What it does to memory, devices and output is not in it yet.
+    pub fn before(&self, number: u64, fetched: Fetched) -> Past
+        requires fits { FetchedFits fetched }
+        ensures past { result ≡ record {
+          number = number;
+          addr = self.now.pc;
+          reg = register_before (destination_in (found_in fetched)) (λ r. slice_index self.now.regs r);
+          mem = None;
+          csrs = self.now.csrs;
+          dev = None;
+          out = false;
+        } }
+    {
+        Past {
+            number,
+            addr: self.pc,
+            reg: fetched
+                .destination()
+                .map(|register| (register, self.regs[register as usize])),
+            mem: None,
+            csrs: self.csrs,
+            dev: None,
+            out: false,
+        }
+    }
+
+    /// Takes an instruction back.
+    #[tactic(auto, unfolding(crate::specs::Hart::arch_of, crate::specs::Undo::undone))]
+    pub fn restore<D: Device>(&mut self, bus: &mut Bus<D>, past: Past)
+        requires restorable { IsRestorable past }
+        ensures arch { arch_of self.new bus.new ≡ undone (range_of self.old.memory) past (arch_of self.old bus.old) }
+        ensures range { range_of self.new.memory ≡ range_of self.old.memory }
+        ensures exec { exec_of self.new.memory ≡ exec_of self.old.memory }
+        ensures room { self.new.room ≡ self.old.room }
+    {
+        self.pc = past.addr;
+        self.csrs = past.csrs;
+        if let Some((register, value)) = past.reg {
+            self.regs[register as usize] = value;
+        }
+        if let Some((addr, width, old)) = past.mem {
+            let _ = self.memory.set(addr, width, old);
+        }
+        if let Some((device, undo)) = past.dev {
+            bus.undo(device, undo);
+        }
+        if past.out {
+            self.output.truncate(self.output.len().saturating_sub(1));
+        }
     }
 }

@@ -1,10 +1,15 @@
-//! The functional side: it executes instructions one after the other, and runs alone without a timing side.
+//! The functional side: it executes instructions along the path that the timing side's orders bend, goes back by undoing
+//! and forwards by executing, or runs alone without a timing side.
 #![tactic(auto)]
 
-mod fill;
+mod contents;
+mod done;
 mod found;
 mod hart;
-mod memory;
 mod side;
+mod walk;
 
-pub use side::FuncSide;
+pub use side::{Arch, FuncSide};
+
+#[cfg(test)]
+mod tests;

@@ -5,8 +5,8 @@ use Rattle.std.proofs.lemmas.List.{take-append-drop, append-nil}
 use Rattle.fsim_ports.specs.Sink.{grown, Breaks}
 use Rattle.fsim_ports.proofs.Writing.{breaks_first, breaks_second}
 use Rattle.mono_model.specs.declared.final_state.Final.{Final}
-use Rattle.mono_model.specs.Report.{line, line_feed, joined, status_text, retired_lines, register_lines, csr_lines, ends_open, func_lines, func_report_text}
-use Rattle.report_text.specs.Lines.{output_line, pc_line, counts_text, registers_text, csrs_text}
+use Rattle.mono_model.specs.Report.{line, line_feed, joined, status_text, retired_lines, register_lines, csr_lines, ends_open, func_lines, func_report_text, pipeline_lines, first_level_lines, second_level_lines, state_lines, count_line, misses_line, report_lines, report_text}
+use Rattle.report_text.specs.Lines.{output_line, pc_line, counts_text, progress_text, costs_text, second_level_text, place_text, registers_text, csrs_text}
 
 -- four texts with spaces between them, as they are appended
 pub four_texts : {l0 l1 l2 l3 l4 l5 l6 l7 l8 : List ℕ} (a b c d s : List ℕ) → l0 ≡ [] → l1 ≡ l0 ++ a → l2 ≡ l1 ++ s → l3 ≡ l2 ++ b → l4 ≡ l3 ++ s → l5 ≡ l4 ++ c → l6 ≡ l5 ++ s → l7 ≡ l6 ++ d → l8 ≡ l7 ++ line_feed → l8 ≡ line (a ++ s ++ b ++ s) (c ++ s ++ d)
@@ -51,3 +51,33 @@ unfolding func_lines counts_text registers_text csrs_text
 func_report_text-parts f =
     let counts = line (codes "status: ") (status_text f.end) ∷ retired_lines f ++ output_line f.stats.output ∷ pc_line f.pc ∷ [] in
     joined-append counts (register_lines f.regs ++ csr_lines f) ∙ ap (λ t. joined counts ++ t) (joined-append (register_lines f.regs) (csr_lines f))
+
+-- the report of a run under a machine file in its parts
+report_lines-parts : (f : Final) → report_lines f ≡ (line (codes "status: ") (status_text f.end) ∷ count_line (codes "cycles: ") f.stats.cycles ∷ retired_lines f ++ pipeline_lines f ++ first_level_lines f) ++ (second_level_lines f ++ state_lines f)
+unfolding report_lines
+report_lines-parts f = append_assoc (line (codes "status: ") (status_text f.end) ∷ count_line (codes "cycles: ") f.stats.cycles ∷ retired_lines f ++ pipeline_lines f ++ first_level_lines f) (second_level_lines f) (state_lines f)
+
+pub report_text-parts : (f : Final) → report_text f ≡ progress_text f ++ (costs_text f ++ (second_level_text f ++ (place_text f ++ (registers_text f ++ csrs_text f))))
+unfolding progress_text costs_text second_level_text place_text registers_text csrs_text
+report_text-parts f =
+    let progress = line (codes "status: ") (status_text f.end) ∷ count_line (codes "cycles: ") f.stats.cycles ∷ retired_lines f ++ (count_line (codes "replays: ") f.stats.replays ∷ count_line (codes "fetched: ") f.stats.fetched ∷ count_line (codes "squashed: ") f.stats.squashed ∷ []) in
+    let costs = (count_line (codes "branches: ") f.stats.branches ∷ count_line (codes "mispredicted: ") f.stats.mispredicted ∷ []) ++ first_level_lines f in
+    let place = output_line f.stats.output ∷ pc_line f.pc ∷ [] in
+    let values = register_lines f.regs ++ csr_lines f in
+    ap joined (report_lines-parts f)
+    ∙ joined-append progress (costs ++ (second_level_lines f ++ (place ++ values)))
+    ∙ ap (λ t. joined progress ++ t) (joined-append costs (second_level_lines f ++ (place ++ values))
+    ∙ ap (λ t. joined costs ++ t) (joined-append (second_level_lines f) (place ++ values)
+    ∙ ap (λ t. joined (second_level_lines f) ++ t) (joined-append place values
+    ∙ ap (λ t. joined place ++ t) (joined-append (register_lines f.regs) (csr_lines f)))))
+
+-- the second level has its two lines under version 2 alone
+pub second_level_text-without : (f : Final) → (f.stats.version == 2) ≡ false → [] ≡ second_level_text f
+unfolding second_level_text
+second_level_text-without f other =
+    sym (ap (λ b. joined (if b then misses_line (codes "l2: ") f.stats.l2_accesses f.stats.l2_misses ∷ count_line (codes "writebacks: ") f.stats.writebacks ∷ [] else [])) other)
+
+pub second_level_text-with : (f : Final) → (f.stats.version == 2) ≡ true → joined (misses_line (codes "l2: ") f.stats.l2_accesses f.stats.l2_misses ∷ count_line (codes "writebacks: ") f.stats.writebacks ∷ []) ≡ second_level_text f
+unfolding second_level_text
+second_level_text-with f two =
+    sym (ap (λ b. joined (if b then misses_line (codes "l2: ") f.stats.l2_accesses f.stats.l2_misses ∷ count_line (codes "writebacks: ") f.stats.writebacks ∷ [] else [])) two)

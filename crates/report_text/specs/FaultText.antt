@@ -1,5 +1,5 @@
 -- The exit status and the line of each answer.
-use Rattle.std.specs.Prelude.{ℕ, List, [], ◌++◌, codes, decimal}
+use Rattle.std.specs.Prelude.{ℕ, Bool, true, false, List, [], ◌++◌, codes, decimal}
 use Rattle.std.specs.Fmt.{signed_decimal}
 use Rattle.elf_image.specs.declared.fault.ImageFault.{ImageFault}
 use Rattle.elf_image.specs.declared.fault.ImageFault.TheVariants as image
@@ -9,7 +9,7 @@ use Rattle.mono_model.specs.Report.{line_feed}
 use Rattle.report_text.specs.declared.status.Role.{Role}
 use Rattle.report_text.specs.declared.status.Role.TheVariants as role
 use Rattle.report_text.specs.declared.status.Status.{Status}
-use Rattle.report_text.specs.declared.status.Status.TheVariants.{Pass, Fail, Limit, OutputFull, Running, Usage, Image, Machine, Missing, ReadFault, WriteFault, Memory, TooLong, BadPlan}
+use Rattle.report_text.specs.declared.status.Status.TheVariants.{Pass, Fail, Limit, OutputFull, Running, Shown, Usage, Image, Machine, Missing, ReadFault, WriteFault, Memory, TooLong, BadPlan, Later, BadScript, Sets}
 
 -- the exit status
 abbrev pub status_number : Status → ℕ
@@ -18,6 +18,7 @@ status_number (Fail code) = 1
 status_number Limit = 2
 status_number OutputFull = 3
 status_number Running = 4
+status_number Shown = 5
 status_number Usage = 10
 status_number (Image fault) = 11
 status_number (Machine fault) = 12
@@ -27,12 +28,27 @@ status_number WriteFault = 15
 status_number Memory = 16
 status_number (TooLong role limit) = 17
 status_number (BadPlan place) = 18
+status_number (Later command) = 20
+status_number (BadScript line) = 21
+status_number (Sets machine) = 22
+
+-- the answer has a line; those of a run and that of the sink's fault have none
+abbrev pub has_line : Status → Bool
+has_line Pass = false
+has_line (Fail code) = false
+has_line Limit = false
+has_line OutputFull = false
+has_line Running = false
+has_line Shown = false
+has_line WriteFault = false
+has_line status = true
 
 abbrev pub role_text : Role → List ℕ
 role_text role.Image = codes "image"
 role_text role.Machine = codes "machine"
 role_text role.Plan = codes "plan"
 role_text role.Input = codes "input"
+role_text role.Script = codes "script"
 
 abbrev pub image_fault_text : ImageFault → List ℕ
 image_fault_text image.Short = codes "short"
@@ -58,9 +74,15 @@ machine_fault_text (machine.Range key value) = codes "range " ++ key ++ codes " 
 machine_fault_text (machine.Power key value) = codes "power " ++ key ++ codes " " ++ signed_decimal value
 machine_fault_text machine.Memory = []
 
--- the line of an answer: nothing for those of a run, and for that of the sink
+-- the line of words that are none, with all commands
+unfoldable pub usage_text : List ℕ
+usage_text =
+    codes "fast: usage: fast func IMAGE, run IMAGE MACHINE, sched IMAGE MACHINE PLAN, soak SEED, back IMAGE SCRIPT, "
+    ++ codes "inorder IMAGE MACHINE PLAN, sweep IMAGE MACHINES" ++ line_feed
+
+-- the line of an answer that has one
 unfoldable pub fault_text : Status → List ℕ
-fault_text Usage = codes "fast: usage: fast func IMAGE" ++ line_feed
+fault_text Usage = usage_text
 fault_text (Image fault) = codes "fast: image: " ++ image_fault_text fault ++ line_feed
 fault_text (Machine fault) = codes "fast: machine: " ++ machine_fault_text fault ++ line_feed
 fault_text (Missing role) = codes "fast: missing: " ++ role_text role ++ line_feed
@@ -68,4 +90,7 @@ fault_text (ReadFault role) = codes "fast: read fault: " ++ role_text role ++ li
 fault_text Memory = codes "fast: no memory" ++ line_feed
 fault_text (TooLong role limit) = codes "fast: too long: " ++ role_text role ++ codes " " ++ decimal limit ++ line_feed
 fault_text (BadPlan place) = codes "fast: bad plan: " ++ decimal place ++ line_feed
+fault_text (Later command) = codes "fast: later: " ++ command ++ line_feed
+fault_text (BadScript line) = codes "fast: bad script: " ++ decimal line ++ line_feed
+fault_text (Sets machine) = codes "fast: sets: " ++ decimal machine ++ line_feed
 fault_text status = []

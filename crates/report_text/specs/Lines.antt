@@ -3,7 +3,7 @@ use Rattle.std.specs.Prelude.{ℕ, ◌+◌, List, [], ◌∷◌, ◌++◌, codes
 use Rattle.machine_csr.specs.Csr.{flag}
 use Rattle.machine_csr.specs.declared.csrs.Csrs.{Csrs}
 use Rattle.mono_model.specs.declared.final_state.Final.{Final}
-use Rattle.mono_model.specs.Report.{line, status_text, retired_lines, register_lines, csr_lines, joined, hex}
+use Rattle.mono_model.specs.Report.{line, status_text, count_line, misses_line, retired_lines, second_level_lines, register_lines, csr_lines, joined, hex}
 
 abbrev pub output_line : ℕ → List ℕ
 output_line bytes = line (codes "output: ") (decimal bytes ++ codes " bytes")
@@ -32,3 +32,31 @@ registers_text f = joined (register_lines f.regs)
 
 unfoldable pub csrs_text : Final → List ℕ
 csrs_text f = joined (csr_lines f)
+
+-- the parts of the report of a run under a machine file, in order: progress, predictions and caches, the second level,
+-- output and place, and then registers and CSRs as above
+unfoldable pub progress_text : Final → List ℕ
+progress_text f =
+    joined (line (codes "status: ") (status_text f.end)
+    ∷ count_line (codes "cycles: ") f.stats.cycles
+    ∷ count_line (codes "instructions: ") f.stats.instructions
+    ∷ count_line (codes "exceptions: ") f.stats.exceptions
+    ∷ count_line (codes "interrupts: ") f.stats.interrupts
+    ∷ count_line (codes "replays: ") f.stats.replays
+    ∷ count_line (codes "fetched: ") f.stats.fetched
+    ∷ count_line (codes "squashed: ") f.stats.squashed
+    ∷ [])
+
+unfoldable pub costs_text : Final → List ℕ
+costs_text f =
+    joined (count_line (codes "branches: ") f.stats.branches
+    ∷ count_line (codes "mispredicted: ") f.stats.mispredicted
+    ∷ misses_line (codes "icache: ") f.stats.icache_accesses f.stats.icache_misses
+    ∷ misses_line (codes "dcache: ") f.stats.dcache_accesses f.stats.dcache_misses
+    ∷ [])
+
+unfoldable pub second_level_text : Final → List ℕ
+second_level_text f = joined (second_level_lines f)
+
+unfoldable pub place_text : Final → List ℕ
+place_text f = joined (output_line f.stats.output ∷ pc_line f.pc ∷ [])

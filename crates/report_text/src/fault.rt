@@ -1,8 +1,8 @@
-ghost use Rattle.std.specs.Prelude.{◌≡◌, ◌+◌, ◌≤◌, ◌++◌, length, codes, decimal};
+ghost use Rattle.std.specs.Prelude.{◌≡◌, true, ◌+◌, ◌≤◌, ◌++◌, length, codes, decimal};
 ghost use Rattle.std.specs.Fmt.{signed_decimal};
 ghost use Rattle.fsim_ports.specs.Sink.{Puts};
 ghost use Rattle.mono_model.specs.Report.{line, line_feed};
-ghost use Rattle.report_text.specs.FaultText.{role_text, image_fault_text, machine_fault_text, fault_text};
+ghost use Rattle.report_text.specs.FaultText.{role_text, image_fault_text, machine_fault_text, usage_text, has_line, fault_text};
 
 use crate::line::Line;
 use crate::put::{WriteFault, put_piece, put_two};
@@ -25,6 +25,7 @@ fn role_head(head: &[u8], role: Role) -> Line
         Role::Machine => line.bytes(b"machine"),
         Role::Plan => line.bytes(b"plan"),
         Role::Input => line.bytes(b"input"),
+        Role::Script => line.bytes(b"script"),
     }
     line
 }
@@ -96,6 +97,15 @@ fn image_line(fault: ImageFault) -> Line
     line
 }
 
+/// Writes a name and a number as a line.
+fn put_count<K: Sink>(name: &[u8], number: u64, sink: &mut K) -> Result<(), WriteFault>
+    requires { length name.now ≤ 40 }
+    ensures count { K.faults sink.old ≤ K.faults sink.new }
+    ensures written { Puts (name.now ++ decimal number ++ line_feed) (K.faults sink.old) (K.faults sink.new) (K.written sink.old) (K.written sink.new) result }
+{
+    put_piece(count_line(name, number).as_slice(), sink)
+}
+
 /// What stands behind a key: a blank, its value and the line's end.
 fn value_tail(value: i64) -> Line
     ensures text { result ≡ codes " " ++ signed_decimal value ++ line_feed }
@@ -148,17 +158,30 @@ fn machine_line<K: Sink>(fault: &MachineFault, sink: &mut K) -> Result<(), Write
     }
 }
 
-/// Writes the line of an answer: nothing for the answers that a report goes with, and for that of the sink's fault.
+/// Writes the line of words that are none.
+#[tactic(auto, unfolding(crate::specs::FaultText::usage_text))]
+fn usage_line<K: Sink>(sink: &mut K) -> Result<(), WriteFault>
+    ensures count { K.faults sink.old ≤ K.faults sink.new }
+    ensures written { Puts usage_text (K.faults sink.old) (K.faults sink.new) (K.written sink.old) (K.written sink.new) result }
+{
+    put_piece(
+        b"fast: usage: fast func IMAGE, run IMAGE MACHINE, sched IMAGE MACHINE PLAN, soak SEED, back IMAGE SCRIPT, inorder IMAGE MACHINE PLAN, sweep IMAGE MACHINES\n",
+        sink,
+    )
+}
+
+/// Writes the line of an answer that has one.
 ///
 /// Ok says that the whole line was written. A fault comes only where the sink's count of faults rose, and then a proper
 /// prefix of the line was written. It takes no memory.
 #[tactic(auto, unfolding(crate::specs::FaultText::fault_text))]
 pub fn fault_line<K: Sink>(status: &Status, sink: &mut K) -> Result<(), WriteFault>
+    requires line { has_line status.now ≡ true }
     ensures count { K.faults sink.old ≤ K.faults sink.new }
     ensures written { Puts (fault_text status.now) (K.faults sink.old) (K.faults sink.new) (K.written sink.old) (K.written sink.new) result }
 {
     match status {
-        Status::Usage => put_piece(b"fast: usage: fast func IMAGE\n", sink),
+        Status::Usage => usage_line(sink),
         Status::Image(fault) => put_piece(image_line(*fault).as_slice(), sink),
         Status::Machine(fault) => machine_line(fault, sink),
         Status::Missing(role) => put_piece(role_line(b"fast: missing: ", *role).as_slice(), sink),
@@ -167,10 +190,16 @@ pub fn fault_line<K: Sink>(status: &Status, sink: &mut K) -> Result<(), WriteFau
         }
         Status::Memory => put_piece(b"fast: no memory\n", sink),
         Status::TooLong(role, limit) => put_piece(too_long_line(*role, *limit).as_slice(), sink),
-        Status::BadPlan(place) => put_piece(
-            count_line(b"fast: bad plan: ", *place).as_slice(),
-            sink,
-        ),
-        _ => put_piece(b"", sink),
+        Status::BadPlan(place) => put_count(b"fast: bad plan: ", *place, sink),
+        Status::Later(command) => put_key(b"fast: later: ", command.as_slice(), b"\n", sink),
+        Status::BadScript(line) => put_count(b"fast: bad script: ", *line, sink),
+        Status::Sets(machine) => put_count(b"fast: sets: ", u64::from(*machine), sink),
+        Status::Pass
+        | Status::Fail(_)
+        | Status::Limit
+        | Status::OutputFull
+        | Status::Running
+        | Status::Shown
+        | Status::WriteFault => unreachable!(),
     }
 }

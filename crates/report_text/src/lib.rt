@@ -4,11 +4,15 @@
 mod fault;
 mod line;
 mod put;
-mod report;
 mod report_lines;
 mod status;
+#[cfg(test)]
+mod tests;
+mod timed;
+mod untimed;
 
 pub use fault::fault_line;
 pub use put::WriteFault;
-pub use report::func_report;
 pub use status::{Role, Status};
+pub use timed::report;
+pub use untimed::func_report;

@@ -1,5 +1,5 @@
 ghost use Rattle.std.specs.Prelude.{◌≡◌, ◌+◌, ◌≤◌, ◌<◌, length, codes, decimal, ◌++◌, slice_index};
-ghost use Rattle.mono_model.specs.Report.{line, count_line, status_text, register_text, register_line, hex};
+ghost use Rattle.mono_model.specs.Report.{line, count_line, misses_line, status_text, register_text, register_line, hex};
 ghost use Rattle.machine_csr.specs.Csr.{flag};
 ghost use Rattle.report_text.specs.Lines.{output_line, pc_line, interrupt_csrs_line, trap_csrs_line};
 
@@ -36,6 +36,20 @@ pub fn count_line(name: &[u8], number: u64) -> Line
     line.bytes(name);
     line.number(number);
     line.byte(b'\n');
+    line
+}
+
+/// A name, and how many accesses there were and how many of them missed.
+pub fn misses_line(name: &[u8], accesses: u64, misses: u64) -> Line
+    requires { length name.now ≤ 40 }
+    ensures text { result ≡ misses_line name.now accesses misses }
+{
+    let mut line = Line::new();
+    line.bytes(name);
+    line.number(accesses);
+    line.bytes(b" accesses, ");
+    line.number(misses);
+    line.bytes(b" misses\n");
     line
 }
 

@@ -1,4 +1,5 @@
 use elf_image::ImageFault;
+use fsim_base::Bytes;
 use machine_file::MachineFault;
 
 /// Which of the files that the words name.
@@ -8,6 +9,7 @@ pub enum Role {
     Machine,
     Plan,
     Input,
+    Script,
 }
 
 /// How the program answers; `number` is its exit status.
@@ -23,6 +25,8 @@ pub enum Status {
     OutputFull,
     /// The plan has left the run at a cycle where it has not ended.
     Running,
+    /// What was asked for was shown, and nothing was run to its end.
+    Shown,
     /// The words are no command line.
     Usage,
     /// The image isn't one for this RAM.
@@ -41,6 +45,12 @@ pub enum Status {
     TooLong(Role, u64),
     /// The plan's first byte that is neither an event nor a blank, counted from 0.
     BadPlan(u64),
+    /// The words are a line of this command, which this program doesn't run yet.
+    Later(Bytes),
+    /// The script's first line that is no command, counted from 1.
+    BadScript(u64),
+    /// The machine with this number, counted from 0, has cache sets that it may not have where others run beside it.
+    Sets(u32),
 }
 
 impl Status {
@@ -57,6 +67,7 @@ impl Status {
             Status::Limit => 2,
             Status::OutputFull => 3,
             Status::Running => 4,
+            Status::Shown => 5,
             Status::Usage => 10,
             Status::Image(_) => 11,
             Status::Machine(_) => 12,
@@ -66,6 +77,9 @@ impl Status {
             Status::Memory => 16,
             Status::TooLong(_, _) => 17,
             Status::BadPlan(_) => 18,
+            Status::Later(_) => 20,
+            Status::BadScript(_) => 21,
+            Status::Sets(_) => 22,
         }
     }
 }

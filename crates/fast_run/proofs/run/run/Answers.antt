@@ -1,4 +1,6 @@
 use Rattle.std.proofs.Common.{refl, ◌∙◌, arith}
+use Rattle.mono_model.specs.Alone.{alone}
+use Rattle.func_model.proofs.Walking.{stands_output}
 use Rattle.fast_run.specs.Run.{whole_run}
 use Rattle.fast_run.proofs.Setups.{is_setup-steps}
 use Rattle.fast_run.proofs.run.run.Goals as goal
@@ -13,9 +15,9 @@ pub returns : goal.returns
 unfolding whole_run
 returns g c =
     let setup = c.args.setup.now in
-    let opened = c.in-Ok.ensures.opened in
+    let opened = c.in-Ok.ensures.stands in
     record {
       outcome = c.finish.ensures.outcome setup (omega (arith, (is_setup-steps setup c.requires.sound).0))
-          (c.output.ensures.output ∙ c.alone-last.ensures.output setup refl opened)
+          (c.output.ensures.output ∙ stands_output setup (alone setup setup.cycles).arch _ (c.alone-last.ensures.contents setup refl opened))
           (c.alone-last.ensures.reported setup refl opened);
     }

@@ -1,14 +1,21 @@
 use Rattle.std.proofs.Common.{ℕ, ap, sym, ◌∙◌}
+use Rattle.fsim_base.specs.Number.{wrap_sum}
+use Rattle.fsim_base.specs.declared.access.Access.TheVariants as access
+use Rattle.fsim_base.specs.declared.cause.Cause.TheVariants.{IllegalInstruction}
 use Rattle.mono_model.specs.Arch.{trapped}
-use Rattle.func_model.specs.Memory.{range_of}
+use Rattle.phys_mem.specs.Ram.{range_of}
 use Rattle.func_model.specs.Hart.{arch_of}
-use Rattle.func_model.specs.Steps.{stepped_by}
-use Rattle.func_model.proofs.System.{refused_behind, refused_silent, unknown_behind, unknown_silent}
+use Rattle.func_model.proofs.Concluded.{told_same, told_failed}
+use Rattle.func_model.proofs.System.{refused_behind, refused_result_of, unknown_behind, unknown_result_of}
 use Rattle.func_model.proofs.hart.Hart.execute.Goals as goal
 
-pub returns-in-Refused-clause-stepped : goal.returns-in-Refused-clause-stepped
-returns-in-Refused-clause-stepped g c =
-    rw c.in-Refused.is (sym (ap (stepped_by c.args.self.now.limit c.args.self.now.output.items) (refused_silent (range_of c.args.self.now.memory) c.args.time c.in-Refused.cause (arch_of c.args.self.now c.args.bus.now))))
+pub returns-in-Refused-clause-told : goal.returns-in-Refused-clause-told
+unfolding arch_of
+returns-in-Refused-clause-told g c =
+    rw c.in-Refused.is
+    (told_same c.args.limit _ _ (arch_of c.args.self.now c.args.bus.now) c.failed.result
+    (sym (refused_result_of (range_of c.args.self.now.memory) c.args.time c.in-Refused.cause (arch_of c.args.self.now c.args.bus.now)))
+    (told_failed c.args.limit (wrap_sum c.args.self.now.pc 4) access.Nothing c.in-Refused.cause c.args.self.now.pc (arch_of c.args.self.now c.args.bus.now) c.failed.result c.failed.ensures.done))
 
 pub returns-in-Refused-clause-arch : goal.returns-in-Refused-clause-arch
 unfolding arch_of
@@ -16,15 +23,19 @@ returns-in-Refused-clause-arch g c =
     rw c.in-Refused.is
     (c.trap.ensures.arch c.args.bus.now
     ∙ ap (λ (n : ℕ). trapped n c.args.self.now.pc c.args.self.now.pc (arch_of c.args.self.now c.args.bus.now)) c.number.ensures.code
-    ∙ sym (refused_behind (range_of c.args.self.now.memory) c.args.self.now.limit c.args.time c.in-Refused.cause (arch_of c.args.self.now c.args.bus.now)))
+    ∙ sym (refused_behind (range_of c.args.self.now.memory) c.args.limit c.args.time c.in-Refused.cause (arch_of c.args.self.now c.args.bus.now)))
 
-pub returns-in-Unknown-clause-stepped : goal.returns-in-Unknown-clause-stepped
-returns-in-Unknown-clause-stepped g c =
-    rw c.in-Unknown.is (sym (ap (stepped_by c.args.self.now.limit c.args.self.now.output.items) (unknown_silent (range_of c.args.self.now.memory) c.args.time c.in-Unknown.word (arch_of c.args.self.now c.args.bus.now))))
+pub returns-in-Unknown-clause-told : goal.returns-in-Unknown-clause-told
+unfolding arch_of
+returns-in-Unknown-clause-told g c =
+    rw c.in-Unknown.is
+    (told_same c.args.limit _ _ (arch_of c.args.self.now c.args.bus.now) c.failed-in-Unknown.result
+    (sym (unknown_result_of (range_of c.args.self.now.memory) c.args.time c.in-Unknown.word (arch_of c.args.self.now c.args.bus.now)))
+    (told_failed c.args.limit (wrap_sum c.args.self.now.pc 4) access.Nothing IllegalInstruction c.in-Unknown.word (arch_of c.args.self.now c.args.bus.now) c.failed-in-Unknown.result c.failed-in-Unknown.ensures.done))
 
 pub returns-in-Unknown-clause-arch : goal.returns-in-Unknown-clause-arch
 unfolding arch_of
 returns-in-Unknown-clause-arch g c =
     rw c.in-Unknown.is
     (c.trap-in-Unknown.ensures.arch c.args.bus.now
-    ∙ sym (unknown_behind (range_of c.args.self.now.memory) c.args.self.now.limit c.args.time c.in-Unknown.word (arch_of c.args.self.now c.args.bus.now)))
+    ∙ sym (unknown_behind (range_of c.args.self.now.memory) c.args.limit c.args.time c.in-Unknown.word (arch_of c.args.self.now c.args.bus.now)))

@@ -1,0 +1,90 @@
+// The words of the command line, cut at each space.
+use super::{SMALLEST_PASS, check, image_of};
+use fsim_ports::MemoryFiles;
+use std::test::Fail;
+
+const USAGE: &str =
+    "fast: usage: fast func IMAGE, run IMAGE MACHINE, sched IMAGE MACHINE PLAN, soak SEED, back IMAGE SCRIPT, inorder IMAGE MACHINE PLAN, sweep IMAGE MACHINES\n";
+
+const REFUSED: [&str; 27] = [
+    "",
+    "--help",
+    "walk a",
+    "func",
+    "func ",
+    "func -x",
+    "func a b",
+    "run a",
+    "run a m p",
+    "run --help",
+    "run  m",
+    "run a m --ring 0",
+    "run a m --ring 65537",
+    "run a m --ring 8 --ring 8",
+    "run a m --ring 000000000000000000008",
+    "run a m --ring=",
+    "run a m --ring +8",
+    "soak -1",
+    "sweep a",
+    "func a --ring 8",
+    "func a --cycles 0",
+    "func a --cycles 5 --cycles 5",
+    "func a --output 16777217",
+    "func a --input=",
+    "func a --input -x",
+    "func a --cycles -5",
+    "--cycles 5 func a",
+];
+
+/// Lines of commands that aren't run yet, and the answer.
+const LATER: [(&str, &str); 16] = [
+    ("run a m", "fast: later: run\n"),
+    ("run --ring=8 a m", "fast: later: run\n"),
+    ("run --ring 8 a m", "fast: later: run\n"),
+    ("run a --ring 8 m", "fast: later: run\n"),
+    ("run a m --ring 8", "fast: later: run\n"),
+    ("run a m --ring 00000000000000000008", "fast: later: run\n"),
+    ("run -- --ring -h", "fast: later: run\n"),
+    ("run - -", "fast: later: run\n"),
+    ("sched a m p", "fast: later: sched\n"),
+    ("soak 7", "fast: later: soak\n"),
+    ("soak -- 18446744073709551615", "fast: later: soak\n"),
+    ("back a s", "fast: later: back\n"),
+    ("back a s --history 2", "fast: later: back\n"),
+    ("inorder a m p", "fast: later: inorder\n"),
+    ("sweep a m n", "fast: later: sweep\n"),
+    ("sweep a m --ring 8 n", "fast: later: sweep\n"),
+];
+
+#[test]
+fn refused_words_are_answered_by_the_usage(rt: HostRuntime) -> Result<(), Fail> {
+    let alloc = rt.alloc();
+    let mut files = MemoryFiles::new(alloc);
+    check(&rt, alloc, &[], &mut files, 10, USAGE)?;
+    for text in REFUSED {
+        let words: Vec<&str> = text.split(' ').collect(alloc)?;
+        check(&rt, alloc, words.as_slice(), &mut files, 10, USAGE)?;
+    }
+    Ok(())
+}
+
+#[test]
+fn later_commands_read_no_file(rt: HostRuntime) -> Result<(), Fail> {
+    let alloc = rt.alloc();
+    let mut files = MemoryFiles::new(alloc);
+    files.add("a", image_of(alloc, &SMALLEST_PASS)?.as_slice())?;
+    files.add("m", b"")?;
+    files.fail_at(1)?;
+    for (text, answer) in LATER {
+        let words: Vec<&str> = text.split(' ').collect(alloc)?;
+        check(&rt, alloc, words.as_slice(), &mut files, 20, answer)?;
+    }
+    check(
+        &rt,
+        alloc,
+        &["func", "a"],
+        &mut files,
+        14,
+        "fast: read fault: image\n",
+    )
+}

@@ -1,0 +1,189 @@
+-- An order that is obeyed bends the path.
+use Rattle.std.proofs.Common.{◌≡◌, ℕ, ◌+◌, ◌≤◌, Bool, true, false, List, [], ◌∷◌, length, Option, refl, ap, sym, ◌∙◌, subst, arith}
+use Rattle.rollback_cmds.specs.declared.order.Order.{Order}
+use Rattle.rollback_cmds.specs.declared.order.Order.TheVariants.{Set, Commit, Interrupt, Time, Stop, Sync}
+use Rattle.rollback_cmds.specs.Order.{opens_epoch_of}
+use Rattle.undo_journal.specs.declared.past.Past.{Past}
+use Rattle.mono_model.specs.declared.setup.Setup.{Setup}
+use Rattle.mono_model.specs.Setup.{ram_range}
+use Rattle.mono_model.specs.Arch.{Arch, interrupted, synced, trapped}
+use Rattle.mono_model.specs.Path.{path, time_of, openings}
+use Rattle.mono_model.specs.Demand.{number_of}
+use Rattle.func_model.specs.declared.contents.Contents.{Contents}
+use Rattle.func_model.specs.declared.walk.Walk.{Walk}
+use Rattle.func_model.specs.Contents.{StandsFor}
+use Rattle.func_model.specs.Walk.{LeadsBack, Holds, Stands, GoesOn, IsSameBut, IsMoved, IsObeyed, HasRoom, given_at, committed_of, stopped_of, bytes_before}
+use Rattle.func_model.proofs.Path.{path_below, path_at_set, path_at_interrupt, path_at_time, path_at_sync, path_commit, path_stop}
+use Rattle.func_model.proofs.Leading.{leads_along}
+use Rattle.func_model.proofs.Outputs.{bytes_before_is}
+use Rattle.func_model.proofs.Walking.{ends_at, by_side}
+
+-- how an order leaves the path: below its number as it was, at its number as it was but for the address
+pub record Bends (s : Setup) (o : Order) (os : List Order) (n : ℕ) (pc : ℕ) : Type 0 where
+  pub number : number_of o ≡ n
+  pub opens : opens_epoch_of o ≡ true
+  pub at : path s (o ∷ os) n ≡ record (path s os n) { pc = pc }
+
+-- the output of the path up to an order's number stays
+output_stays : (s : Setup) (o : Order) (os : List Order) (n pc k : ℕ) → Bends s o os n pc → k ≤ n → (path s (o ∷ os) k).output ≡ (path s os k).output
+output_stays s o os n pc k bends within = by_side n k
+    (λ least. let e : k ≡ n = omega arith in
+    let P : ℕ → Type 0 = λ m. (path s (o ∷ os) m).output ≡ (path s os m).output in
+    subst P (sym e) (ap (λ (a : Arch). a.output) bends.at))
+    (λ below. ap (λ (a : Arch). a.output) (path_below s o os k (omega (arith, bends.number))))
+
+opened_by : (o : Order) (os : List Order) (epoch : ℕ) → opens_epoch_of o ≡ true → epoch ≡ openings os → epoch + 1 ≡ openings (o ∷ os)
+opened_by o os epoch opens is = rw opens (omega (arith, is))
+
+-- a walk at the number of an order that leaves memory there as it is
+pub bent_holds : {D : Type 0} (s : Setup) (o : Order) (os : List Order) (n pc : ℕ) (walk : Walk D) (contents : Contents D) (given : Option (ℕ × ℕ)) (stops : Bool) → Holds s os walk →
+    Bends s o os n pc → walk.position ≡ n → walk.committed ≤ n → StandsFor s (record (path s os n) { pc = pc }) contents → contents.hart.room ≡ walk.contents.hart.room →
+    ((k : ℕ) → given_at given k ≡ time_of (o ∷ os) k) →
+    Holds s (o ∷ os) (record walk { contents = contents; epoch = walk.epoch + 1; given = given; is_stopped = stops })
+bent_holds {D} s o os n pc walk contents given stops h bends here from stands space times =
+    let P : Arch → Type 0 = λ a. StandsFor {D = D} s a contents in
+    let Q : ℕ → Type 0 = λ k. StandsFor {D = D} s (path s (o ∷ os) k) contents in
+    let end : walk.committed + length walk.journal.steps ≡ n = ends_at walk.committed walk.position walk.journal.steps (omega (arith, here)) h.held ∙ here in
+    let W : List ℕ → Type 0 = λ output. length output ≤ s.output in
+    record {
+      contents = subst Q (sym here) (subst P (sym bends.at) stands);
+      back = leads_along (ram_range s.params) (path s os) (path s (o ∷ os)) n (λ k below. path_below s o os k (omega (arith, bends.number))) pc bends.at walk.committed walk.journal.steps end h.back;
+      held = h.held;
+      capacity = h.capacity;
+      limit = h.limit;
+      space = space ∙ h.space;
+      given = times;
+      epoch = opened_by o os walk.epoch bends.opens h.epoch;
+      within = subst W (sym (output_stays s o os n pc walk.committed bends from)) h.within;
+    }
+
+-- a walk at the number of an order that is committed with it
+pub record Settles (s : Setup) (o : Order) (os : List Order) (n : ℕ) (to : Arch) : Type 0 where
+  pub opens : opens_epoch_of o ≡ true
+  pub at : path s (o ∷ os) n ≡ to
+  pub output : to.output ≡ (path s os n).output
+
+no_steps : (steps : List Past) → length steps ≡ 0 → steps ≡ []
+no_steps [] is = refl
+no_steps (x ∷ xs) is = cc
+
+pub settled_holds : {D : Type 0} (s : Setup) (o : Order) (os : List Order) (n : ℕ) (to : Arch) (walk : Walk D) (contents : Contents D) (given : Option (ℕ × ℕ)) → Holds s os walk →
+    Settles s o os n to → walk.position ≡ n → walk.committed ≡ n → StandsFor s to contents → contents.hart.room ≡ walk.contents.hart.room →
+    ((k : ℕ) → given_at given k ≡ time_of (o ∷ os) k) →
+    Holds s (o ∷ os) (record walk { contents = contents; epoch = walk.epoch + 1; given = given })
+settled_holds {D} s o os n to walk contents given h settles here all stands space times =
+    let P : Arch → Type 0 = λ a. StandsFor {D = D} s a contents in
+    let Q : ℕ → Type 0 = λ k. StandsFor {D = D} s (path s (o ∷ os) k) contents in
+    let none : walk.journal.steps ≡ [] = no_steps walk.journal.steps (omega (arith, h.held, here, all)) in
+    let L : List Past → Type 0 = λ xs. LeadsBack (ram_range s.params) (path s (o ∷ os)) walk.committed xs in
+    let W : ℕ → Type 0 = λ k. length (path s (o ∷ os) k).output ≤ s.output in
+    let V : ℕ → Type 0 = λ k. length (path s os k).output ≤ s.output in
+    let O : List ℕ → Type 0 = λ output. length output ≤ s.output in
+    record {
+      contents = subst Q (sym here) (subst P (sym settles.at) stands);
+      back = subst L (sym none) tt;
+      held = h.held;
+      capacity = h.capacity;
+      limit = h.limit;
+      space = space ∙ h.space;
+      given = times;
+      epoch = opened_by o os walk.epoch settles.opens h.epoch;
+      within = subst W (sym all) (subst O (sym (ap (λ (a : Arch). a.output) settles.at ∙ settles.output)) (subst V all h.within));
+    }
+
+-- what the contents stand for, where the walk is
+pub contents_at : {D : Type 0} (s : Setup) (os : List Order) (n : ℕ) (walk : Walk D) → Holds s os walk → walk.position ≡ n → StandsFor s (path s os n) walk.contents
+contents_at {D} s os n walk h here =
+    let P : ℕ → Type 0 = λ k. StandsFor {D = D} s (path s os k) walk.contents in
+    subst P here h.contents
+
+pub committed_position : {D : Type 0} (walk next : Walk D) (n : ℕ) → next ≡ record walk { journal = next.journal; committed = n } → next.position ≡ walk.position
+committed_position {D} walk next n same = ap (λ (w : Walk D). w.position) same
+
+-- each order
+pub bends_set : (s : Setup) (m addr : ℕ) (os : List Order) → Bends s (Set m addr) os m addr
+bends_set s m addr os = record { number = refl; opens = refl; at = path_at_set s m addr os }
+
+pub bends_time : (s : Setup) (m v : ℕ) (os : List Order) → Bends s (Time m v) os m (path s os m).pc
+bends_time s m v os = record { number = refl; opens = refl; at = path_at_time s m v os }
+
+pub bends_stop : (s : Setup) (m : ℕ) (os : List Order) → Bends s (Stop m) os m (path s os m).pc
+bends_stop s m os = record { number = refl; opens = refl; at = ap (λ (p : ℕ → Arch). p m) (path_stop s m os) }
+
+pub settles_interrupt : (s : Setup) (m : ℕ) (os : List Order) → Settles s (Interrupt m) os m (interrupted (path s os m))
+unfolding trapped
+settles_interrupt s m os = record { opens = refl; at = path_at_interrupt s m os; output = refl }
+
+pub settles_sync : (s : Setup) (m : ℕ) (os : List Order) → Settles s (Sync m) os m (synced s (path s os m))
+unfolding synced
+settles_sync s m os = record { opens = refl; at = path_at_sync s m os; output = refl }
+
+-- a walk that stands where it holds, by its position
+pub stands_at_number : {D : Type 0} (s : Setup) (o : Order) (os : List Order) (n : ℕ) (walk : Walk D) → Holds s (o ∷ os) walk → walk.position ≡ n → GoesOn (o ∷ os) n →
+    walk.committed ≡ committed_of (o ∷ os) → walk.is_stopped ≡ stopped_of (o ∷ os) → Stands s (o ∷ os) walk
+stands_at_number s o os n walk h here on done stopped =
+    let P : ℕ → Type 0 = λ k. GoesOn (o ∷ os) k in
+    record { holds = h; done = done; stopped = stopped; on = λ still. subst P (sym here) on }
+
+-- Commit leaves the path
+pub commit_stands : {D : Type 0} (s : Setup) (os : List Order) (n : ℕ) (walk next : Walk D) → Stands s os walk → Holds s os next → next.position ≡ walk.position → next.is_stopped ≡ walk.is_stopped →
+    next.committed ≡ n → Stands s (Commit n ∷ os) next
+commit_stands {D} s os n walk next h holds here still done =
+    let P : (ℕ → Arch) → Type 0 = λ p. StandsFor {D = D} s (p next.position) next.contents in
+    let L : (ℕ → Arch) → Type 0 = λ p. LeadsBack (ram_range s.params) p next.committed next.journal.steps in
+    let W : (ℕ → Arch) → Type 0 = λ p. length (p next.committed).output ≤ s.output in
+    let G : ℕ → Type 0 = λ k. GoesOn os k in
+    record {
+      holds = record {
+        contents = subst P (sym (path_commit s n os)) holds.contents;
+        back = subst L (sym (path_commit s n os)) holds.back;
+        held = holds.held;
+        capacity = holds.capacity;
+        limit = holds.limit;
+        space = holds.space;
+        given = holds.given;
+        epoch = omega (arith, holds.epoch);
+        within = subst W (sym (path_commit s n os)) holds.within;
+      };
+      done = done;
+      stopped = still ∙ h.stopped;
+      on = λ running. subst G (sym here) (h.on (sym still ∙ running));
+    }
+
+-- what is committed has room in the output
+pub within_path : {D : Type 0} (s : Setup) (os : List Order) (walk : Walk D) (n : ℕ) → Stands s os walk → walk.is_stopped ≡ false → walk.committed ≤ n → bytes_before walk n ≤ walk.limit →
+    length (path s os n).output ≤ s.output
+within_path s os walk n h running from within = omega (arith, bytes_before_is s os walk h running n from, within, h.holds.limit)
+
+-- what is committed on the way, and all else as the order makes it
+pub settled_moved : {D : Type 0} (n : ℕ) (old mid walk : Walk D) (contents : Contents D) (given : Option (ℕ × ℕ)) → old.is_stopped ≡ false → IsSameBut old mid → mid.position ≡ n →
+    walk ≡ record mid { journal = walk.journal; committed = n } → walk.journal.room ≡ mid.journal.room →
+    IsMoved n n false old (record walk { contents = contents; epoch = walk.epoch + 1; given = given })
+settled_moved {D} n old mid walk contents given running others here same room = record {
+  position = ap (λ (w : Walk D). w.position) same ∙ here;
+  committed = ap (λ (w : Walk D). w.committed) same;
+  stopped = ap (λ (w : Walk D). w.is_stopped) same ∙ others.running ∙ running;
+  epoch = ap (λ (w : Walk D). w.epoch + 1) same ∙ ap (λ (e : ℕ). e + 1) others.epoch;
+  room = room ∙ others.room;
+  limit = ap (λ (w : Walk D). w.limit) same ∙ others.limit;
+}
+
+-- an order to commit, by its number
+pub commit_from : (order : Order) (n k : ℕ) → order ≡ Commit n → k ≤ number_of order → k ≤ n
+commit_from order n k is from = let P : Order → Type 0 = λ o. k ≤ number_of o in subst P is from
+
+pub commit_within : {D : Type 0} (order : Order) (n : ℕ) (walk : Walk D) → order ≡ Commit n → HasRoom order walk walk.limit → bytes_before walk n ≤ walk.limit
+commit_within order n walk is within = let P : Order → Type 0 = λ o. HasRoom o walk walk.limit in subst P is within
+
+pub commit_obeyed : {D : Type 0} (order : Order) (n : ℕ) (old walk : Walk D) → order ≡ Commit n → old.is_stopped ≡ false → walk ≡ record old { journal = walk.journal; committed = n } →
+    walk.journal.room ≡ old.journal.room → IsObeyed order old walk
+commit_obeyed {D} order n old walk is running same room =
+    let P : Order → Type 0 = λ o. IsObeyed {D = D} o old walk in
+    subst P (sym is) (record {
+      position = ap (λ (w : Walk D). w.position) same;
+      committed = ap (λ (w : Walk D). w.committed) same;
+      stopped = ap (λ (w : Walk D). w.is_stopped) same ∙ running;
+      epoch = ap (λ (w : Walk D). w.epoch) same ∙ omega arith;
+      room = room;
+      limit = ap (λ (w : Walk D). w.limit) same;
+    })

@@ -1,0 +1,148 @@
+-- A walk that goes back by its journal, or on by execution.
+use Rattle.std.proofs.Common.{◌≡◌, ℕ, suc, ◌+◌, ◌-◌, ◌≤◌, ◌<◌, List, [], ◌∷◌, ◌++◌, length, refl, ap, sym, ◌∙◌, subst, arith}
+use Rattle.rollback_cmds.specs.declared.order.Order.{Order}
+use Rattle.undo_journal.specs.declared.past.Past.{Past}
+use Rattle.undo_journal.specs.Journal.{Log, from_number}
+use Rattle.mono_model.specs.declared.setup.Setup.{Setup}
+use Rattle.mono_model.specs.Setup.{ram_range}
+use Rattle.mono_model.specs.Arch.{Arch}
+use Rattle.mono_model.specs.Path.{path}
+use Rattle.func_model.specs.declared.contents.Contents.{Contents}
+use Rattle.func_model.specs.declared.walk.Walk.{Walk}
+use Rattle.func_model.specs.Undo.{undone, IsRestorable}
+use Rattle.func_model.specs.Contents.{StandsFor}
+use Rattle.func_model.specs.Walk.{IsStep, LeadsBack, Holds, Stands, IsSameBut, IsHolding, IsStanding}
+use Rattle.func_model.proofs.Leading.{leads_less, leads_from, length_from}
+use Rattle.func_model.proofs.Walking.{one_longer}
+
+-- what holds as instructions are taken back until `n` is the next one
+pub record Backing {D : Type 0} (n : ℕ) (opened walk : Walk D) : Type 0 where
+  pub holds : (s : Setup) (os : List Order) → Holds s os opened → Holds s os walk
+  pub others : IsSameBut opened walk
+  pub above : n < opened.position → n ≤ walk.position
+  pub stays : opened.position ≤ n → walk ≡ opened
+
+pub backing_start : {D : Type 0} (n : ℕ) (walk : Walk D) → Backing n walk walk
+backing_start n walk = record {
+  holds = λ s os h. h;
+  others = record { committed = refl; room = refl; running = refl; epoch = refl; limit = refl };
+  above = λ more. omega arith;
+  stays = λ less. refl;
+}
+
+-- the journal's newest step, where the position is above what is committed
+last_step : {D : Type 0} (s : Setup) (os : List Order) (walk : Walk D) (steps : List Past) (past : Past) → Holds s os walk → walk.committed < walk.position → walk.journal.steps ≡ steps ++ past ∷ [] →
+    LeadsBack (ram_range s.params) (path s os) walk.committed steps × IsStep (ram_range s.params) (path s os) (walk.position - 1) past
+last_step s os walk steps past h above is =
+    let L : List Past → Type 0 = λ xs. LeadsBack (ram_range s.params) (path s os) walk.committed xs in
+    let both = leads_less (ram_range s.params) (path s os) walk.committed steps past (subst L is h.back) in
+    let end : walk.committed + length steps ≡ walk.position - 1 =
+    place walk.committed walk.position (length steps) (length walk.journal.steps) above h.held (ap (length {A = Past}) is ∙ one_longer steps past) in
+    let S : ℕ → Type 0 = λ n. IsStep (ram_range s.params) (path s os) n past in
+    (both.0, subst S end both.1)
+  where
+    place : (committed position count whole : ℕ) → committed < position → whole ≡ position - committed → whole ≡ count + 1 → committed + count ≡ position - 1
+    place committed position count whole above held is = omega arith
+
+pub last_restorable : {D : Type 0} (n : ℕ) (opened walk : Walk D) (journal : Log) (past : Past) → IsHolding opened → opened.committed ≤ n → Backing n opened walk → n < walk.position →
+    walk.journal ≡ record journal { steps = journal.steps ++ past ∷ [] } → IsRestorable past
+last_restorable n opened walk journal past holding from at more is =
+    (last_step holding.setup holding.orders walk journal.steps past (at.holds holding.setup holding.orders holding.holds) (omega (arith, at.others.committed)) (ap (λ (j : Log). j.steps) is)).1.restorable
+
+-- there is such a step
+pub not_empty : {A : Type 0} {D : Type 0} (n : ℕ) (opened walk : Walk D) → IsHolding opened → opened.committed ≤ n → Backing n opened walk → n < walk.position → walk.journal.steps ≡ [] → A
+not_empty n opened walk holding from at more empty =
+    let h = at.holds holding.setup holding.orders holding.holds in
+    let none : length walk.journal.steps ≡ 0 = ap (length {A = Past}) empty in
+    absurd (omega (arith, none, h.held, at.others.committed))
+
+-- one instruction is taken back
+pub backing_more : {D : Type 0} (n : ℕ) (opened walk : Walk D) (contents : Contents D) (journal : Log) (past : Past) → opened.committed ≤ n → Backing n opened walk → n < walk.position →
+    walk.journal ≡ record journal { steps = journal.steps ++ past ∷ [] } →
+    ((s : Setup) (a : Arch) → StandsFor s a walk.contents → StandsFor s (undone (ram_range s.params) past a) contents) → contents.hart.room ≡ walk.contents.hart.room →
+    Backing n opened (record walk { contents = contents; journal = journal; position = walk.position - 1 })
+backing_more {D} n opened walk contents journal past from at more is stands space =
+    let steps : walk.journal.steps ≡ journal.steps ++ past ∷ [] = ap (λ (j : Log). j.steps) is in
+    let above : walk.committed < walk.position = omega (arith, at.others.committed) in
+    let back : (s : Setup) (os : List Order) → Holds s os opened → Holds s os (record walk { contents = contents; journal = journal; position = walk.position - 1 }) = λ s os h.
+    let now : Holds s os walk = at.holds s os h in
+    let last = last_step s os walk journal.steps past now above steps in
+    let P : Arch → Type 0 = λ a. StandsFor {D = D} s a contents in
+    let next : walk.position ≡ suc (walk.position - 1) = omega arith in
+    record {
+      contents = subst P (ap (undone (ram_range s.params) past) (ap (path s os) next) ∙ last.1.back) (stands s (path s os walk.position) now.contents);
+      back = last.0;
+      held = fewer walk.position walk.committed (length journal.steps) (length walk.journal.steps) (ap (length {A = Past}) steps ∙ one_longer journal.steps past) now.held;
+      capacity = sym (ap (λ (j : Log). j.room) is) ∙ now.capacity;
+      limit = now.limit;
+      space = space ∙ now.space;
+      given = now.given;
+      epoch = now.epoch;
+      within = now.within;
+    } in
+    record {
+      holds = back;
+      others = record { committed = at.others.committed; room = sym (ap (λ (j : Log). j.room) is) ∙ at.others.room; running = at.others.running; epoch = at.others.epoch; limit = at.others.limit };
+      above = λ up. omega arith;
+      stays = λ low. absurd (omega (arith, ap (λ (w : Walk D). w.position) (at.stays low)));
+    }
+  where
+    fewer : (position committed count whole : ℕ) → whole ≡ count + 1 → whole ≡ position - committed → count ≡ position - 1 - committed
+    fewer position committed count whole is held = omega arith
+
+-- what holds as instructions are executed until `n` is the next one
+pub record Onward {D : Type 0} (n : ℕ) (opened walk : Walk D) : Type 0 where
+  pub stands : (s : Setup) (os : List Order) → Stands s os opened → Stands s os walk
+  pub others : IsSameBut opened walk
+  pub below : opened.position ≤ n → walk.position ≤ n
+  pub stays : n < opened.position → walk ≡ opened
+
+pub onward_start : {D : Type 0} (n : ℕ) (walk : Walk D) → Onward n walk walk
+onward_start n walk = record {
+  stands = λ s os h. h;
+  others = record { committed = refl; room = refl; running = refl; epoch = refl; limit = refl };
+  below = λ less. less;
+  stays = λ more. refl;
+}
+
+pub onward_standing : {D : Type 0} (n : ℕ) (opened walk : Walk D) → IsStanding opened → Onward n opened walk → IsStanding walk
+onward_standing n opened walk standing at =
+    record { setup = standing.setup; orders = standing.orders; stands = at.stands standing.setup standing.orders standing.stands }
+
+pub onward_more : {D : Type 0} (n : ℕ) (opened walk next : Walk D) → Onward n opened walk → walk.position < n →
+    ((s : Setup) (os : List Order) → Stands s os walk → Stands s os next) → next.position ≡ walk.position + 1 → IsSameBut walk next → Onward n opened next
+onward_more {D} n opened walk next at less stands further others = record {
+  stands = λ s os h. stands s os (at.stands s os h);
+  others = record {
+    committed = others.committed ∙ at.others.committed;
+    room = others.room ∙ at.others.room;
+    running = others.running ∙ at.others.running;
+    epoch = others.epoch ∙ at.others.epoch;
+    limit = others.limit ∙ at.others.limit;
+  };
+  below = λ low. omega (arith, further);
+  stays = λ up. absurd (omega (arith, ap (λ (w : Walk D). w.position) (at.stays up)));
+}
+
+-- more is committed
+pub committed_holds : {D : Type 0} (s : Setup) (os : List Order) (walk : Walk D) (n : ℕ) (journal : Log) → Holds s os walk → walk.committed ≤ n →
+    journal ≡ record walk.journal { steps = from_number n walk.journal.steps } → length (path s os n).output ≤ s.output →
+    Holds s os (record walk { journal = journal; committed = n })
+committed_holds s os walk n journal h from is within =
+    let steps : journal.steps ≡ from_number n walk.journal.steps = ap (λ (j : Log). j.steps) is in
+    let L : List Past → Type 0 = λ xs. LeadsBack (ram_range s.params) (path s os) n xs in
+    record {
+      contents = h.contents;
+      back = subst L (sym steps) (leads_from (ram_range s.params) (path s os) walk.committed n walk.journal.steps h.back from);
+      held = ap (length {A = Past}) steps ∙ length_from (ram_range s.params) (path s os) walk.committed n walk.journal.steps h.back from
+          ∙ rest walk.committed walk.position n (length walk.journal.steps) from h.held;
+      capacity = ap (λ (j : Log). j.room) is ∙ h.capacity;
+      limit = h.limit;
+      space = h.space;
+      given = h.given;
+      epoch = h.epoch;
+      within = within;
+    }
+  where
+    rest : (committed position n count : ℕ) → committed ≤ n → count ≡ position - committed → committed + count - n ≡ position - n
+    rest committed position n count from held = omega arith

@@ -1,0 +1,118 @@
+-- An undo step takes back what execution did.
+use Rattle.std.proofs.Common.{◌≡◌, ℕ, ◌<◌, ◌==◌, ◌++◌, false, if◌then◌else◌, List, [], ◌∷◌, length, Option, Some, None, is_some, refl, ap, ◌∙◌, arith}
+use Rattle.std.proofs.lemmas.Grind.{common_steps}
+use Rattle.std.proofs.lemmas.Bool.Decides.{nat_tests}
+use Rattle.fsim_base.specs.declared.access.RamRange.{RamRange}
+use Rattle.fsim_base.specs.declared.cause.Cause.{Cause}
+use Rattle.device_bus.specs.declared.undo.Note.{Note}
+use Rattle.device_bus.specs.declared.undo.Note.TheVariants as note
+use Rattle.device_bus.specs.Bus.{Devices}
+use Rattle.mono_model.specs.Arch.{Arch, with_register, trapped}
+use Rattle.mono_model.specs.Found.{Found, destination_in}
+use Rattle.mono_model.specs.Result.{Result}
+use Rattle.mono_model.specs.Effect.{effect, effect_by, retired, note_of, with_note}
+use Rattle.mono_model.specs.Sequence.{byte_in}
+use Rattle.func_model.specs.declared.done.Done.{Done}
+use Rattle.func_model.specs.declared.found.Fetched.{Fetched}
+use Rattle.func_model.specs.declared.found.Fetched.TheVariants as fetched
+use Rattle.func_model.specs.Hart.{found_in, FetchedFits, IsDestination}
+use Rattle.func_model.specs.Steps.{is_full, behind, Told}
+use Rattle.func_model.specs.Undo.{registers_back, shortened, undone, IsRegisterPast, IsRestorable, TakesBack, register_before, past_of}
+use Rattle.func_model.proofs.Evaluated.{destination_exists}
+
+-- an output that isn't full lets the instruction be executed
+not_full : (limit : ℕ) (output : List ℕ) (what : Note) → length output < limit → is_full limit output what ≡ false
+not_full limit output note.Nothing room = refl
+not_full limit output (note.Out byte) room = grind (arith, nat_tests)
+not_full limit output (note.End halt) room = refl
+
+pub behind_effect : (limit : ℕ) (found : Found) (r : Result) (time : Option ℕ) (a : Arch) → length a.output < limit → behind limit found r time a ≡ effect found r time a.pc a
+behind_effect limit found r time a room = rw (not_full limit a.output (note_of r a) room) refl
+
+-- registers
+written_back : (destination : Option ℕ) (value : ℕ) (regs : ℕ → ℕ) → registers_back (register_before destination regs) (with_register destination value regs) ≡ regs
+written_back None value regs = refl
+written_back (Some d) value regs =
+    let at : (x : ℕ) → (if x == d then regs d else (if x == d then value else regs x)) ≡ regs x = λ x. grind (arith, common_steps) in
+    λ i x. at x i
+
+kept_back : (destination : Option ℕ) (regs : ℕ → ℕ) → registers_back (register_before destination regs) regs ≡ regs
+kept_back None regs = refl
+kept_back (Some d) regs =
+    let at : (x : ℕ) → (if x == d then regs d else regs x) ≡ regs x = λ x. grind (arith, common_steps) in
+    λ i x. at x i
+
+registers_by : (cause : Option Cause) (found : Found) (r : Result) (time : Option ℕ) (addr : ℕ) (a : Arch) →
+    registers_back (register_before (destination_in found) a.regs) (effect_by cause found r time addr a).regs ≡ a.regs
+unfolding retired trapped
+registers_by None found r time addr a = written_back (destination_in found) r.value a.regs
+registers_by (Some cause) found r time addr a = kept_back (destination_in found) a.regs
+
+effect_registers : (found : Found) (r : Result) (time : Option ℕ) (addr : ℕ) (a : Arch) →
+    registers_back (register_before (destination_in found) a.regs) (effect found r time addr a).regs ≡ a.regs
+unfolding effect
+effect_registers found r time addr a = registers_by r.cause found r time addr a
+
+-- what fetch reads
+text_by : (cause : Option Cause) (found : Found) (r : Result) (time : Option ℕ) (addr : ℕ) (a : Arch) → (effect_by cause found r time addr a).text ≡ a.text
+unfolding retired trapped
+text_by None found r time addr a = refl
+text_by (Some cause) found r time addr a = refl
+
+effect_text : (found : Found) (r : Result) (time : Option ℕ) (addr : ℕ) (a : Arch) → (effect found r time addr a).text ≡ a.text
+unfolding effect
+effect_text found r time addr a = text_by r.cause found r time addr a
+
+-- the output
+output_by : (cause : Option Cause) (found : Found) (r : Result) (time : Option ℕ) (addr : ℕ) (a : Arch) → r.cause ≡ cause →
+    (effect_by cause found r time addr a).output ≡ with_note (note_of r a) a.output
+unfolding retired trapped
+output_by None found r time addr a is = refl
+output_by (Some cause) found r time addr a is = rw is refl
+
+effect_output : (found : Found) (r : Result) (time : Option ℕ) (addr : ℕ) (a : Arch) → (effect found r time addr a).output ≡ with_note (note_of r a) a.output
+unfolding effect
+effect_output found r time addr a = output_by r.cause found r time addr a refl
+
+shortened_one : (output : List ℕ) (byte : ℕ) → shortened (output ++ byte ∷ []) ≡ output
+shortened_one output byte = grind (arith, common_steps)
+
+output_back : (what : Note) (sent : Option ℕ) (output : List ℕ) → sent ≡ byte_in what → (if is_some sent then shortened (with_note what output) else with_note what output) ≡ output
+output_back note.Nothing sent output is = rw is refl
+output_back (note.Out byte) sent output is = rw is (shortened_one output byte)
+output_back (note.End halt) sent output is = rw is refl
+
+-- the parts of a state
+same_parts : (a : Arch) (regs ram text : ℕ → ℕ) (devices : Devices) (output : List ℕ) → regs ≡ a.regs → ram ≡ a.ram → text ≡ a.text → devices ≡ a.devices → output ≡ a.output →
+    record { pc = a.pc; regs = regs; ram = ram; text = text; csrs = a.csrs; devices = devices; output = output } ≡ a
+same_parts a regs ram text devices output r m t d o = λ i. record { pc = a.pc; regs = r i; ram = m i; text = t i; csrs = a.csrs; devices = d i; output = o i }
+
+-- the undo step of an instruction that was executed leads back to the state before it
+pub undone_execute : (range : RamRange) (number : ℕ) (found : Found) (r : Result) (time : Option ℕ) (limit : ℕ) (a b : Arch) (done : Done) →
+    Told limit r a done → b ≡ behind limit found r time a → TakesBack range done a b → length a.output < limit → undone range (past_of number found a done) b ≡ a
+unfolding undone
+undone_execute range number found r time limit a b done told made back room =
+    let e : b ≡ effect found r time a.pc a = made ∙ behind_effect limit found r time a room in
+    same_parts a _ _ _ _ _
+    (ap (λ (x : Arch). registers_back (register_before (destination_in found) a.regs) x.regs) e ∙ effect_registers found r time a.pc a)
+    back.memory
+    (ap (λ (x : Arch). x.text) e ∙ effect_text found r time a.pc a)
+    back.devices
+    (ap (λ (o : List ℕ). if is_some done.sent then shortened o else o) (ap (λ (x : Arch). x.output) e ∙ effect_output found r time a.pc a) ∙ output_back (note_of r a) done.sent a.output told.sent)
+
+-- what an undo step names exists
+register_exists : (destination : Option ℕ) (regs : ℕ → ℕ) → IsDestination destination → IsRegisterPast (register_before destination regs)
+register_exists None regs exists = tt
+register_exists (Some d) regs exists = exists
+
+fetched_exists : (what : Fetched) → FetchedFits what → IsDestination (destination_in (found_in what))
+fetched_exists (fetched.Refused cause) fits = tt
+fetched_exists (fetched.Unknown word) fits = tt
+fetched_exists (fetched.Known word insn) fits = destination_exists insn fits
+
+pub past_restorable : (range : RamRange) (number : ℕ) (what : Fetched) (a b : Arch) (done : Done) → FetchedFits what → TakesBack range done a b → IsRestorable (past_of number (found_in what) a done)
+past_restorable range number what a b done fits back = record {
+  register = register_exists (destination_in (found_in what)) a.regs (fetched_exists what fits);
+  memory = back.aligned;
+  device = back.exists;
+}

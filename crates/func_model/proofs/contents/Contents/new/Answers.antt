@@ -1,0 +1,31 @@
+use Rattle.std.proofs.Common.{arith, ℕ, length, ◌≤◌, ap, sym, ◌∙◌, subst}
+use Rattle.device_bus.specs.Bus.{opening_devices}
+use Rattle.mono_model.specs.Arch.{start}
+use Rattle.func_model.specs.Hart.{arch_of}
+use Rattle.func_model.proofs.Reported.{setup_image, setup_input, setup_output, zeros_at}
+use Rattle.func_model.proofs.contents.Contents.new.Goals as goal
+
+pub start-requires : goal.start-requires
+start-requires g c = let P : _ → Type 0 = λ xs. length {A = ℕ} xs ≤ 16777216 in subst P (sym c.as_slice.ensures.same) (setup_input c.args.setup.now c.requires.sound)
+
+pub new-requires : goal.new-requires
+new-requires g c = setup_image c.args.setup.now c.requires.sound
+
+pub returns-clause-opened : goal.returns-clause-opened
+unfolding arch_of start
+returns-clause-opened g c = record {
+  arch = λ i. record {
+    pc = c.args.setup.now.image.entry;
+    regs = λ r. zeros_at 32 r i;
+    ram = c.in_ok-memory.ensures.ram i;
+    text = c.in_ok-memory.ensures.text i;
+    csrs = c.new-2.ensures.opening i;
+    devices = (c.in_ok-start.ensures.started ∙ ap opening_devices c.as_slice.ensures.same) i;
+    output = c.in-Ok.ensures.items i;
+  };
+  exec = c.in_ok-memory.ensures.exec;
+  range = c.in_ok-memory.ensures.range;
+}
+
+pub overflow_add-room : goal.overflow_add-room
+overflow_add-room g c = record { fits = omega (arith, setup_output c.args.setup.now c.requires.sound, c.requires.ahead) }

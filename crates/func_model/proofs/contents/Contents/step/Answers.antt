@@ -1,0 +1,84 @@
+use Rattle.std.proofs.Common.{◌≡◌, ◌&&◌, Bool, is_none, ap, ◌∙◌}
+use Rattle.undo_journal.specs.declared.past.Past.{Past}
+use Rattle.mono_model.specs.declared.setup.Setup.{Setup}
+use Rattle.mono_model.specs.Arch.{Arch, compare_of}
+use Rattle.mono_model.specs.Found.{word_in, class_in}
+use Rattle.mono_model.specs.Result.{is_time_read}
+use Rattle.phys_mem.specs.Ram.{exec_of, range_of}
+use Rattle.func_model.specs.Hart.{arch_of, found_in}
+use Rattle.func_model.specs.Steps.{result_of}
+use Rattle.func_model.specs.Undo.{past_of, ended_in}
+use Rattle.func_model.specs.Contents.{StandsFor}
+use Rattle.func_model.proofs.Advance.{met_found}
+use Rattle.func_model.proofs.Stepping.{Executed, executed_at, executed_seq, entry_told, back_from}
+use Rattle.func_model.proofs.contents.Contents.step.Given as given
+use Rattle.func_model.proofs.contents.Contents.step.Goals as goal
+
+-- the instruction as it was executed at the state that the contents stand for
+executed : (g : given.Over) (c : goal.After-past-1 g) (s : Setup) (a : Arch) → StandsFor s a c.args.self.now →
+    Executed s c.args.time c.args.self.now.hart.room a (found_in c.fetch-fetched.result) c.execute-done.result (arch_of c.execute-done.new.self c.execute-done.new.bus)
+unfolding arch_of
+executed g c s a h =
+    executed_at s c.args.time c.args.self.now.hart.room (range_of c.args.self.now.hart.memory) (found_in c.fetch-fetched.result) (arch_of c.args.self.now.hart c.args.self.now.bus) a
+    (arch_of c.execute-done.new.self c.execute-done.new.bus) c.execute-done.result h.arch h.range
+    (met_found s (exec_of c.args.self.now.hart.memory) (found_in c.fetch-fetched.result) (arch_of c.args.self.now.hart c.args.self.now.bus) a h.exec h.arch c.fetch-fetched.ensures.found)
+    c.execute-done.ensures.told c.execute-done.ensures.arch c.requires.room
+
+-- the undo step, whole
+past_is : (g : given.Over) (c : goal.After-past-1 g) →
+    (record c.before-before.result { mem = c.execute-done.result.mem; dev = c.execute-done.result.dev; out = c.is_some.result }) ≡ past_of c.args.number (found_in c.fetch-fetched.result) (arch_of c.args.self.now.hart c.args.self.now.bus) c.execute-done.result
+unfolding arch_of
+past_is g c =
+    ap (λ (p : Past). record p { mem = c.execute-done.result.mem; dev = c.execute-done.result.dev; out = c.is_some.result }) c.before-before.ensures.past
+    ∙ ap (λ (o : Bool). record (past_of c.args.number (found_in c.fetch-fetched.result) (arch_of c.args.self.now.hart c.args.self.now.bus) c.execute-done.result) { out = o }) c.is_some.ensures
+
+pub returns-clause-stands : goal.returns-clause-stands
+returns-clause-stands g c = λ s a h. record {
+  arch = executed_seq s c.args.time c.args.self.now.hart.room a (found_in c.fetch-fetched.result) c.execute-done.result (arch_of c.execute-done.new.self c.execute-done.new.bus) (executed g c s a h);
+  exec = c.execute-done.ensures.exec ∙ h.exec;
+  range = c.execute-done.ensures.range ∙ h.range;
+}
+
+pub returns-clause-back : goal.returns-clause-back
+unfolding arch_of
+returns-clause-back g c = λ s a h.
+    back_from s c.args.time c.args.self.now.hart.room c.args.number (range_of c.args.self.now.hart.memory) (found_in c.fetch-fetched.result)
+    (result_of (range_of c.args.self.now.hart.memory) (found_in c.fetch-fetched.result) c.args.time (arch_of c.args.self.now.hart c.args.self.now.bus))
+    (arch_of c.args.self.now.hart c.args.self.now.bus) a (arch_of c.execute-done.new.self c.execute-done.new.bus) c.execute-done.result _ h.arch h.range (past_is g c)
+    c.execute-done.ensures.told c.execute-done.ensures.arch c.execute-done.ensures.back c.requires.room
+    (executed_seq s c.args.time c.args.self.now.hart.room a (found_in c.fetch-fetched.result) c.execute-done.result (arch_of c.execute-done.new.self c.execute-done.new.bus) (executed g c s a h))
+
+pub returns-clause-entry : goal.returns-clause-entry
+unfolding arch_of
+returns-clause-entry g c = λ s a h.
+    let same : _ ≡ record {
+      number = c.args.number;
+      epoch = c.args.epoch;
+      addr = a.pc;
+      word = word_in (found_in c.fetch-fetched.result);
+      access = c.execute-done.result.access;
+      next = c.execute-done.new.self.pc;
+      cause = c.execute-done.result.cause;
+      class = class_in (found_in c.fetch-fetched.result);
+      unserved = is_time_read (found_in c.fetch-fetched.result) c.execute-done.result.access && is_none c.args.time;
+      out = c.execute-done.result.sent;
+      halt = ended_in c.execute-done.result.stepped;
+      irq_on = c.execute-done.new.self.csrs.mie && c.execute-done.new.self.csrs.mtie;
+      cmp = compare_of c.execute-done.new.bus;
+    } = λ i. record {
+      number = c.args.number;
+      epoch = c.args.epoch;
+      addr = (ap (λ (p : Past). p.addr) c.before-before.ensures.past ∙ ap (λ (x : Arch). x.pc) h.arch) i;
+      word = c.word.ensures.word i;
+      access = c.execute-done.result.access;
+      next = c.execute-done.new.self.pc;
+      cause = c.execute-done.result.cause;
+      class = c.class.ensures.class i;
+      unserved = c.is_unserved.ensures.unserved i;
+      out = c.execute-done.result.sent;
+      halt = c.halt_in.ensures.halt i;
+      irq_on = c.takes_interrupts.ensures.on i;
+      cmp = c.compare.ensures.compare i;
+    } in
+    same ∙ entry_told s c.args.time c.args.self.now.hart.room c.args.number c.args.epoch a (found_in c.fetch-fetched.result) c.execute-done.result
+    (arch_of c.execute-done.new.self c.execute-done.new.bus) (executed g c s a h)

@@ -1,5 +1,0 @@
-use Rattle.func_model.proofs.Running.{Invariant}
-use Rattle.func_model.proofs.side.FuncSide.alone.Given as goal
-
-abbrev pub invariant-loop-made : goal.invariant-loop-made
-invariant-loop-made g l = Invariant l.steps l.made l.interrupts l.fn.self l.self

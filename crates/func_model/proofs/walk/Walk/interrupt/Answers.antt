@@ -1,0 +1,22 @@
+use Rattle.std.proofs.Common.{None, refl, ap, ◌∙◌}
+use Rattle.mono_model.specs.Arch.{interrupted}
+use Rattle.func_model.specs.declared.walk.Walk.{Walk}
+use Rattle.mono_model.specs.Path.{path}
+use Rattle.func_model.proofs.Path.{goes_on_interrupt}
+use Rattle.func_model.proofs.Bending.{settled_holds, settles_interrupt, contents_at, stands_at_number, within_path, committed_position, settled_moved}
+use Rattle.func_model.proofs.walk.Walk.interrupt.Goals as goal
+
+pub returns-clause-stands : goal.returns-clause-stands
+returns-clause-stands g c = λ s os h.
+    let done = c.commit.ensures.holds s os (c.go_to.ensures.holds s os h) (within_path s os c.args.self.now c.args.n h c.requires.running c.requires.from c.requires.within) in
+    let here = committed_position c.go_to.new.self c.commit.new.self c.args.n c.commit.ensures.others ∙ c.go_to.ensures.position in
+    stands_at_number s _ os c.args.n _
+    (settled_holds s _ os c.args.n (interrupted (path s os c.args.n)) c.commit.new.self c.interrupted.new.self None done (settles_interrupt s c.args.n os)
+    here c.commit.ensures.committed (c.interrupted.ensures.stands s (path s os c.args.n) (contents_at s os c.args.n c.commit.new.self done here)) c.interrupted.ensures.room (λ k. refl))
+    here (goes_on_interrupt c.args.n os) c.commit.ensures.committed
+    (ap (λ (w : Walk g.row.D.Denot). w.is_stopped) c.commit.ensures.others ∙ c.go_to.ensures.others.running ∙ h.stopped)
+
+pub returns-clause-moved : goal.returns-clause-moved
+returns-clause-moved g c =
+    settled_moved c.args.n c.args.self.now c.go_to.new.self c.commit.new.self c.interrupted.new.self None c.requires.running c.go_to.ensures.others c.go_to.ensures.position
+    c.commit.ensures.others c.commit.ensures.room

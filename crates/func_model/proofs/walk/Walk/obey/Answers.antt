@@ -1,0 +1,19 @@
+use Rattle.std.proofs.Common.{ap, sym, subst, ◌∷◌}
+use Rattle.rollback_cmds.specs.declared.order.Order.{Order}
+use Rattle.func_model.specs.declared.walk.Walk.{Walk}
+use Rattle.func_model.specs.Walk.{Stands}
+use Rattle.func_model.proofs.Bending.{commit_stands, commit_from, commit_within, commit_obeyed, committed_position, within_path}
+use Rattle.func_model.proofs.walk.Walk.obey.Goals as goal
+
+pub returns-in-Commit-clause-stands : goal.returns-in-Commit-clause-stands
+returns-in-Commit-clause-stands g c = λ s os h.
+    let P : Order → Type 0 = λ o. Stands s (o ∷ os) c.commit.new.self in
+    let from = commit_from c.args.order c.in-Commit.n c.args.self.now.committed c.in-Commit.is c.requires.from in
+    let within = within_path s os c.args.self.now c.in-Commit.n h c.requires.running from (commit_within c.args.order c.in-Commit.n c.args.self.now c.in-Commit.is c.requires.within) in
+    subst P (sym c.in-Commit.is)
+    (commit_stands s os c.in-Commit.n c.args.self.now c.commit.new.self h (c.commit.ensures.holds s os h.holds within)
+    (committed_position c.args.self.now c.commit.new.self c.in-Commit.n c.commit.ensures.others) (ap (λ (w : Walk g.row.D.Denot). w.is_stopped) c.commit.ensures.others) c.commit.ensures.committed)
+
+pub returns-in-Commit-clause-moved : goal.returns-in-Commit-clause-moved
+returns-in-Commit-clause-moved g c =
+    commit_obeyed c.args.order c.in-Commit.n c.args.self.now c.commit.new.self c.in-Commit.is c.requires.running c.commit.ensures.others c.commit.ensures.room

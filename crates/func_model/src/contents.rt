@@ -1,0 +1,294 @@
+ghost use Rattle.std.specs.Prelude.{◌≡◌, ◌<◌, ◌≤◌, ◌+◌, ◌-◌, ◌^◌, Some, IfOk, is_none, length, ◌&&◌, map, true, if◌then◌else◌};
+ghost use Rattle.mono_model.specs.Final.{end_of};
+ghost use Rattle.mono_model.specs.Result.{is_time_load, is_time_read};
+ghost use Rattle.func_model.specs.Hart.{found_in};
+ghost use Rattle.func_model.specs.Undo.{ended_in};
+
+use crate::done::Stepped;
+use crate::found::Fetched;
+use crate::hart::{Hart, compare};
+use device_bus::{Bus, Device};
+use fsim_base::{Access, Halt, NoMemory, RamRange, Width};
+use machine_csr::Csrs;
+use mono_model::{End, Final, Setup, Stats};
+use phys_mem::Ram;
+use std::alloc::Global;
+use trace_entry::Entry;
+use undo_journal::Past;
+
+/// The end that the program asked for.
+fn end_of(halt: Halt) -> End
+    ensures end { result ≡ end_of halt }
+{
+    match halt {
+        Halt::Pass => End::Pass,
+        Halt::Fail(code) => End::Fail(code),
+    }
+}
+
+/// How the program ended the run, where it did.
+fn halt_in(stepped: Stepped) -> Option<Halt>
+    ensures halt { result ≡ ended_in stepped }
+{
+    match stepped {
+        Stepped::Ended(halt) => Some(halt),
+        _ => None,
+    }
+}
+
+/// Whether an access reads the timer's time.
+fn is_time_load(access: Access) -> bool
+    ensures load { result ≡ is_time_load access }
+{
+    match access {
+        Access::Load {
+            addr,
+            width: Width::Word,
+            ..
+        } => addr == 0x0200_bff8 || addr == 0x0200_bffc,
+        _ => false,
+    }
+}
+
+/// Whether what was fetched, with the access that it made, reads the time and was given none.
+fn is_unserved(fetched: Fetched, access: Access, time: Option<u64>) -> bool
+    ensures unserved { result ≡ (is_time_read (found_in fetched) access && is_none time) }
+{
+    (fetched.reads_time() || is_time_load(access)) && time.is_none()
+}
+
+/// Whether the timer's interrupt would be taken once it is pending.
+fn takes_interrupts(csrs: &Csrs) -> bool
+    ensures on { result ≡ (csrs.now.mie && csrs.now.mtie) }
+{
+    csrs.mie && csrs.mtie
+}
+
+/// What a functional side holds of the machine: the hart with its memory and output, and the devices.
+#[derive(Drop)]
+pub struct Contents<D: Device> {
+    pub hart: Hart,
+    pub bus: Bus<D>,
+}
+
+impl<D: Device> Contents<D> {
+    ghost use Rattle.mono_model.specs.declared.setup.Setup.{Setup};
+    ghost use Rattle.machine_csr.specs.Trap.{timer_pending};
+    ghost use Rattle.device_bus.specs.Bus.{device_order};
+    ghost use Rattle.mono_model.specs.Setup.{is_setup, ram_range};
+    ghost use Rattle.mono_model.specs.Arch.{Arch, compare_of, start, interrupted, synced};
+    ghost use Rattle.mono_model.specs.Alone.{Alone, alone, alone_final};
+    ghost use Rattle.mono_model.specs.Effect.{note_of};
+    ghost use Rattle.mono_model.specs.Sequence.{found_next, result_at, entry_at, seq};
+    ghost use Rattle.func_model.specs.Steps.{stepped_by};
+    ghost use Rattle.func_model.specs.Contents.{StandsFor, retired_in, output_in, after_instruction, before};
+    ghost use Rattle.func_model.specs.Undo.{undone, IsRestorable};
+
+    /// Executes the next instruction with a time, and says how it leaves the run.
+    fn advance(&mut self, time: u64, limit: u32) -> Stepped
+        requires count { retired_in self.old < 2 ^ 64 - 1 }
+        requires limit { limit ≤ self.old.hart.room }
+        ensures stepped { (s : Setup) (a : Arch) → s.output ≡ limit → StandsFor s a self.old → result ≡ stepped_by s.output a.output (note_of (result_at s (Some time) a) a) }
+        ensures stands { (s : Setup) (a : Arch) → s.output ≡ limit → StandsFor s a self.old → StandsFor s (after_instruction s (found_next s a) (result_at s (Some time) a) time a) self.new }
+        ensures bound { retired_in self.new ≤ retired_in self.old + 1 }
+        ensures room { self.new.hart.room ≡ self.old.hart.room }
+    {
+        let fetched = self.hart.fetch();
+        let done = self.hart.execute(&mut self.bus, fetched, Some(time), limit);
+        if fetched.is_fence_i() {
+            self.hart.sync();
+        }
+        done.stepped
+    }
+
+    /// Takes a pending timer interrupt, and counts it.
+    fn interrupt(&mut self, time: u64) -> u64
+        ensures pending { (s : Setup) (a : Arch) → StandsFor s a self.old → result ≡ (if timer_pending a.csrs time (compare_of a.devices) then 1 else 0) }
+        ensures one { result ≤ 1 }
+        ensures stands { (s : Setup) (a : Arch) → StandsFor s a self.old → StandsFor s (before time a) self.new }
+        ensures retired { retired_in self.new ≡ retired_in self.old }
+        ensures room { self.new.hart.room ≡ self.old.hart.room }
+    {
+        if !takes_interrupts(&self.hart.csrs) {
+            return 0;
+        }
+        let cmp = compare(&self.bus);
+        if !self.hart.csrs.timer_pending(time, cmp) {
+            return 0;
+        }
+        self.hart.trap(0x8000_0007, 0);
+        1
+    }
+
+    /// What is reported of a run that ended so after `made` steps.
+    fn report(&self, end: End, made: u64, interrupts: u64) -> Final
+        ensures reported { (s : Setup) (m : Alone) → StandsFor s m.arch self.now → m.end ≡ end → m.interrupts ≡ interrupts → m.exceptions ≡ made - retired_in self.now → result ≡ alone_final m }
+    {
+        let stats = Stats {
+            version: 0,
+            cycles: 0,
+            instructions: self.hart.csrs.retired,
+            exceptions: made.saturating_sub(self.hart.csrs.retired),
+            interrupts,
+            replays: 0,
+            fetched: 0,
+            squashed: 0,
+            branches: 0,
+            mispredicted: 0,
+            icache_accesses: 0,
+            icache_misses: 0,
+            dcache_accesses: 0,
+            dcache_misses: 0,
+            l2_accesses: 0,
+            l2_misses: 0,
+            writebacks: 0,
+            output: self.hart.output.len() as u64,
+        };
+        Final {
+            end,
+            stats,
+            pc: self.hart.pc,
+            regs: self.hart.regs,
+            csrs: self.hart.csrs,
+            cmp: compare(&self.bus),
+        }
+    }
+
+    /// Runs alone: one instruction a step, with the step's number as its time, until the program ends the run, the output
+    /// has no room for a byte, or so many steps were made. Nothing was executed before.
+    pub fn alone(&mut self, steps: u64, limit: u32) -> Final
+        requires fresh { retired_in self.old ≡ 0 }
+        requires some { 1 ≤ steps }
+        requires bounded { steps < 2 ^ 63 }
+        requires limit { limit ≤ self.old.hart.room }
+        ensures reported { (s : Setup) → s.cycles ≡ steps → s.output ≡ limit → StandsFor s (start s) self.old → result ≡ alone_final (alone s steps) }
+        ensures contents { (s : Setup) → s.cycles ≡ steps → s.output ≡ limit → StandsFor s (start s) self.old → StandsFor s (alone s steps).arch self.new }
+    {
+        let mut interrupts = 0;
+        for made in 0..steps {
+            interrupts += self.interrupt(made);
+            match self.advance(made, limit) {
+                Stepped::On => {}
+                Stepped::Full => return self.report(End::OutputFull, made, interrupts),
+                Stepped::Ended(halt) => return self.report(end_of(halt), made + 1, interrupts),
+            }
+        }
+        self.report(End::Limit, steps, interrupts)
+    }
+
+    /// The output so far.
+    pub fn output(&self) -> &[u8]
+        ensures output { result.now ≡ output_in self.now }
+    {
+        self.hart.output.as_slice()
+    }
+
+    /// The contents at the start of a run. They take all memory of the run here, but for the journal's: RAM, output and
+    /// what the devices keep. The output has room for `ahead` bytes beyond its limit.
+    pub fn new(
+        alloc: Global,
+        setup: &Setup,
+        ahead: u32,
+        devices: Vec<D>,
+    ) -> Result<Contents<D>, NoMemory>
+        requires sound { is_setup setup.now ≡ true }
+        requires order { map D.kind devices.items ≡ device_order }
+        requires ahead { ahead ≤ 65794 }
+        ensures opened { IfOk result (λ contents. StandsFor setup.now (start setup.now) contents) }
+        ensures fresh { IfOk result (λ contents. retired_in contents ≡ 0) }
+        ensures room { IfOk result (λ contents. contents.hart.room ≡ setup.now.output + ahead) }
+    {
+        let range = RamRange {
+            base: setup.params.ram_base,
+            size: setup.params.ram_size,
+        };
+        let mut bus = Bus::new(devices);
+        bus.start(alloc, setup.input.as_slice())?;
+        let memory = Ram::new(alloc, range, &setup.image)?;
+        let room = setup.output + ahead;
+        let Ok(output) = Vec::with_capacity(alloc, room as usize) else {
+            return Err(NoMemory);
+        };
+        let hart = Hart {
+            pc: setup.image.entry,
+            regs: [0; 32],
+            csrs: Csrs::new(),
+            memory,
+            output,
+            room,
+        };
+        Ok(Contents { hart, bus })
+    }
+
+    /// Executes the next instruction, with its number, epoch and time or none: what is told of it, and what takes it back.
+    pub fn step(&mut self, number: u64, epoch: u64, time: Option<u64>) -> (Entry, Past)
+        requires count { retired_in self.old < 2 ^ 64 - 1 }
+        requires room { length (output_in self.old) < self.old.hart.room }
+        ensures stands { (s : Setup) (a : Arch) → StandsFor s a self.old → StandsFor s (seq s time a) self.new }
+        ensures entry { (s : Setup) (a : Arch) → StandsFor s a self.old → result.0 ≡ entry_at s time a number epoch }
+        ensures back { (s : Setup) (a : Arch) → StandsFor s a self.old → undone (ram_range s.params) result.1 (seq s time a) ≡ a }
+        ensures number { result.1.number ≡ number }
+        ensures restorable { IsRestorable result.1 }
+        ensures room { self.new.hart.room ≡ self.old.hart.room }
+    {
+        let fetched = self.hart.fetch();
+        let before = self.hart.before(number, fetched);
+        let room = self.hart.room;
+        let done = self.hart.execute(&mut self.bus, fetched, time, room);
+        let entry = Entry {
+            number,
+            epoch,
+            addr: before.addr,
+            word: fetched.word(),
+            access: done.access,
+            next: self.hart.pc,
+            cause: done.cause,
+            class: fetched.class(),
+            unserved: is_unserved(fetched, done.access, time),
+            out: done.sent,
+            halt: halt_in(done.stepped),
+            irq_on: takes_interrupts(&self.hart.csrs),
+            cmp: compare(&self.bus),
+        };
+        let past = Past {
+            mem: done.mem,
+            dev: done.dev,
+            out: done.sent.is_some(),
+            ..before
+        };
+        (entry, past)
+    }
+
+    /// Takes an instruction back.
+    pub fn undo(&mut self, past: Past)
+        requires restorable { IsRestorable past }
+        ensures stands { (s : Setup) (a : Arch) → StandsFor s a self.old → StandsFor s (undone (ram_range s.params) past a) self.new }
+        ensures room { self.new.hart.room ≡ self.old.hart.room }
+    {
+        self.hart.restore(&mut self.bus, past);
+    }
+
+    /// Goes on at another address.
+    pub fn jump(&mut self, addr: u32)
+        ensures stands { (s : Setup) (a : Arch) → StandsFor s a self.old → StandsFor s (record a { pc = addr }) self.new }
+        ensures room { self.new.hart.room ≡ self.old.hart.room }
+    {
+        self.hart.pc = addr;
+    }
+
+    /// Takes the timer interrupt.
+    pub fn interrupted(&mut self)
+        ensures stands { (s : Setup) (a : Arch) → StandsFor s a self.old → StandsFor s (interrupted a) self.new }
+        ensures room { self.new.hart.room ≡ self.old.hart.room }
+    {
+        self.hart.trap(0x8000_0007, 0);
+    }
+
+    /// Lets fetch see memory as it stands.
+    pub fn sync(&mut self)
+        ensures stands { (s : Setup) (a : Arch) → StandsFor s a self.old → StandsFor s (synced s a) self.new }
+        ensures room { self.new.hart.room ≡ self.old.hart.room }
+    {
+        self.hart.sync();
+    }
+}

@@ -1,0 +1,279 @@
+ghost use Rattle.std.specs.Prelude.{◌≡◌, ◌↔◌, ◌<◌, ◌≤◌, ◌+◌, ◌^◌, ℕ, Option, Some, None, true, false, map, IfOk, IfSome, IfNone, IsNone, length};
+
+use crate::contents::Contents;
+use device_bus::Device;
+use fsim_base::NoMemory;
+use mono_model::Setup;
+use rollback_cmds::Order;
+use std::alloc::Global;
+use trace_entry::Entry;
+use undo_journal::Journal;
+
+/// A walk along a path: what the machine holds at a position, and what leads back from there to what is committed.
+#[derive(Drop)]
+pub struct Walk<D: Device> {
+    pub contents: Contents<D>,
+    pub journal: Journal,
+    /// The number of the next instruction.
+    pub position: u64,
+    /// The number of the first instruction that isn't committed.
+    pub committed: u64,
+    /// How many orders that open an epoch were obeyed.
+    pub epoch: u64,
+    /// An instruction, by its number, and the time that it was given.
+    pub given: Option<(u64, u64)>,
+    pub is_stopped: bool,
+    /// How many bytes of output have room in a run without a timing side.
+    pub limit: u32,
+}
+
+impl<D: Device> Walk<D> {
+    ghost use Rattle.std.specs.Prelude.{List, ◌∷◌, []};
+    ghost use Rattle.rollback_cmds.specs.declared.order.Order.{Order as SpecOrder};
+    ghost use Rattle.rollback_cmds.specs.declared.order.Order.TheVariants.{Set, Interrupt, Time, Stop, Sync};
+    ghost use Rattle.mono_model.specs.declared.setup.Setup.{Setup as RunSetup};
+    ghost use Rattle.device_bus.specs.Bus.{device_order};
+    ghost use Rattle.mono_model.specs.Setup.{is_setup};
+    ghost use Rattle.mono_model.specs.Path.{path, entry};
+    ghost use Rattle.mono_model.specs.Demand.{number_of};
+    ghost use Rattle.func_model.specs.Walk.{Holds, Stands, IsHolding, IsSameBut, IsStanding, IsFresh, IsMoved, IsForward, IsAtRest, IsProduced, IsObeyed, HasRoom, bytes_before, given_at};
+
+    /// The walk at the start of a run. All memory of the run is taken here.
+    pub fn new(alloc: Global, setup: &Setup, devices: Vec<D>) -> Result<Walk<D>, NoMemory>
+        requires sound { is_setup setup.now ≡ true }
+        requires order { map D.kind devices.items ≡ device_order }
+        ensures stands { IfOk result (λ walk. Stands setup.now [] walk) }
+        ensures opening { IfOk result IsFresh }
+    {
+        let ahead = setup.params.core_window + setup.ring + 2;
+        let journal = Journal::with_room(alloc, ahead)?;
+        let contents = Contents::new(alloc, setup, ahead, devices)?;
+        Ok(Walk {
+            contents,
+            journal,
+            position: 0,
+            committed: 0,
+            epoch: 0,
+            given: None,
+            is_stopped: false,
+            limit: setup.output,
+        })
+    }
+
+    /// The time that the next instruction was given.
+    fn time(&self) -> Option<u64>
+        ensures time { result ≡ given_at self.now.given self.now.position }
+    {
+        match self.given {
+            Some((number, time)) if number == self.position => Some(time),
+            _ => None,
+        }
+    }
+
+    /// Executes the next instruction, and notes what takes it back, unless it is committed.
+    fn step(&mut self) -> Entry
+        requires standing { IsStanding self.old }
+        requires running { self.old.is_stopped ≡ false }
+        requires room { self.old.position < self.old.committed + self.old.journal.room }
+        requires bounded { self.old.position < 2 ^ 63 }
+        ensures stands { (s : RunSetup) (os : List SpecOrder) → Stands s os self.old → Stands s os self.new }
+        ensures entry { (s : RunSetup) (os : List SpecOrder) → Stands s os self.old → result ≡ entry s os self.old.position }
+        ensures position { self.new.position ≡ self.old.position + 1 }
+        ensures others { IsSameBut self.old self.new }
+    {
+        let time = self.time();
+        let (entry, past) = self.contents.step(self.position, self.epoch, time);
+        if self.position >= self.committed {
+            self.journal.note(past);
+        }
+        self.position += 1;
+        entry
+    }
+
+    /// Takes instructions back until instruction `n` is the next one. What is committed isn't taken back.
+    fn go_back(&mut self, n: u64)
+        requires holding { IsHolding self.old }
+        requires from { self.old.committed ≤ n }
+        ensures holds { (s : RunSetup) (os : List SpecOrder) → Holds s os self.old → Holds s os self.new }
+        ensures position { n < self.old.position → self.new.position ≡ n }
+        ensures stays { self.old.position ≤ n → self.new ≡ self.old }
+        ensures others { IsSameBut self.old self.new }
+    {
+        while self.position > n {
+            let Some(past) = self.journal.back() else {
+                return;
+            };
+            self.contents.undo(past);
+            self.position -= 1;
+        }
+    }
+
+    /// Executes until instruction `n` is the next one.
+    fn go_on(&mut self, n: u64)
+        requires standing { IsStanding self.old }
+        requires running { self.old.is_stopped ≡ false }
+        requires room { n ≤ self.old.committed + self.old.journal.room }
+        requires bounded { n < 2 ^ 63 }
+        ensures stands { (s : RunSetup) (os : List SpecOrder) → Stands s os self.old → Stands s os self.new }
+        ensures position { self.old.position ≤ n → self.new.position ≡ n }
+        ensures stays { n < self.old.position → self.new ≡ self.old }
+        ensures others { IsSameBut self.old self.new }
+    {
+        while self.position < n {
+            self.step();
+        }
+    }
+
+    /// Goes to instruction `n`, backwards by undoing or forwards by executing.
+    fn go_to(&mut self, n: u64)
+        requires standing { IsStanding self.old }
+        requires running { self.old.is_stopped ≡ false }
+        requires from { self.old.committed ≤ n }
+        requires room { n ≤ self.old.committed + self.old.journal.room }
+        requires bounded { n < 2 ^ 63 }
+        ensures holds { (s : RunSetup) (os : List SpecOrder) → Stands s os self.old → Holds s os self.new }
+        ensures position { self.new.position ≡ n }
+        ensures others { IsSameBut self.old self.new }
+    {
+        if n < self.position {
+            self.go_back(n);
+        } else {
+            self.go_on(n);
+        }
+    }
+
+    /// Makes `n` the number of the first instruction that isn't committed. What is below can't be taken back any more.
+    fn commit(&mut self, n: u64)
+        requires holding { IsHolding self.old }
+        requires from { self.old.committed ≤ n }
+        ensures holds { (s : RunSetup) (os : List SpecOrder) → Holds s os self.old → length (path s os n).output ≤ s.output → Holds s os self.new }
+        ensures committed { self.new.committed ≡ n }
+        ensures room { self.new.journal.room ≡ self.old.journal.room }
+        ensures others { self.new ≡ record self.old { journal = self.new.journal; committed = n } }
+    {
+        self.journal.drop_below(n);
+        self.committed = n;
+    }
+
+    /// Instruction `n` stands at `addr`.
+    fn set(&mut self, n: u64, addr: u32)
+        requires standing { IsStanding self.old }
+        requires running { self.old.is_stopped ≡ false }
+        requires from { self.old.committed ≤ n }
+        requires room { n ≤ self.old.committed + self.old.journal.room }
+        requires bounded { n < 2 ^ 63 }
+        requires epoch { self.old.epoch < 2 ^ 63 }
+        ensures stands { (s : RunSetup) (os : List SpecOrder) → Stands s os self.old → Stands s (Set n addr ∷ os) self.new }
+        ensures moved { IsMoved n self.old.committed false self.old self.new }
+    {
+        self.go_to(n);
+        self.contents.jump(addr);
+        self.epoch += 1;
+    }
+
+    /// The timer interrupt is taken before instruction `n`, and committed.
+    fn interrupt(&mut self, n: u64)
+        requires standing { IsStanding self.old }
+        requires running { self.old.is_stopped ≡ false }
+        requires from { self.old.committed ≤ n }
+        requires room { n ≤ self.old.committed + self.old.journal.room }
+        requires bounded { n < 2 ^ 63 }
+        requires epoch { self.old.epoch < 2 ^ 63 }
+        requires within { bytes_before self.old n ≤ self.old.limit }
+        ensures stands { (s : RunSetup) (os : List SpecOrder) → Stands s os self.old → Stands s (Interrupt n ∷ os) self.new }
+        ensures moved { IsMoved n n false self.old self.new }
+    {
+        self.go_to(n);
+        self.commit(n);
+        self.contents.interrupted();
+        self.given = None;
+        self.epoch += 1;
+    }
+
+    /// Instruction `n` is given a time.
+    fn serve(&mut self, n: u64, time: u64)
+        requires standing { IsStanding self.old }
+        requires running { self.old.is_stopped ≡ false }
+        requires from { self.old.committed ≤ n }
+        requires room { n ≤ self.old.committed + self.old.journal.room }
+        requires bounded { n < 2 ^ 63 }
+        requires epoch { self.old.epoch < 2 ^ 63 }
+        ensures stands { (s : RunSetup) (os : List SpecOrder) → Stands s os self.old → Stands s (Time n time ∷ os) self.new }
+        ensures moved { IsMoved n self.old.committed false self.old self.new }
+    {
+        self.go_to(n);
+        self.given = Some((n, time));
+        self.epoch += 1;
+    }
+
+    /// The run has ended before instruction `n`.
+    fn stop(&mut self, n: u64)
+        requires standing { IsStanding self.old }
+        requires running { self.old.is_stopped ≡ false }
+        requires from { self.old.committed ≤ n }
+        requires room { n ≤ self.old.committed + self.old.journal.room }
+        requires bounded { n < 2 ^ 63 }
+        requires epoch { self.old.epoch < 2 ^ 63 }
+        ensures stands { (s : RunSetup) (os : List SpecOrder) → Stands s os self.old → Stands s (Stop n ∷ os) self.new }
+        ensures moved { IsMoved n self.old.committed true self.old self.new }
+    {
+        self.go_to(n);
+        self.is_stopped = true;
+        self.epoch += 1;
+    }
+
+    /// Fetch sees memory as it stands before instruction `n`, which is committed.
+    fn sync(&mut self, n: u64)
+        requires standing { IsStanding self.old }
+        requires running { self.old.is_stopped ≡ false }
+        requires from { self.old.committed ≤ n }
+        requires room { n ≤ self.old.committed + self.old.journal.room }
+        requires bounded { n < 2 ^ 63 }
+        requires epoch { self.old.epoch < 2 ^ 63 }
+        requires within { bytes_before self.old n ≤ self.old.limit }
+        ensures stands { (s : RunSetup) (os : List SpecOrder) → Stands s os self.old → Stands s (Sync n ∷ os) self.new }
+        ensures moved { IsMoved n n false self.old self.new }
+    {
+        self.go_to(n);
+        self.commit(n);
+        self.contents.sync();
+        self.epoch += 1;
+    }
+
+    /// The next entry of the path; None exactly where the journal is full or the walk is stopped.
+    pub fn produce(&mut self) -> Option<Entry>
+        requires standing { self.old.is_stopped ≡ false → IsStanding self.old }
+        requires bounded { self.old.position < 2 ^ 63 }
+        ensures produced { (s : RunSetup) (os : List SpecOrder) → Stands s os self.old → IsProduced s os self.old self.new result }
+        ensures moved { IfSome result (λ e. IsForward self.old self.new) }
+        ensures none { IsNone result ↔ IsAtRest self.old }
+        ensures same { IfNone result (self.new ≡ self.old) }
+    {
+        if self.is_stopped || self.journal.is_full() {
+            return None;
+        }
+        Some(self.step())
+    }
+
+    /// Obeys an order.
+    pub fn obey(&mut self, order: Order)
+        requires standing { IsStanding self.old }
+        requires running { self.old.is_stopped ≡ false }
+        requires from { self.old.committed ≤ number_of order }
+        requires room { number_of order ≤ self.old.committed + self.old.journal.room }
+        requires bounded { number_of order < 2 ^ 63 }
+        requires epoch { self.old.epoch < 2 ^ 63 }
+        requires within { HasRoom order self.old self.old.limit }
+        ensures stands { (s : RunSetup) (os : List SpecOrder) → Stands s os self.old → Stands s (order ∷ os) self.new }
+        ensures moved { IsObeyed order self.old self.new }
+    {
+        match order {
+            Order::Set { n, addr } => self.set(n, addr),
+            Order::Commit { n } => self.commit(n),
+            Order::Interrupt { n } => self.interrupt(n),
+            Order::Time { n, v } => self.serve(n, v),
+            Order::Stop { n } => self.stop(n),
+            Order::Sync { n } => self.sync(n),
+        }
+    }
+}

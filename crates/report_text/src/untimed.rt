@@ -1,0 +1,110 @@
+ghost use Rattle.std.specs.Prelude.{◌≡◌, ◌≤◌, ◌++◌};
+ghost use Rattle.fsim_ports.specs.Sink.{Puts};
+ghost use Rattle.mono_model.specs.Report.{ends_open, closed_output, func_report_text};
+ghost use Rattle.report_text.specs.Lines.{counts_text, registers_text, csrs_text};
+
+use crate::put::{WriteFault, put_lines, put_piece, put_two};
+use crate::report_lines::{
+    count_line, interrupt_csrs_line, output_line, pc_line, register_line, status_line,
+    trap_csrs_line,
+};
+use fsim_ports::Sink;
+use mono_model::Final;
+
+/// Whether the output isn't empty and doesn't end in a line feed.
+fn ends_open(output: &[u8]) -> bool
+    ensures open { result ≡ ends_open output.now }
+{
+    !output.is_empty() && output[output.len() - 1] != b'\n'
+}
+
+/// The output, with a line feed behind it where it isn't empty and doesn't end in one.
+pub fn put_output<K: Sink>(output: &[u8], sink: &mut K) -> Result<(), WriteFault>
+    ensures count { K.faults sink.old ≤ K.faults sink.new }
+    ensures written { Puts (closed_output output.now) (K.faults sink.old) (K.faults sink.new) (K.written sink.old) (K.written sink.new) result }
+{
+    if ends_open(output) {
+        put_two(output, b"\n", sink)
+    } else {
+        put_piece(output, sink)
+    }
+}
+
+/// How the run stands, what retired and trapped, the size of the output and the next address.
+fn put_counts<K: Sink>(f: &Final, sink: &mut K) -> Result<(), WriteFault>
+    ensures count { K.faults sink.old ≤ K.faults sink.new }
+    ensures written { Puts (counts_text f.now) (K.faults sink.old) (K.faults sink.new) (K.written sink.old) (K.written sink.new) result }
+{
+    let lines = [
+        status_line(f.end),
+        count_line(b"instructions: ", f.stats.instructions),
+        count_line(b"exceptions: ", f.stats.exceptions),
+        count_line(b"interrupts: ", f.stats.interrupts),
+        output_line(f.stats.output),
+        pc_line(f.pc),
+    ];
+    put_lines(&lines, sink)
+}
+
+/// The registers.
+fn put_registers<K: Sink>(f: &Final, sink: &mut K) -> Result<(), WriteFault>
+    ensures count { K.faults sink.old ≤ K.faults sink.new }
+    ensures written { Puts (registers_text f.now) (K.faults sink.old) (K.faults sink.new) (K.written sink.old) (K.written sink.new) result }
+{
+    let lines = [
+        register_line(&f.regs, 0),
+        register_line(&f.regs, 4),
+        register_line(&f.regs, 8),
+        register_line(&f.regs, 12),
+        register_line(&f.regs, 16),
+        register_line(&f.regs, 20),
+        register_line(&f.regs, 24),
+        register_line(&f.regs, 28),
+    ];
+    put_lines(&lines, sink)
+}
+
+/// The CSRs.
+fn put_csrs<K: Sink>(f: &Final, sink: &mut K) -> Result<(), WriteFault>
+    ensures count { K.faults sink.old ≤ K.faults sink.new }
+    ensures written { Puts (csrs_text f.now) (K.faults sink.old) (K.faults sink.new) (K.written sink.old) (K.written sink.new) result }
+{
+    let lines = [interrupt_csrs_line(&f.csrs), trap_csrs_line(&f.csrs, f.cmp)];
+    put_lines(&lines, sink)
+}
+
+/// Registers and CSRs.
+pub fn put_values<K: Sink>(f: &Final, sink: &mut K) -> Result<(), WriteFault>
+    ensures count { K.faults sink.old ≤ K.faults sink.new }
+    ensures written { Puts (registers_text f.now ++ csrs_text f.now) (K.faults sink.old) (K.faults sink.new) (K.written sink.old) (K.written sink.new) result }
+{
+    match put_registers(f, sink) {
+        Ok(()) => put_csrs(f, sink),
+        Err(fault) => Err(fault),
+    }
+}
+
+/// The report without the output.
+fn put_report<K: Sink>(f: &Final, sink: &mut K) -> Result<(), WriteFault>
+    ensures count { K.faults sink.old ≤ K.faults sink.new }
+    ensures written { Puts (func_report_text f.now) (K.faults sink.old) (K.faults sink.new) (K.written sink.old) (K.written sink.new) result }
+{
+    match put_counts(f, sink) {
+        Ok(()) => put_values(f, sink),
+        Err(fault) => Err(fault),
+    }
+}
+
+/// Writes the output and the report of a run without a machine file, each line by itself.
+///
+/// Ok says that the whole text was written. A fault comes only where the sink's count of faults rose, and then a proper
+/// prefix of the text was written. It takes no memory.
+pub fn func_report<K: Sink>(f: &Final, output: &[u8], sink: &mut K) -> Result<(), WriteFault>
+    ensures count { K.faults sink.old ≤ K.faults sink.new }
+    ensures written { Puts (closed_output output.now ++ func_report_text f.now) (K.faults sink.old) (K.faults sink.new) (K.written sink.old) (K.written sink.new) result }
+{
+    match put_output(output, sink) {
+        Ok(()) => put_report(f, sink),
+        Err(fault) => Err(fault),
+    }
+}
