@@ -1,0 +1,239 @@
+#!/bin/sh
+# Entries in a second of FuncSide::produce with a Commit for every eight of them, on the loops of bench/func.sh:
+# bench/produce.sh [MILLIONS of entries, 10 if left out]
+# Makes a program over the repository's crates in a folder of its own, builds it by rt, and runs it. Not part of the gate.
+set -e
+here=$(cd "$(dirname "$0")/.." && pwd)
+millions=${1:-10}
+work=$(mktemp -d)
+trap 'rm -rf "$work"' EXIT
+mkdir -p "$work/crates/entry_speed/src" "$work/crates/entry_speed/specs" "$work/crates/entry_speed/proofs/trace/Trace/has_room"
+while IFS=: read -r crate below; do
+    case $crate in
+    fsim_ports | report_text | machine_file | fast_cli | fast_run | worked_examples | '') continue ;;
+    esac
+    mkdir "$work/crates/$crate"
+    for part in src specs proofs; do
+        [ -d "$here/crates/$crate/$part" ] && cp -r "$here/crates/$crate/$part" "$work/crates/$crate/"
+    done
+    echo "$crate:$below" >>"$work/crates.txt"
+done <"$here/crates.txt"
+echo 'entry_speed: func_model undo_journal mono_model elf_image device_bus branch_predictor rollback_cmds fsim_base anyhow' >>"$work/crates.txt"
+echo '/out/' >"$work/.gitignore"
+(cd "$work" && git init -q)
+: >"$work/crates/entry_speed/specs/Lib.antt"
+: >"$work/crates/entry_speed/proofs/Lib.antt"
+cat >"$work/crates/entry_speed/proofs/trace/Trace/has_room/Answers.antt" <<EOF
+use Rattle.std.proofs.Common.{ℕ, List, ◌-◌, ◌≤◌, nat_le, length, sym, subst, arith}
+use Rattle.std.proofs.lemmas.Bool.{le-leb, leb-true, cond-true}
+use Rattle.undo_journal.specs.Journal.{from_number}
+use Rattle.func_model.specs.declared.walk.Walk.{Walk}
+use Rattle.func_model.specs.Contents.{output_in}
+use Rattle.func_model.specs.Walk.{bytes_sent, bytes_before}
+use Rattle.entry_speed.proofs.trace.Trace.has_room.Goals as goal
+
+bytes_within : {D : Type 0} (walk : Walk D) (n limit : ℕ) → n ≤ walk.position → length (output_in walk.contents) ≤ limit → bytes_before walk n ≤ limit
+unfolding bytes_before
+bytes_within walk n limit below room =
+    let back = length (output_in walk.contents) - bytes_sent (from_number n walk.journal.steps) in
+    subst (λ (k : ℕ). k ≤ limit) (sym (cond-true (nat_le n walk.position) back _ (le-leb n walk.position below))) (omega (arith, room))
+
+pub returns : goal.returns
+returns g c = record {
+  room = λ is.
+      let now = c.args.self.now in
+      let within : length c.output.result.now ≤ now.side.limit = omega (arith, leb-true (length c.output.result.now) now.limit is, now.limit_is) in
+      bytes_within now.side now.position now.side.limit (omega (arith, now.position_is))
+      (subst (λ (xs : List ℕ). length xs ≤ now.side.limit) c.output.ensures.output within);
+}
+EOF
+cat >"$work/crates/entry_speed/src/trace.rt" <<EOF
+ghost use Rattle.std.specs.Prelude.{◌≡◌, ◌≤◌, true, map};
+ghost use Rattle.device_bus.specs.Bus.{device_order};
+ghost use Rattle.mono_model.specs.Setup.{is_setup};
+ghost use Rattle.func_model.specs.Walk.{bytes_before};
+
+use device_bus::Device;
+use fsim_base::NoMemory;
+use func_model::FuncSide;
+use mono_model::Setup;
+use rollback_cmds::Order;
+use std::alloc::Global;
+
+/// A functional side whose entries are taken eight by eight, and committed.
+#[derive(Drop)]
+pub struct Trace<D: Device> {
+    side: FuncSide<D>,
+    position: u64,
+    epoch: u64,
+    room: u64,
+    limit: u32,
+    ghost position_is: { side.position ≡ position },
+    ghost epoch_is: { side.epoch ≡ epoch },
+    ghost room_is: { side.journal.room ≡ room },
+    ghost limit_is: { side.limit ≡ limit },
+}
+
+impl<D: Device> Trace<D> {
+    pub fn new(alloc: Global, setup: &Setup, devices: Vec<D>) -> Result<Trace<D>, NoMemory>
+        requires sound { is_setup setup.now ≡ true }
+        requires order { map D.kind devices.items ≡ device_order }
+    {
+        let side = FuncSide::new(alloc, setup, devices)?;
+        let window = u64::from(setup.params.core_window);
+        Ok(Trace {
+            side,
+            position: 0,
+            epoch: 0,
+            room: window + u64::from(setup.ring) + 2,
+            limit: setup.output,
+        })
+    }
+
+    /// The number of the next entry, where there is one.
+    fn next(&mut self) -> bool {
+        if self.position >= 1 << 62 || self.epoch >= 1 << 62 {
+            return false;
+        }
+        match self.side.produce() {
+            Some(_) => {
+                self.position += 1;
+                true
+            }
+            None => false,
+        }
+    }
+
+    fn has_room(&self) -> bool
+        ensures room { result ≡ true → bytes_before self.now.side self.now.position ≤ self.now.side.limit }
+    {
+        self.side.output().len() <= self.limit as usize
+    }
+
+    /// Takes eight entries, and commits them; false where that can't be.
+    pub fn turn(&mut self) -> bool {
+        for _ in 0..8 {
+            if !self.next() {
+                return false;
+            }
+        }
+        let n = self.position;
+        let done = self.side.committed();
+        if n >= 1 << 62 || self.epoch >= 1 << 62 || self.side.stopped() || done > n || n - done > self.room {
+            return false;
+        }
+        if !self.has_room() {
+            return false;
+        }
+        self.side.obey(Order::Commit { n });
+        true
+    }
+}
+EOF
+cat >"$work/crates/entry_speed/src/main.rt" <<EOF
+//! Times the making of entries.
+#![tactic(auto)]
+
+ghost use Rattle.std.specs.Prelude.{◌≡◌, true, map};
+ghost use Rattle.device_bus.specs.Bus.{device_order};
+ghost use Rattle.mono_model.specs.Setup.{is_setup};
+
+mod trace;
+
+use anyhow::{Context, anyhow};
+use branch_predictor::PredKind;
+use device_bus::{Console, Device, Finisher, Timer, in_order};
+use elf_image::{Image, Segment, Segments};
+use fsim_base::Bytes;
+use mono_model::{Params, Setup};
+use std::alloc::Global;
+use std::time::Instant;
+use trace::Trace;
+
+const TURNS: u64 = ${millions}_000_000 / 8;
+
+fn params() -> Params {
+    Params {
+        version: 1, ram_base: 0x8000_0000, ram_size: 16_777_216,
+        core_fetch: 1, core_commit: 1, core_front: 1, core_window: 64, core_stations: 256,
+        alu_count: 1, alu_latency: 1, mul_count: 1, mul_latency: 1,
+        div_count: 1, div_latency: 1, mem_count: 1, mem_latency: 1,
+        predictor_kind: PredKind::Static, predictor_counters: 1024, predictor_history: 8, predictor_targets: 0,
+        icache_line: 64, icache_sets: 64, icache_ways: 0, icache_miss: 20,
+        dcache_line: 64, dcache_sets: 64, dcache_ways: 0, dcache_miss: 20, dcache_back: false,
+        l2_line: 64, l2_sets: 512, l2_ways: 0, l2_hit: 10, l2_miss: 100,
+    }
+}
+
+fn devices(alloc: Global) -> anyhow::Result<Vec<Box<dyn Device + Send>>> {
+    let Ok(console) = Console::new(alloc) else {
+        return Err(anyhow!("no memory"));
+    };
+    let mut devices: Vec<Box<dyn Device + Send>> = Vec::new(alloc);
+    devices.push(Box::new(alloc, console)?)?;
+    devices.push(Box::new(alloc, Timer::new())?)?;
+    devices.push(Box::new(alloc, Finisher::new())?)?;
+    Ok(devices)
+}
+
+/// Takes the entries of a run; how many turns were made.
+fn turns<D: Device>(trace: &mut Trace<D>) -> u64 {
+    for turn in 0..TURNS {
+        if !trace.turn() {
+            return turn;
+        }
+    }
+    TURNS
+}
+
+/// Times the entries of a run.
+fn follow<D: Device>(rt: &HostRuntime, name: &str, setup: &Setup, devices: Vec<D>) -> anyhow::Result<()>
+    requires sound { is_setup setup.now ≡ true }
+    requires order { map D.kind devices.items ≡ device_order }
+{
+    let Ok(mut trace) = Trace::new(rt.alloc(), setup, devices) else {
+        return Err(anyhow!("no memory"));
+    };
+    let start = Instant::now(rt).context("the clock")?;
+    let made = turns(&mut trace);
+    let time = start.elapsed(rt).context("the clock")?.as_millis();
+    println!(rt; "{name}: {made} times eight entries in {time} ms")?;
+    Ok(())
+}
+
+fn measure(rt: &HostRuntime, name: &str, words: &[u32]) -> anyhow::Result<()> {
+    let alloc = rt.alloc();
+    let mut bytes = Vec::new(alloc);
+    for word in words {
+        bytes.extend_from_slice(&word.to_le_bytes())?;
+    }
+    let segment = Segment {
+        index: 0,
+        addr: 0x8000_0000,
+        size: u32::try_from(bytes.len()).unwrap_or(0),
+        exec: true,
+        bytes: Bytes::new(bytes),
+    };
+    let setup = Setup {
+        image: Image { entry: 0x8000_0000, segments: Segments::new(vec![in alloc; segment]?) },
+        params: params(),
+        input: Bytes::new(Vec::new(alloc)),
+        cycles: 10_000_000,
+        output: 1024,
+        ring: 64,
+    };
+    let devices = devices(alloc)?;
+    if !setup.sound() || !in_order(&devices) {
+        return Err(anyhow!("the setup isn't sound"));
+    }
+    follow(rt, name, &setup, devices)
+}
+
+fn main(rt: HostRuntime) -> anyhow::Result<()> {
+    measure(&rt, "arithmetic", &[0x0012_8293, 0x0053_4333, 0x0063_83b3, 0xff5f_f06f])?;
+    measure(&rt, "memory", &[0x8000_12b7, 0x0002_a303, 0x0013_0313, 0x0062_a023, 0xff5f_f06f])?;
+    measure(&rt, "division", &[0x0012_8293, 0x0252_8333, 0x0253_53b3, 0xff5f_f06f])
+}
+EOF
+cd "$work/crates/entry_speed"
+rt run 2>"$work/log" || { tail -40 "$work/log"; exit 1; }
