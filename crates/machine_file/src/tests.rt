@@ -389,3 +389,14 @@ fn hostile_bytes(rt: HostRuntime) -> Result<(), Fail> {
     );
     Ok(())
 }
+
+/// How long a file may be is the program's to say: this crate reads one of any length.
+#[test]
+fn comment_of_65_537_bytes(rt: HostRuntime) -> Result<(), Fail> {
+    let mut comment = Vec::new(rt.alloc());
+    for _ in 0..65_537 {
+        comment.push(b'#')?;
+    }
+    assert!(rt; matches!(read(rt.alloc(), comment.as_slice()), Ok(params) if params == PLAIN));
+    Ok(())
+}
