@@ -1,0 +1,273 @@
+-- What each turn adds to the counts of a run.
+use Rattle.std.proofs.Common.{◌≡◌, ℕ, zero, suc, ◌+◌, ◌≤◌, ◌==◌, nat_lt, if◌then◌else◌, Bool, true, false, Option, Some, None, List, [], ◌∷◌, length, refl, ap, subst, arith, length-append}
+use Rattle.std.proofs.lemmas.Bool.{cond_both}
+use Rattle.fsim_base.specs.declared.cause.Cause.{Cause}
+use Rattle.fsim_base.specs.declared.instruction.Flow.{Flow}
+use Rattle.fsim_base.specs.declared.instruction.Flow.TheVariants as flow
+use Rattle.fsim_base.specs.Number.{wrap_sum}
+use Rattle.device_bus.specs.declared.undo.Note.{Note}
+use Rattle.device_bus.specs.declared.undo.Note.TheVariants as note
+use Rattle.cache_timing.specs.Caches.{Served}
+use Rattle.mono_model.specs.declared.setup.Setup.{Setup}
+use Rattle.mono_model.specs.declared.final_state.End.TheVariants.{OutputFull}
+use Rattle.mono_model.specs.Found.{flow_in, is_fence_i}
+use Rattle.mono_model.specs.Result.{Result}
+use Rattle.mono_model.specs.Effect.{note_of}
+use Rattle.mono_model.specs.Alone.{has_no_room}
+use Rattle.mono_model.specs.Window.{Record, Stage, waiting, until, done, busy_divisions}
+use Rattle.mono_model.specs.Machine.{Counts, Machine, machine_start, flushed}
+use Rattle.mono_model.specs.Interrupt.{is_interrupted, take_interrupt, interrupt_phase}
+use Rattle.mono_model.specs.Commit.{Leaving, stays, full, leaves, faults, syncs, ends, branch_count, committed, faulted, fenced, leaving_by, leaving_done, leaving_stage, leaving_first, leaving, Committed, after_leaving, commits, commit_phase}
+use Rattle.mono_model.specs.Complete.{completes, completed_by, complete_phase}
+use Rattle.mono_model.specs.Issue.{none_used, wants_time, replayed, issued, issue_phase}
+use Rattle.mono_model.specs.Fetch.{Try, misses, appends, turns, cache_read, missed, appended, new_record, predicted_next, tried, fetch_try}
+use Rattle.mono_model.specs.Cycle.{ticked}
+use Rattle.mono_model.specs.Demand.{Demand, At, interrupting, committing, completing, issuing, trying, ending, stopping, halted, Run, tried_turn, turn_at, turn, step_by, step, place}
+use Rattle.machine_laws.specs.Counts.{AreCounted}
+use Rattle.machine_laws.proofs.Phases.{completes_from, walk_length}
+
+-- From a machine to another one, with so many records gone and so many steps made.
+record CountsOn (m : Machine) (left steps : ℕ) (behind : Machine) : Type 0 where
+  records : behind.counts.fetched + m.counts.squashed + length m.window ≡ m.counts.fetched + left + behind.counts.squashed + length behind.window
+  fetched : behind.counts.fetched ≤ m.counts.fetched + steps
+  interrupts : behind.counts.interrupts ≤ m.counts.interrupts + steps
+  replays : behind.counts.replays ≤ m.counts.replays + steps
+  mispredicted : behind.counts.mispredicted ≤ m.counts.mispredicted + steps
+  exceptions : behind.counts.exceptions ≤ m.counts.exceptions + left
+  branches : behind.counts.branches ≤ m.counts.branches + left
+
+counts_then : (m between behind : Machine) (left more steps : ℕ) → CountsOn m left 0 between → CountsOn between more steps behind → CountsOn m (left + more) steps behind
+counts_then m between behind left more steps first then_ = record {
+  records = omega (arith, first.records, then_.records);
+  fetched = omega (arith, first.fetched, then_.fetched);
+  interrupts = omega (arith, first.interrupts, then_.interrupts);
+  replays = omega (arith, first.replays, then_.replays);
+  mispredicted = omega (arith, first.mispredicted, then_.mispredicted);
+  exceptions = omega (arith, first.exceptions, then_.exceptions);
+  branches = omega (arith, first.branches, then_.branches);
+}
+
+-- nothing counted
+same_counts : (m behind : Machine) (steps : ℕ) → behind.counts ≡ m.counts → length behind.window ≡ length m.window → CountsOn m 0 steps behind
+same_counts m behind steps same window =
+    let fetched : behind.counts.fetched ≡ m.counts.fetched = ap (λ (c : Counts). c.fetched) same in
+    let squashed : behind.counts.squashed ≡ m.counts.squashed = ap (λ (c : Counts). c.squashed) same in
+    record {
+      records = omega arith;
+      fetched = omega arith;
+      interrupts = omega (arith, ap (λ (c : Counts). c.interrupts) same);
+      replays = omega (arith, ap (λ (c : Counts). c.replays) same);
+      mispredicted = omega (arith, ap (λ (c : Counts). c.mispredicted) same);
+      exceptions = omega (arith, ap (λ (c : Counts). c.exceptions) same);
+      branches = omega (arith, ap (λ (c : Counts). c.branches) same);
+    }
+
+interrupt_counts : (m : Machine) → CountsOn m 0 1 (interrupt_phase m)
+unfolding interrupt_phase flushed
+interrupt_counts m =
+    cond_both (is_interrupted m) (take_interrupt m) m (CountsOn m 0 1)
+    (λ e. record { records = omega arith; fetched = omega arith; interrupts = omega arith; replays = omega arith; mispredicted = omega arith; exceptions = omega arith; branches = omega arith })
+    (λ e. same_counts m m 1 refl refl)
+
+-- commit
+abbrev LeftCounts : Machine → Leaving → Type 0
+LeftCounts m stays = Unit {0}
+LeftCounts m (full behind) = CountsOn m 0 0 behind
+LeftCounts m (leaves behind) = CountsOn m 1 0 behind
+LeftCounts m (faults behind) = CountsOn m 1 0 behind
+LeftCounts m (syncs behind) = CountsOn m 1 0 behind
+LeftCounts m (ends behind) = CountsOn m 1 0 behind
+
+branch_most : (f : Flow) → branch_count f ≤ 1
+branch_most flow.Plain = omega arith
+branch_most flow.Branch = omega arith
+branch_most flow.Jump = omega arith
+
+committed_counts : (s : Setup) (rec : Record) (rest : List Record) (r : Result) (m : Machine) → m.window ≡ rec ∷ rest → CountsOn m 1 0 (committed s rec rest r m)
+committed_counts s rec rest r m is =
+    let count : length m.window ≡ suc (length rest) = ap (λ (w : List Record). length w) is in
+    record {
+      records = omega arith;
+      fetched = omega arith;
+      interrupts = omega arith;
+      replays = omega arith;
+      mispredicted = omega arith;
+      exceptions = omega arith;
+      branches = omega (arith, branch_most (flow_in rec.found));
+    }
+
+faulted_counts : (rec : Record) (rest : List Record) (r : Result) (m : Machine) → m.window ≡ rec ∷ rest → CountsOn m 1 0 (faulted rec rest r m)
+unfolding flushed
+faulted_counts rec rest r m is =
+    let count : length m.window ≡ suc (length rest) = ap (λ (w : List Record). length w) is in
+    record { records = omega arith; fetched = omega arith; interrupts = omega arith; replays = omega arith; mispredicted = omega arith; exceptions = omega arith; branches = omega arith }
+
+fenced_counts : (s : Setup) (m behind : Machine) → CountsOn m 1 0 behind → CountsOn m 1 0 (fenced s behind)
+unfolding flushed
+fenced_counts s m behind on = record {
+  records = omega (arith, on.records);
+  fetched = on.fetched;
+  interrupts = on.interrupts;
+  replays = on.replays;
+  mispredicted = on.mispredicted;
+  exceptions = on.exceptions;
+  branches = on.branches;
+}
+
+by_counts : (s : Setup) (fence : Bool) (what : Note) (m behind : Machine) → CountsOn m 1 0 behind → LeftCounts m (leaving_by s fence what behind)
+by_counts s fence (note.End halt) m behind on = record {
+  records = on.records;
+  fetched = on.fetched;
+  interrupts = on.interrupts;
+  replays = on.replays;
+  mispredicted = on.mispredicted;
+  exceptions = on.exceptions;
+  branches = on.branches;
+}
+by_counts s true note.Nothing m behind on = fenced_counts s m behind on
+by_counts s true (note.Out byte) m behind on = fenced_counts s m behind on
+by_counts s false note.Nothing m behind on = on
+by_counts s false (note.Out byte) m behind on = on
+
+done_counts : (s : Setup) (rec : Record) (rest : List Record) (r : Result) (cause : Option Cause) (m : Machine) → m.window ≡ rec ∷ rest → LeftCounts m (leaving_done s rec rest r cause m)
+done_counts s rec rest r (Some cause) m is = faulted_counts rec rest r m is
+done_counts s rec rest r None m is =
+    cond_both (has_no_room s (note_of r m.arch) m.arch) (full (record m { end = OutputFull }))
+    (leaving_by s (is_fence_i rec.found) (note_of r m.arch) (committed s rec rest r m)) (LeftCounts m)
+    (λ room. same_counts m (record m { end = OutputFull }) 0 refl refl)
+    (λ room. by_counts s (is_fence_i rec.found) (note_of r m.arch) m (committed s rec rest r m) (committed_counts s rec rest r m is))
+
+stage_counts : (s : Setup) (rec : Record) (rest : List Record) (stage : Stage) (m : Machine) → m.window ≡ rec ∷ rest → LeftCounts m (leaving_stage s rec rest stage m)
+stage_counts s rec rest waiting m is = tt
+stage_counts s rec rest (until e r) m is = tt
+stage_counts s rec rest (done r) m is = done_counts s rec rest r r.cause m is
+
+first_counts : (s : Setup) (w : List Record) (m : Machine) → m.window ≡ w → LeftCounts m (leaving_first s w m)
+first_counts s [] m is = tt
+first_counts s (rec ∷ rest) m is = stage_counts s rec rest rec.stage m is
+
+leaving_counts : (s : Setup) (m : Machine) → LeftCounts m (leaving s m)
+unfolding leaving
+leaving_counts s m = first_counts s m.window m refl
+
+-- a phase of commit, where `left` records had left before
+record CommitCounts (m : Machine) (left : ℕ) (c : Committed) : Type 0 where
+  more : ℕ
+  left_is : c.left ≡ left + more
+  counts : CountsOn m more 0 c.machine
+
+after_counts : (l : Leaving) (m : Machine) (left : ℕ) (go_on : Machine → Committed) → LeftCounts m l → ((behind : Machine) → CommitCounts behind (left + 1) (go_on behind)) → CommitCounts m left (after_leaving l m left go_on)
+after_counts stays m left go_on is on = record { more = 0; left_is = omega arith; counts = same_counts m m 0 refl refl }
+after_counts (full behind) m left go_on is on = record { more = 0; left_is = omega arith; counts = is }
+after_counts (leaves behind) m left go_on is on =
+    let c = on behind in
+    record { more = 1 + c.more; left_is = omega (arith, c.left_is); counts = counts_then m behind (go_on behind).machine 1 c.more 0 is c.counts }
+after_counts (faults behind) m left go_on is on = record { more = 1; left_is = refl; counts = is }
+after_counts (syncs behind) m left go_on is on = record { more = 1; left_is = refl; counts = is }
+after_counts (ends behind) m left go_on is on = record { more = 1; left_is = refl; counts = is }
+
+commits_count : (s : Setup) (more left : ℕ) (m : Machine) → CommitCounts m left (commits s more left m)
+unfolding commits
+commits_count s zero left m = record { more = 0; left_is = omega arith; counts = same_counts m m 0 refl refl }
+commits_count s (suc more) left m = after_counts (leaving s m) m left (λ behind. commits s more (left + 1) behind) (leaving_counts s m) (λ behind. commits_count s more (left + 1) behind)
+
+commit_counts : (s : Setup) (m : Machine) → CountsOn m (commit_phase s m).left 0 (commit_phase s m).machine
+unfolding commit_phase
+commit_counts s m =
+    let c = commits_count s s.params.core_commit 0 m in
+    let e : c.more ≡ (commits s s.params.core_commit 0 m).left = omega (arith, c.left_is) in
+    subst (λ (n : ℕ). CountsOn m n 0 (commits s s.params.core_commit 0 m).machine) e c.counts
+
+-- complete, issue and fetch
+by_complete : (redirect : Option ℕ) (records : List Record) (m : Machine) → length records ≤ length m.window → (redirect ≡ None → length records ≡ length m.window) → CountsOn m 0 1 (completed_by redirect records m)
+unfolding flushed
+by_complete None records m fewer all = record { records = omega (arith, all refl); fetched = omega arith; interrupts = omega arith; replays = omega arith; mispredicted = omega arith; exceptions = omega arith; branches = omega arith }
+by_complete (Some addr) records m fewer all = record { records = omega arith; fetched = omega arith; interrupts = omega arith; replays = omega arith; mispredicted = omega arith; exceptions = omega arith; branches = omega arith }
+
+complete_counts : (m : Machine) → CountsOn m 0 1 (complete_phase m)
+unfolding complete_phase
+complete_counts m =
+    let c = completes m.cycle m.window in
+    let from = completes_from m.cycle m.window in
+    by_complete c.redirect c.records m from.window from.kept
+
+issue_counts : (s : Setup) (m : Machine) → CountsOn m 0 1 (issue_phase s m)
+unfolding issue_phase flushed
+issue_counts s m =
+    cond_both (wants_time s m) (replayed m) (issued s m) (CountsOn m 0 1)
+    (λ e. record { records = omega arith; fetched = omega arith; interrupts = omega arith; replays = omega arith; mispredicted = omega arith; exceptions = omega arith; branches = omega arith })
+    (λ e. same_counts m (issued s m) 1 refl (walk_length s m.cycle m.arch (busy_divisions m.window) m.window [] none_used m.caches))
+
+abbrev TryCounts : Machine → Try → Type 0
+TryCounts m (misses behind) = CountsOn m 0 1 behind
+TryCounts m (appends behind) = CountsOn m 0 1 behind
+TryCounts m (turns behind) = CountsOn m 0 1 behind
+
+tried_counts : (s : Setup) (d : Served) (m : Machine) → TryCounts m (tried s d m)
+tried_counts s d m =
+    cond_both (nat_lt 0 d.cycles) (misses (missed d.cycles d.state m))
+    (if predicted_next s m == wrap_sum m.fetch_addr 4 then appends (appended s d.state m) else turns (appended s d.state m)) (TryCounts m)
+    (λ e. same_counts m (missed d.cycles d.state m) 1 refl refl)
+    (λ e. cond_both (predicted_next s m == wrap_sum m.fetch_addr 4) (appends (appended s d.state m)) (turns (appended s d.state m)) (TryCounts m)
+    (λ f. more) (λ f. more))
+  where
+    more : CountsOn m 0 1 (appended s d.state m)
+    more = record { records = omega (arith, length-append m.window (new_record s m ∷ [])); fetched = omega arith; interrupts = omega arith; replays = omega arith; mispredicted = omega arith; exceptions = omega arith; branches = omega arith }
+
+try_counts : (s : Setup) (m : Machine) → TryCounts m (fetch_try s m)
+unfolding fetch_try
+try_counts s m = tried_counts s (cache_read s m) m
+
+ticked_counts : (s : Setup) (m : Machine) → CountsOn m 0 1 (ticked s m)
+unfolding ticked
+ticked_counts s m = same_counts m (ticked s m) 1 refl refl
+
+-- one turn
+counted_on : (k left : ℕ) (d behind : Demand) → behind.done ≡ d.done + left → CountsOn d.machine left 1 behind.machine → AreCounted k d → AreCounted (suc k) behind
+counted_on k left d behind same on are = record {
+  records = omega (arith, on.records, are.records);
+  fetched = omega (arith, on.fetched, are.fetched);
+  interrupts = omega (arith, on.interrupts, are.interrupts);
+  replays = omega (arith, on.replays, are.replays);
+  mispredicted = omega (arith, on.mispredicted, are.mispredicted);
+  exceptions = omega (arith, on.exceptions, are.exceptions);
+  branches = omega (arith, on.branches, are.branches);
+}
+
+one_step : (m behind : Machine) (left : ℕ) → CountsOn m left 0 behind → CountsOn m left 1 behind
+one_step m behind left on = record {
+  records = on.records;
+  fetched = omega (arith, on.fetched);
+  interrupts = omega (arith, on.interrupts);
+  replays = omega (arith, on.replays);
+  mispredicted = omega (arith, on.mispredicted);
+  exceptions = on.exceptions;
+  branches = on.branches;
+}
+
+try_counted : (s : Setup) (k : ℕ) (t : Try) (more : ℕ) (d : Demand) → TryCounts d.machine t → AreCounted k d → AreCounted (suc k) (tried_turn s t more d).demand
+try_counted s k (misses behind) more d on are = counted_on k 0 d (tried_turn s (misses behind) more d).demand (omega arith) on are
+try_counted s k (appends behind) more d on are = counted_on k 0 d (tried_turn s (appends behind) more d).demand (omega arith) on are
+try_counted s k (turns behind) more d on are = counted_on k 0 d (tried_turn s (turns behind) more d).demand (omega arith) on are
+
+turn_counted : (s : Setup) (k : ℕ) (at : At) (d : Demand) → AreCounted k d → AreCounted (suc k) (turn_at s at d).demand
+turn_counted s k interrupting d are = counted_on k 0 d (turn_at s interrupting d).demand (omega arith) (interrupt_counts d.machine) are
+turn_counted s k committing d are =
+    let c = commit_phase s d.machine in
+    counted_on k c.left d (turn_at s committing d).demand refl (one_step d.machine c.machine c.left (commit_counts s d.machine)) are
+turn_counted s k completing d are = counted_on k 0 d (turn_at s completing d).demand (omega arith) (complete_counts d.machine) are
+turn_counted s k issuing d are = counted_on k 0 d (turn_at s issuing d).demand (omega arith) (issue_counts s d.machine) are
+turn_counted s k (trying more) d are = try_counted s k (fetch_try s d.machine) more d (try_counts s d.machine) are
+turn_counted s k ending d are = counted_on k 0 d (turn_at s ending d).demand (omega arith) (ticked_counts s d.machine) are
+turn_counted s k stopping d are = counted_on k 0 d (turn_at s stopping d).demand (omega arith) (same_counts d.machine d.machine 1 refl refl) are
+turn_counted s k halted d are = counted_on k 0 d d (omega arith) (same_counts d.machine d.machine 1 refl refl) are
+
+step_counted : (s : Setup) (k owed : ℕ) (r : Run) → AreCounted k r.demand → AreCounted (suc k) (step_by s owed r).run.demand
+unfolding turn
+step_counted s k zero r are = turn_counted s k r.at r.demand are
+step_counted s k (suc owed) r are = counted_on k 0 r.demand r.demand (omega arith) (same_counts r.demand.machine r.demand.machine 1 refl refl) are
+
+pub run_counted : (s : Setup) (k : ℕ) → AreCounted k (place s k).run.demand
+unfolding place step machine_start
+run_counted s zero = record { records = refl; fetched = omega arith; interrupts = omega arith; replays = omega arith; mispredicted = omega arith; exceptions = omega arith; branches = omega arith }
+run_counted s (suc k) = step_counted s k (place s k).owed (place s k).run (run_counted s k)

@@ -1,0 +1,266 @@
+-- What each phase of a cycle leaves of the cycle number, of how many records the window has, and of the output's limit.
+use Rattle.std.proofs.Common.{◌≡◌, ℕ, zero, suc, ◌+◌, ◌≤◌, ◌<◌, nat_lt, ◌==◌, if◌then◌else◌, Bool, true, false, Option, Some, None, List, [], ◌∷◌, length, refl, ap, sym, ◌∙◌, subst, arith, length-append, leb-false}
+use Rattle.std.proofs.lemmas.Bool.{cond_both, cond-true}
+use Rattle.fsim_base.specs.declared.cause.Cause.{Cause}
+use Rattle.fsim_base.specs.Number.{wrap_sum}
+use Rattle.device_bus.specs.declared.undo.Note.{Note}
+use Rattle.device_bus.specs.declared.undo.Note.TheVariants as note
+use Rattle.cache_timing.specs.Caches.{CachesState, Served}
+use Rattle.mono_model.specs.declared.setup.Setup.{Setup}
+use Rattle.mono_model.specs.declared.final_state.End.TheVariants.{OutputFull}
+use Rattle.mono_model.specs.Arch.{Arch, trapped, synced}
+use Rattle.mono_model.specs.Found.{Found, is_fence_i}
+use Rattle.mono_model.specs.Result.{Result}
+use Rattle.mono_model.specs.Effect.{effect, effect_by, retired, note_of, with_note}
+use Rattle.mono_model.specs.Alone.{has_no_room}
+use Rattle.mono_model.specs.Window.{Record, Stage, waiting, until, done, busy_divisions}
+use Rattle.mono_model.specs.Machine.{Machine, flushed}
+use Rattle.mono_model.specs.Interrupt.{is_interrupted, take_interrupt, interrupt_phase}
+use Rattle.mono_model.specs.Commit.{Leaving, stays, full, leaves, faults, syncs, ends, committed, faulted, fenced, leaving_by, leaving_done, leaving_stage, leaving_first, leaving, Ending, plain, trap, sync, Committed, after_leaving, commits, commit_phase}
+use Rattle.mono_model.specs.Complete.{Completed, due, is_mispredicted, complete_next, completes, completed_by, complete_phase}
+use Rattle.mono_model.specs.Issue.{Used, none_used, turn_of, walk, wants_time, replayed, issued, issue_phase}
+use Rattle.mono_model.specs.Fetch.{Try, misses, appends, turns, cache_read, missed, appended, new_record, predicted_next, tried, fetch_try}
+
+-- The interrupt.
+pub interrupt_cycle : (m : Machine) → (interrupt_phase m).cycle ≡ m.cycle
+unfolding interrupt_phase flushed
+interrupt_cycle m = cond_both (is_interrupted m) (take_interrupt m) m (λ x. x.cycle ≡ m.cycle) (λ e. refl) (λ e. refl)
+
+pub interrupt_window : (m : Machine) → length (interrupt_phase m).window ≤ length m.window
+unfolding interrupt_phase flushed
+interrupt_window m = cond_both (is_interrupted m) (take_interrupt m) m (λ x. length x.window ≤ length m.window) (λ e. omega arith) (λ e. omega arith)
+
+pub interrupt_flushes : (m : Machine) → is_interrupted m ≡ true → length (interrupt_phase m).window ≡ 0
+unfolding interrupt_phase flushed
+interrupt_flushes m is = ap (λ (x : Machine). length x.window) (cond-true (is_interrupted m) (take_interrupt m) m is)
+
+pub interrupt_output : (m : Machine) → (interrupt_phase m).arch.output ≡ m.arch.output
+unfolding interrupt_phase flushed trapped
+interrupt_output m = cond_both (is_interrupted m) (take_interrupt m) m (λ x. x.arch.output ≡ m.arch.output) (λ e. refl) (λ e. refl)
+
+-- What the oldest record leaves as it goes.
+pub record GoneFrom (s : Setup) (m behind : Machine) : Type 0 where
+  pub cycle : behind.cycle ≡ m.cycle
+  pub window : length behind.window < length m.window
+  pub output : length m.arch.output ≤ s.output → length behind.arch.output ≤ s.output
+
+pub record StoppedAt (m behind : Machine) : Type 0 where
+  pub cycle : behind.cycle ≡ m.cycle
+  pub window : behind.window ≡ m.window
+  pub output : behind.arch.output ≡ m.arch.output
+
+abbrev pub Left : Setup → Machine → Leaving → Type 0
+Left s m stays = Unit {0}
+Left s m (full behind) = StoppedAt m behind
+Left s m (leaves behind) = GoneFrom s m behind
+Left s m (faults behind) = GoneFrom s m behind × (length behind.window ≡ 0)
+Left s m (syncs behind) = GoneFrom s m behind × (length behind.window ≡ 0)
+Left s m (ends behind) = GoneFrom s m behind
+
+-- an instruction that has room for its byte keeps the output within its limit
+with_note_room : (s : Setup) (what : Note) (a : Arch) → has_no_room s what a ≡ false → length a.output ≤ s.output → length (with_note what a.output) ≤ s.output
+with_note_room s note.Nothing a room within = within
+with_note_room s (note.Out byte) a room within = omega (arith, length-append a.output (byte ∷ []), leb-false s.output (length a.output) room)
+with_note_room s (note.End halt) a room within = within
+
+effect_room : (s : Setup) (cause : Option Cause) (found : Found) (r : Result) (time : Option ℕ) (addr : ℕ) (a : Arch) → cause ≡ None → has_no_room s (note_of r a) a ≡ false → length a.output ≤ s.output →
+    length (effect_by cause found r time addr a).output ≤ s.output
+unfolding retired
+effect_room s None found r time addr a is room within = with_note_room s (note_of r a) a room within
+effect_room s (Some cause) found r time addr a is room within = cc
+
+fault_output : (cause : Option Cause) (why : Cause) (found : Found) (r : Result) (time : Option ℕ) (addr : ℕ) (a : Arch) → cause ≡ Some why → (effect_by cause found r time addr a).output ≡ a.output
+unfolding trapped
+fault_output None why found r time addr a is = cc
+fault_output (Some cause) why found r time addr a is = refl
+
+-- one record less
+shorter : (w rest : List Record) (rec : Record) → w ≡ rec ∷ rest → length rest < length w
+shorter w rest rec is = omega (arith, ap (λ (x : List Record). length x) is)
+
+committed_gone : (s : Setup) (rec : Record) (rest : List Record) (r : Result) (m : Machine) → m.window ≡ rec ∷ rest → r.cause ≡ None → has_no_room s (note_of r m.arch) m.arch ≡ false →
+    GoneFrom s m (committed s rec rest r m)
+unfolding effect
+committed_gone s rec rest r m is none room = record {
+  cycle = refl;
+  window = shorter m.window rest rec is;
+  output = effect_room s r.cause rec.found r rec.time rec.addr m.arch none room;
+}
+
+faulted_gone : (s : Setup) (rec : Record) (rest : List Record) (r : Result) (why : Cause) (m : Machine) → m.window ≡ rec ∷ rest → r.cause ≡ Some why → Left s m (faults (faulted rec rest r m))
+unfolding effect flushed
+faulted_gone s rec rest r why m is some = (
+  record {
+    cycle = refl;
+    window = omega (arith, shorter m.window rest rec is);
+    output = λ within. subst (λ (x : List ℕ). length x ≤ s.output) (sym (fault_output r.cause why rec.found r rec.time rec.addr m.arch some)) within;
+  },
+  refl,
+)
+
+fenced_gone : (s : Setup) (m behind : Machine) → GoneFrom s m behind → Left s m (syncs (fenced s behind))
+unfolding flushed synced
+fenced_gone s m behind gone = (record { cycle = gone.cycle; window = omega (arith, gone.window); output = gone.output }, refl)
+
+by_left : (s : Setup) (fence : Bool) (what : Note) (m behind : Machine) → GoneFrom s m behind → Left s m (leaving_by s fence what behind)
+by_left s fence (note.End halt) m behind gone = record { cycle = gone.cycle; window = gone.window; output = gone.output }
+by_left s true note.Nothing m behind gone = fenced_gone s m behind gone
+by_left s true (note.Out byte) m behind gone = fenced_gone s m behind gone
+by_left s false note.Nothing m behind gone = gone
+by_left s false (note.Out byte) m behind gone = gone
+
+done_left : (s : Setup) (rec : Record) (rest : List Record) (r : Result) (cause : Option Cause) (m : Machine) → m.window ≡ rec ∷ rest → r.cause ≡ cause → Left s m (leaving_done s rec rest r cause m)
+done_left s rec rest r (Some cause) m is e = faulted_gone s rec rest r cause m is e
+done_left s rec rest r None m is e =
+    cond_both (has_no_room s (note_of r m.arch) m.arch) (full (record m { end = OutputFull }))
+    (leaving_by s (is_fence_i rec.found) (note_of r m.arch) (committed s rec rest r m)) (Left s m)
+    (λ room. record { cycle = refl; window = refl; output = refl })
+    (λ room. by_left s (is_fence_i rec.found) (note_of r m.arch) m (committed s rec rest r m) (committed_gone s rec rest r m is e room))
+
+stage_left : (s : Setup) (rec : Record) (rest : List Record) (stage : Stage) (m : Machine) → m.window ≡ rec ∷ rest → Left s m (leaving_stage s rec rest stage m)
+stage_left s rec rest waiting m is = tt
+stage_left s rec rest (until e r) m is = tt
+stage_left s rec rest (done r) m is = done_left s rec rest r r.cause m is refl
+
+first_left : (s : Setup) (w : List Record) (m : Machine) → m.window ≡ w → Left s m (leaving_first s w m)
+first_left s [] m is = tt
+first_left s (rec ∷ rest) m is = stage_left s rec rest rec.stage m is
+
+pub leaving_left : (s : Setup) (m : Machine) → Left s m (leaving s m)
+unfolding leaving
+leaving_left s m = first_left s m.window m refl
+
+-- What the phase of commit leaves, where `left` records had left before.
+abbrev pub EndingLeft : Ending → ℕ → List Record → Type 0
+EndingLeft plain left w = Unit {0}
+EndingLeft trap left w = (0 < left) × (length w ≡ 0)
+EndingLeft sync left w = (0 < left) × (length w ≡ 0)
+
+pub record CommittedFrom (s : Setup) (m : Machine) (left : ℕ) (c : Committed) : Type 0 where
+  pub cycle : c.machine.cycle ≡ m.cycle
+  pub window : c.left + length c.machine.window ≤ left + length m.window
+  pub more : left ≤ c.left
+  pub output : length m.arch.output ≤ s.output → length c.machine.arch.output ≤ s.output
+  pub ending : EndingLeft c.ending c.left c.machine.window
+
+gone_on : (s : Setup) (m behind : Machine) (left : ℕ) (c : Committed) → GoneFrom s m behind → CommittedFrom s behind (left + 1) c → CommittedFrom s m left c
+gone_on s m behind left c gone on = record {
+  cycle = on.cycle ∙ gone.cycle;
+  window = omega (arith, on.window, gone.window);
+  more = omega (arith, on.more);
+  output = λ within. on.output (gone.output within);
+  ending = on.ending;
+}
+
+after_left : (s : Setup) (l : Leaving) (m : Machine) (left : ℕ) (go_on : Machine → Committed) → Left s m l → ((behind : Machine) → CommittedFrom s behind (left + 1) (go_on behind)) →
+    CommittedFrom s m left (after_leaving l m left go_on)
+after_left s stays m left go_on is on = record { cycle = refl; window = omega arith; more = omega arith; output = λ within. within; ending = tt }
+after_left s (full behind) m left go_on is on = record {
+  cycle = is.cycle;
+  window = subst (λ (w : List Record). left + length w ≤ left + length m.window) (sym is.window) (omega arith);
+  more = omega arith;
+  output = λ within. subst (λ (x : List ℕ). length x ≤ s.output) (sym is.output) within;
+  ending = tt;
+}
+after_left s (leaves behind) m left go_on is on = gone_on s m behind left (go_on behind) is (on behind)
+after_left s (faults behind) m left go_on is on = record { cycle = is.0.cycle; window = omega (arith, is.0.window); more = omega arith; output = is.0.output; ending = (omega arith, is.1) }
+after_left s (syncs behind) m left go_on is on = record { cycle = is.0.cycle; window = omega (arith, is.0.window); more = omega arith; output = is.0.output; ending = (omega arith, is.1) }
+after_left s (ends behind) m left go_on is on = record { cycle = is.cycle; window = omega (arith, is.window); more = omega arith; output = is.output; ending = tt }
+
+pub commits_from : (s : Setup) (more left : ℕ) (m : Machine) → CommittedFrom s m left (commits s more left m)
+unfolding commits
+commits_from s zero left m = record { cycle = refl; window = omega arith; more = omega arith; output = λ within. within; ending = tt }
+commits_from s (suc more) left m = after_left s (leaving s m) m left (λ behind. commits s more (left + 1) behind) (leaving_left s m) (λ behind. commits_from s more (left + 1) behind)
+
+pub commit_from : (s : Setup) (m : Machine) → CommittedFrom s m 0 (commit_phase s m)
+unfolding commit_phase
+commit_from s m = commits_from s s.params.core_commit 0 m
+
+-- Complete: records stay, and where fetch has to go on elsewhere, the mispredicted one is among them.
+pub record CompletedFrom (w : List Record) (c : Completed) : Type 0 where
+  pub window : length c.records ≤ length w
+  pub redirect : (addr : ℕ) → c.redirect ≡ Some addr → 0 < length c.records
+  pub kept : c.redirect ≡ None → length c.records ≡ length w
+
+next_from : (rec : Record) (over : Option Result) (w : List Record) (c : Completed) → CompletedFrom w c → CompletedFrom (rec ∷ w) (complete_next rec over c)
+next_from rec None w c from = record { window = omega (arith, from.window); redirect = λ addr is. omega arith; kept = λ is. omega (arith, from.kept is) }
+next_from rec (Some r) w c from =
+    cond_both (is_mispredicted rec r) (record { records = record rec { stage = done r } ∷ []; redirect = Some r.next })
+    (record c { records = record rec { stage = done r } ∷ c.records }) (CompletedFrom (rec ∷ w))
+    (λ b. record { window = omega arith; redirect = λ addr is. omega arith; kept = λ is. cc })
+    (λ b. record { window = omega (arith, from.window); redirect = λ addr is. omega arith; kept = λ is. omega (arith, from.kept is) })
+
+pub completes_from : (cycle : ℕ) (w : List Record) → CompletedFrom w (completes cycle w)
+unfolding completes
+completes_from cycle [] = record { window = omega arith; redirect = λ addr is. cc; kept = λ is. refl }
+completes_from cycle (rec ∷ rest) = next_from rec (due cycle rec.stage) rest (completes cycle rest) (completes_from cycle rest)
+
+by_window : (redirect : Option ℕ) (records : List Record) (m : Machine) → (completed_by redirect records m).window ≡ records
+unfolding flushed
+by_window None records m = refl
+by_window (Some addr) records m = refl
+
+pub complete_window : (m : Machine) → (complete_phase m).window ≡ (completes m.cycle m.window).records
+unfolding complete_phase
+complete_window m = let c = completes m.cycle m.window in by_window c.redirect c.records m
+
+-- what a phase behind commit leaves: the cycle number, the committed state, and no more records
+pub record Kept (m behind : Machine) : Type 0 where
+  pub cycle : behind.cycle ≡ m.cycle
+  pub arch : behind.arch ≡ m.arch
+  pub window : length behind.window ≤ length m.window
+
+by_kept : (redirect : Option ℕ) (records : List Record) (m : Machine) → length records ≤ length m.window → Kept m (completed_by redirect records m)
+unfolding flushed
+by_kept None records m fewer = record { cycle = refl; arch = refl; window = fewer }
+by_kept (Some addr) records m fewer = record { cycle = refl; arch = refl; window = fewer }
+
+pub complete_kept : (m : Machine) → Kept m (complete_phase m)
+unfolding complete_phase
+complete_kept m = let c = completes m.cycle m.window in by_kept c.redirect c.records m (completes_from m.cycle m.window).window
+
+-- Issue.
+pub walk_length : (s : Setup) (cycle : ℕ) (a : Arch) (busy : ℕ) (w older : List Record) (used : Used) (caches : CachesState) → length (walk s cycle a busy w older used caches).records ≡ length w
+unfolding walk
+walk_length s cycle a busy [] older used caches = refl
+walk_length s cycle a busy (rec ∷ rest) older used caches =
+    let t = turn_of s cycle a busy older rec used caches in
+    let same : length (walk s cycle a busy rest (t.turned ∷ older) t.used t.caches).records ≡ length rest = walk_length s cycle a busy rest (t.turned ∷ older) t.used t.caches in
+    omega arith
+
+pub issue_kept : (s : Setup) (m : Machine) → Kept m (issue_phase s m)
+unfolding issue_phase flushed
+issue_kept s m =
+    cond_both (wants_time s m) (replayed m) (issued s m) (Kept m)
+    (λ e. record { cycle = refl; arch = refl; window = omega arith })
+    (λ e. record { cycle = refl; arch = refl; window = omega (arith, walk_length s m.cycle m.arch (busy_divisions m.window) m.window [] none_used m.caches) })
+
+pub replay_flushes : (s : Setup) (m : Machine) → wants_time s m ≡ true → length (issue_phase s m).window ≡ 0
+unfolding issue_phase flushed
+replay_flushes s m is = ap (λ (x : Machine). length x.window) (cond-true (wants_time s m) (replayed m) (issued s m) is)
+
+-- A try of fetch appends one record at most.
+pub record OneMore (m behind : Machine) : Type 0 where
+  pub cycle : behind.cycle ≡ m.cycle
+  pub arch : behind.arch ≡ m.arch
+  pub window : length behind.window ≡ length m.window + 1
+
+abbrev pub Tries : Machine → Try → Type 0
+Tries m (misses behind) = Kept m behind
+Tries m (appends behind) = OneMore m behind
+Tries m (turns behind) = OneMore m behind
+
+tried_tries : (s : Setup) (d : Served) (m : Machine) → Tries m (tried s d m)
+tried_tries s d m =
+    cond_both (nat_lt 0 d.cycles) (misses (missed d.cycles d.state m))
+    (if predicted_next s m == wrap_sum m.fetch_addr 4 then appends (appended s d.state m) else turns (appended s d.state m)) (Tries m)
+    (λ e. record { cycle = refl; arch = refl; window = omega arith })
+    (λ e. cond_both (predicted_next s m == wrap_sum m.fetch_addr 4) (appends (appended s d.state m)) (turns (appended s d.state m)) (Tries m)
+    (λ f. more) (λ f. more))
+  where
+    more : OneMore m (appended s d.state m)
+    more = record { cycle = refl; arch = refl; window = omega (arith, length-append m.window (new_record s m ∷ [])) }
+
+pub try_tries : (s : Setup) (m : Machine) → Tries m (fetch_try s m)
+unfolding fetch_try
+try_tries s m = tried_tries s (cache_read s m) m

@@ -1,0 +1,261 @@
+-- Each turn leaves time reads served.
+use Rattle.std.proofs.Common.{◌≡◌, ℕ, zero, suc, ◌+◌, ◌≤◌, nat_lt, ◌==◌, ◌&&◌, Bool, true, false, if◌then◌else◌, is_none, Option, Some, None, List, [], ◌∷◌, ◌++◌, refl, subst}
+use Rattle.std.proofs.lemmas.Bool.{and_parts}
+use Rattle.fsim_base.specs.Number.{wrap_sum}
+use Rattle.fsim_base.specs.declared.cause.Cause.{Cause}
+use Rattle.device_bus.specs.declared.undo.Note.{Note}
+use Rattle.device_bus.specs.declared.undo.Note.TheVariants as note
+use Rattle.cache_timing.specs.Caches.{CachesState, Served}
+use Rattle.mono_model.specs.declared.setup.Setup.{Setup}
+use Rattle.mono_model.specs.declared.final_state.End.TheVariants.{OutputFull}
+use Rattle.mono_model.specs.Setup.{ram_range, is_setup}
+use Rattle.mono_model.specs.Arch.{Arch}
+use Rattle.mono_model.specs.Found.{first_source, second_source, is_fence_i}
+use Rattle.mono_model.specs.Result.{Result, executed, is_time_read}
+use Rattle.mono_model.specs.Effect.{note_of}
+use Rattle.mono_model.specs.Sequence.{is_unserved}
+use Rattle.mono_model.specs.Alone.{has_no_room}
+use Rattle.mono_model.specs.Window.{Record, Stage, waiting, until, done, class_at, operand, busy_divisions}
+use Rattle.mono_model.specs.Machine.{Machine, machine_start, flushed}
+use Rattle.mono_model.specs.Interrupt.{is_interrupted, take_interrupt, interrupt_phase}
+use Rattle.mono_model.specs.Commit as commit
+use Rattle.mono_model.specs.Complete.{Completed, due, is_mispredicted, in_front, complete_next, completes, completed_by, complete_phase}
+use Rattle.mono_model.specs.Issue.{Used, none_used, has_unit, is_oldest, class_allows, is_past_front, seen_from, result_with, ready_result, cached, Turned, unchanged, begun, begun_if, turn_of, walk, wants_time, wants_time_result, wants_time_first, replayed, issued, issue_phase}
+use Rattle.mono_model.specs.Fetch.{misses, appends, turns, missed, appended, new_record, predicted_next, cache_read, fetch_try}
+use Rattle.mono_model.specs.Cycle.{ticked}
+use Rattle.mono_model.specs.Demand.{Demand, demand_try, At, interrupting, committing, completing, issuing, trying, ending, stopping, halted, Run, turn_at, turn, Place, step_by, step, place}
+use Rattle.machine_laws.specs.Served.{IsServed, AreServed}
+use Rattle.machine_laws.proofs.TimeReads.{time_read_oldest}
+use Rattle.machine_laws.proofs.RamAbove.{ram_above}
+
+-- interrupt
+interrupt_served : (m : Machine) → AreServed m.window → AreServed (interrupt_phase m).window
+unfolding interrupt_phase flushed
+interrupt_served m served = by_test (is_interrupted m)
+  where
+    by_test : (b : Bool) → AreServed (if b then take_interrupt m else m).window
+    by_test true = tt
+    by_test false = served
+
+-- commit
+abbrev ServedBy : commit.Leaving → Type 0
+ServedBy commit.stays = Unit {0}
+ServedBy (commit.full m) = AreServed m.window
+ServedBy (commit.leaves m) = AreServed m.window
+ServedBy (commit.faults m) = AreServed m.window
+ServedBy (commit.syncs m) = AreServed m.window
+ServedBy (commit.ends m) = AreServed m.window
+
+module _ (s : Setup) (m : Machine) (rec : Record) (rest : List Record) (r : Result) (whole : AreServed m.window) (served : AreServed rest) where
+  note_served : (fence : Bool) (what : Note) → ServedBy (commit.leaving_by s fence what (commit.committed s rec rest r m))
+  unfolding flushed
+  note_served true (note.End halt) = served
+  note_served false (note.End halt) = served
+  note_served true note.Nothing = tt
+  note_served true (note.Out byte) = tt
+  note_served false note.Nothing = served
+  note_served false (note.Out byte) = served
+
+  cause_served : (cause : Option Cause) → ServedBy (commit.leaving_done s rec rest r cause m)
+  unfolding flushed
+  cause_served (Some cause) = tt
+  cause_served None = by_test (has_no_room s (note_of r m.arch) m.arch)
+    where
+      by_test : (b : Bool) →
+          ServedBy (if b then commit.full (record m { end = OutputFull }) else commit.leaving_by s (is_fence_i rec.found) (note_of r m.arch) (commit.committed s rec rest r m))
+      by_test true = whole
+      by_test false = note_served (is_fence_i rec.found) (note_of r m.arch)
+
+stage_served : (s : Setup) (m : Machine) (rec : Record) (rest : List Record) (stage : Stage) → AreServed m.window → AreServed rest → ServedBy (commit.leaving_stage s rec rest stage m)
+stage_served s m rec rest waiting whole served = tt
+stage_served s m rec rest (until e r) whole served = tt
+stage_served s m rec rest (done r) whole served = cause_served s m rec rest r whole served r.cause
+
+first_served : (s : Setup) (m : Machine) (window : List Record) → AreServed m.window → AreServed window → ServedBy (commit.leaving_first s window m)
+first_served s m [] whole served = tt
+first_served s m (rec ∷ rest) whole served = stage_served s m rec rest rec.stage whole served.1
+
+leaving_served : (s : Setup) (m : Machine) → AreServed m.window → ServedBy (commit.leaving s m)
+unfolding commit.leaving
+leaving_served s m served = first_served s m m.window served served
+
+after_served : (m : Machine) (left : ℕ) (l : commit.Leaving) (go_on : Machine → commit.Committed) → AreServed m.window → ServedBy l →
+    ((behind : Machine) → AreServed behind.window → AreServed (go_on behind).machine.window) → AreServed (commit.after_leaving l m left go_on).machine.window
+after_served m left commit.stays go_on served kept on = served
+after_served m left (commit.full behind) go_on served kept on = kept
+after_served m left (commit.leaves behind) go_on served kept on = on behind kept
+after_served m left (commit.faults behind) go_on served kept on = kept
+after_served m left (commit.syncs behind) go_on served kept on = kept
+after_served m left (commit.ends behind) go_on served kept on = kept
+
+commits_served : (s : Setup) (more left : ℕ) (m : Machine) → AreServed m.window → AreServed (commit.commits s more left m).machine.window
+unfolding commit.commits
+commits_served s zero left m served = served
+commits_served s (suc more) left m served =
+    after_served m left (commit.leaving s m) (λ behind. commit.commits s more (left + 1) behind) served (leaving_served s m served)
+    (λ behind kept. commits_served s more (left + 1) behind kept)
+
+commit_served : (s : Setup) (m : Machine) → AreServed m.window → AreServed (commit.commit_phase s m).machine.window
+unfolding commit.commit_phase
+commit_served s m served = commits_served s s.params.core_commit 0 m served
+
+-- complete
+done_served : (rec : Record) (r : Result) (rest : Completed) → is_unserved rec.found r rec.time ≡ false → AreServed rest.records → AreServed (complete_next rec (Some r) rest).records
+done_served rec r rest is served = by_test (is_mispredicted rec r)
+  where
+    by_test : (b : Bool) →
+        AreServed (if b then record { records = record rec { stage = done r } ∷ []; redirect = Some r.next } else in_front (record rec { stage = done r }) rest).records
+    by_test true = (is, tt)
+    by_test false = (is, served)
+
+next_served : (cycle : ℕ) (rec : Record) (stage : Stage) (rest : Completed) → IsServed rec.found rec.time rec.stage → IsServed rec.found rec.time stage → AreServed rest.records →
+    AreServed (complete_next rec (due cycle stage) rest).records
+next_served cycle rec waiting rest now is served = (now, served)
+next_served cycle rec (until e r) rest now is served = by_test (e == cycle)
+  where
+    by_test : (b : Bool) → AreServed (complete_next rec (if b then Some r else None) rest).records
+    by_test true = done_served rec r rest is served
+    by_test false = (now, served)
+next_served cycle rec (done r) rest now is served = (now, served)
+
+completes_served : (cycle : ℕ) (window : List Record) → AreServed window → AreServed (completes cycle window).records
+unfolding completes
+completes_served cycle [] served = tt
+completes_served cycle (rec ∷ rest) served = next_served cycle rec rec.stage (completes cycle rest) served.0 served.0 (completes_served cycle rest served.1)
+
+redirect_served : (redirect : Option ℕ) (records : List Record) (m : Machine) → AreServed records → AreServed (completed_by redirect records m).window
+unfolding flushed
+redirect_served None records m served = served
+redirect_served (Some addr) records m served = served
+
+complete_served : (m : Machine) → AreServed m.window → AreServed (complete_phase m).window
+unfolding complete_phase
+complete_served m served = redirect_served (completes m.cycle m.window).redirect (completes m.cycle m.window).records m (completes_served m.cycle m.window served)
+
+-- issue: the oldest is replayed where it wants a time, and no other record reads it
+unwanted : (reads none : Bool) → (reads ≡ true → (none && reads) ≡ false) → (reads && none) ≡ false
+unwanted false none has = refl
+unwanted true true has = has refl
+unwanted true false has = refl
+
+module _ (s : Setup) (above : 0x20000000 ≤ (ram_range s.params).base) (cycle : ℕ) (a : Arch) (busy : ℕ) where
+  with_time : (older : List Record) (rec : Record) (r : Result) (first second : Option ℕ) → result_with s a older rec first second ≡ Some r →
+      is_time_read rec.found r.access ≡ true → class_allows (class_at rec) r.access older ≡ true → is_oldest older ≡ true
+  with_time older rec r (Some x) (Some y) gives reads allows =
+      let e : r ≡ executed (ram_range s.params) rec.found rec.addr x y (seen_from a older rec.time) = cc in
+      let P : Result → Type 0 = λ t. is_time_read rec.found t.access ≡ true in
+      let Q : Result → Type 0 = λ t. class_allows (class_at rec) t.access older ≡ true in
+      time_read_oldest (ram_range s.params) above older rec.found rec.addr x y (seen_from a older rec.time) (subst P e reads) (subst Q e allows)
+  with_time older rec r (Some x) None gives reads allows = cc
+  with_time older rec r None second gives reads allows = cc
+
+  ready_time : (older : List Record) (rec : Record) (r : Result) → ready_result s a older rec ≡ Some r → is_time_read rec.found r.access ≡ true →
+      class_allows (class_at rec) r.access older ≡ true → is_oldest older ≡ true
+  unfolding ready_result
+  ready_time older rec r gives reads allows =
+      with_time older rec r (operand a.regs older (first_source rec.found)) (operand a.regs older (second_source rec.found)) gives reads allows
+
+  begun_served : (older : List Record) (rec : Record) (used : Used) (caches : CachesState) (ready : Option Result) → ready_result s a older rec ≡ ready →
+      (is_oldest older ≡ true → wants_time_result rec ready ≡ false) → IsServed rec.found rec.time rec.stage →
+      (let t = (begun_if s cycle busy older rec ready used caches).turned in IsServed t.found t.time t.stage)
+  begun_served older rec used caches None is unasked served = served
+  begun_served older rec used caches (Some r) is unasked served = by_test (class_allows (class_at rec) r.access older && has_unit s.params busy used (class_at rec)) refl
+    where
+      by_test : (b : Bool) → (class_allows (class_at rec) r.access older && has_unit s.params busy used (class_at rec)) ≡ b →
+          (let t = (if b then begun s cycle rec r used (cached s r.cause r.access caches) else unchanged rec used caches).turned in IsServed t.found t.time t.stage)
+      by_test true may =
+          unwanted (is_time_read rec.found r.access) (is_none rec.time)
+          (λ reads. unasked (ready_time older rec r is reads (and_parts (class_allows (class_at rec) r.access older) (has_unit s.params busy used (class_at rec)) may).0))
+      by_test false may = served
+
+  turn_served : (older : List Record) (rec : Record) (used : Used) (caches : CachesState) →
+      (is_oldest older ≡ true → (if is_past_front s.params cycle rec then wants_time_result rec (ready_result s a older rec) else false) ≡ false) → IsServed rec.found rec.time rec.stage →
+      (let t = (turn_of s cycle a busy older rec used caches).turned in IsServed t.found t.time t.stage)
+  unfolding turn_of
+  turn_served older rec used caches unasked served = by_test (is_past_front s.params cycle rec) unasked
+    where
+      by_test : (b : Bool) → (is_oldest older ≡ true → (if b then wants_time_result rec (ready_result s a older rec) else false) ≡ false) →
+          (let t = (if b then begun_if s cycle busy older rec (ready_result s a older rec) used caches else unchanged rec used caches).turned in IsServed t.found t.time t.stage)
+      by_test true unasked = begun_served older rec used caches (ready_result s a older rec) refl unasked served
+      by_test false unasked = served
+
+  -- behind the oldest
+  walk_served : (rest older : List Record) (used : Used) (caches : CachesState) → is_oldest older ≡ false → AreServed rest → AreServed (walk s cycle a busy rest older used caches).records
+  unfolding walk
+  walk_served [] older used caches others served = tt
+  walk_served (rec ∷ rest) older used caches others served =
+      let t : Turned = turn_of s cycle a busy older rec used caches in
+      (turn_served older rec used caches (λ oldest. cc) served.0, walk_served rest (t.turned ∷ older) t.used t.caches refl served.1)
+
+issued_served : (s : Setup) (m : Machine) (window : List Record) → 0x20000000 ≤ (ram_range s.params).base → wants_time_first s m window ≡ false → AreServed window →
+    AreServed (walk s m.cycle m.arch (busy_divisions m.window) window [] none_used m.caches).records
+unfolding walk
+issued_served s m [] above unasked served = tt
+issued_served s m (rec ∷ rest) above unasked served =
+    let t : Turned = turn_of s m.cycle m.arch (busy_divisions m.window) [] rec none_used m.caches in (
+      turn_served s above m.cycle m.arch (busy_divisions m.window) [] rec none_used m.caches (λ oldest. unasked) served.0,
+      walk_served s above m.cycle m.arch (busy_divisions m.window) rest (t.turned ∷ []) t.used t.caches refl served.1,
+    )
+
+issue_served : (s : Setup) (m : Machine) → 0x20000000 ≤ (ram_range s.params).base → AreServed m.window → AreServed (issue_phase s m).window
+unfolding issue_phase wants_time flushed
+issue_served s m above served = by_test (wants_time_first s m m.window) refl
+  where
+    by_test : (b : Bool) → wants_time_first s m m.window ≡ b → AreServed (if b then replayed m else issued s m).window
+    by_test true is = tt
+    by_test false is = issued_served s m m.window above is served
+
+-- fetch
+append_served : (window : List Record) (rec : Record) → AreServed window → IsServed rec.found rec.time rec.stage → AreServed (window ++ rec ∷ [])
+append_served [] rec served now = (now, tt)
+append_served (r ∷ rest) rec served now = (served.0, append_served rest rec served.1 now)
+
+try_served : (s : Setup) (d : Demand) (c : Served) (miss straight : Bool) → AreServed d.machine.window →
+    AreServed (demand_try s (if miss then misses (missed c.cycles c.state d.machine) else if straight then appends (appended s c.state d.machine) else turns (appended s c.state d.machine)) d).machine.window
+try_served s d c true straight served = served
+try_served s d c false true served = append_served d.machine.window (new_record s d.machine) served tt
+try_served s d c false false served = append_served d.machine.window (new_record s d.machine) served tt
+
+fetch_served : (s : Setup) (d : Demand) → AreServed d.machine.window → AreServed (demand_try s (fetch_try s d.machine) d).machine.window
+unfolding fetch_try
+fetch_served s d served =
+    try_served s d (cache_read s d.machine) (nat_lt 0 (cache_read s d.machine).cycles) (predicted_next s d.machine == wrap_sum d.machine.fetch_addr 4) served
+
+ticked_served : (s : Setup) (m : Machine) → AreServed m.window → AreServed (ticked s m).window
+unfolding ticked
+ticked_served s m served = served
+
+start_served : (s : Setup) → AreServed (machine_start s).window
+unfolding machine_start
+start_served s = tt
+
+turn_served_at : (s : Setup) (r : Run) → 0x20000000 ≤ (ram_range s.params).base → AreServed r.demand.machine.window → AreServed (turn s r).demand.machine.window
+unfolding turn
+turn_served_at s r above served = by_at r.at
+  where
+    by_at : (at : At) → AreServed (turn_at s at r.demand).demand.machine.window
+    by_at interrupting = interrupt_served r.demand.machine served
+    by_at committing = commit_served s r.demand.machine served
+    by_at completing = complete_served r.demand.machine served
+    by_at issuing = issue_served s r.demand.machine above served
+    by_at (trying more) = fetch_served s r.demand served
+    by_at ending = ticked_served s r.demand.machine served
+    by_at stopping = served
+    by_at halted = served
+
+step_by_served : (s : Setup) (owed : ℕ) (r : Run) → 0x20000000 ≤ (ram_range s.params).base → AreServed r.demand.machine.window → AreServed (step_by s owed r).run.demand.machine.window
+step_by_served s zero r above served = turn_served_at s r above served
+step_by_served s (suc owed) r above served = served
+
+step_served : (s : Setup) (p : Place) → 0x20000000 ≤ (ram_range s.params).base → AreServed p.run.demand.machine.window → AreServed (step s p).run.demand.machine.window
+unfolding step
+step_served s p above served = step_by_served s p.owed p.run above served
+
+-- at every place
+place_served_at : (s : Setup) (k : ℕ) → 0x20000000 ≤ (ram_range s.params).base → AreServed (place s k).run.demand.machine.window
+unfolding place
+place_served_at s zero above = start_served s
+place_served_at s (suc k) above = step_served s (place s k) above (place_served_at s k above)
+
+pub place_served : (s : Setup) (k : ℕ) → is_setup s ≡ true → AreServed (place s k).run.demand.machine.window
+place_served s k is = place_served_at s k (ram_above s is)

@@ -1,0 +1,119 @@
+-- What the orders told commit has room in the output.
+use Rattle.std.proofs.Common.{◌≡◌, ℕ, zero, suc, ◌≤◌, ◌<◌, Bool, true, false, Option, Some, None, List, [], ◌∷◌, ◌++◌, length, drop, refl, ap, sym, ◌∙◌, subst, arith, ⊎_elim}
+use Rattle.std.proofs.lemmas.Bool.{cases_order}
+use Rattle.rollback_cmds.specs.declared.order.Order.{Order}
+use Rattle.rollback_cmds.specs.declared.order.Order.TheVariants.{Set, Commit, Interrupt, Time, Stop, Sync}
+use Rattle.mono_model.specs.declared.setup.Setup.{Setup}
+use Rattle.mono_model.specs.Arch.{Arch, trapped, synced}
+use Rattle.mono_model.specs.Path.{path, path-commit, path-stop}
+use Rattle.mono_model.specs.Demand.{At, interrupting, committing, completing, issuing, trying, ending, stopping, halted, Run, turn_at, turn, step_by, step, Place, place, told, number_of}
+use Rattle.mono_model.specs.Split.{told_by, is_halted}
+use Rattle.machine_laws.specs.Numbers.{last_commit, IsAtCommit}
+use Rattle.machine_laws.specs.Telling.{with_order}
+use Rattle.machine_laws.specs.Output.{IsInRoom}
+use Rattle.machine_laws.proofs.OutputRoom.{output_within}
+use Rattle.machine_laws.proofs.Path.{path_below, path_at_set, path_at_interrupt, path_at_time, path_at_sync}
+use Rattle.machine_laws.proofs.Places.{place_related}
+use Rattle.machine_laws.proofs.Staying.{done_told}
+use Rattle.machine_laws.proofs.SplitSteps.{Owes, owes_none, owes_one, step_stepped}
+use Rattle.machine_laws.proofs.Telling.{step_told}
+
+-- at its number or before it an order leaves the output
+output_at : (s : Setup) (o : Order) (os : List Order) → (path s (o ∷ os) (number_of o)).output ≡ (path s os (number_of o)).output
+unfolding trapped synced
+output_at s (Set m addr) os = ap (λ (a : Arch). a.output) (path_at_set s m addr os)
+output_at s (Commit m) os = ap (λ (a : Arch). a.output) (path-commit s m os m)
+output_at s (Interrupt m) os = ap (λ (a : Arch). a.output) (path_at_interrupt s m os)
+output_at s (Time m v) os = ap (λ (a : Arch). a.output) (path_at_time s m v os)
+output_at s (Stop m) os = ap (λ (a : Arch). a.output) (path-stop s m os m)
+output_at s (Sync m) os = ap (λ (a : Arch). a.output) (path_at_sync s m os)
+
+output_kept : (s : Setup) (o : Order) (os : List Order) (n : ℕ) → n ≤ number_of o → (path s (o ∷ os) n).output ≡ (path s os n).output
+output_kept s o os n most = ⊎_elim here (λ other. ⊎_elim below (λ above. absurd (omega arith)) other) (cases_order n (number_of o))
+  where
+    here : n ≡ number_of o → (path s (o ∷ os) n).output ≡ (path s os n).output
+    here same = subst (λ (k : ℕ). (path s (o ∷ os) k).output ≡ (path s os k).output) (sym same) (output_at s o os)
+
+    below : n < number_of o → (path s (o ∷ os) n).output ≡ (path s os n).output
+    below under = ap (λ (a : Arch). a.output) (path_below s o os n under)
+
+-- at each place at most the opening behind a Commit isn't told yet
+halted_is : (at : At) → is_halted at ≡ true → at ≡ halted
+halted_is interrupting e = cc
+halted_is committing e = cc
+halted_is completing e = cc
+halted_is issuing e = cc
+halted_is (trying more) e = cc
+halted_is ending e = cc
+halted_is stopping e = cc
+halted_is halted e = refl
+
+by_halted : (s : Setup) (owed : ℕ) (r : Run) → is_halted r.at ≡ true → Owes (record { run = r; owed = owed }) → Owes (step_by s owed r)
+unfolding turn
+by_halted s zero r off owes =
+    owes_none (omega (arith, ap (λ (at : At). length (turn_at s at r.demand).demand.orders) (halted_is r.at off)))
+by_halted s (suc owed) r off (owes_none all) = absurd (omega arith)
+by_halted s (suc owed) r off (owes_one all m o os is opening on) = cc
+
+step_owes : (s : Setup) (p : Place) → Owes p → Owes (step s p)
+unfolding step
+step_owes s p owes = by_test (is_halted p.run.at) refl
+  where
+    by_test : (b : Bool) → is_halted p.run.at ≡ b → Owes (step s p)
+    by_test true off = by_halted s p.owed p.run off owes
+    by_test false on = (step_stepped s p on owes).owes
+
+place_owes : (s : Setup) (k : ℕ) → Owes (place s k)
+unfolding place
+place_owes s zero = owes_none refl
+place_owes s (suc k) = step_owes s (place s k) (place_owes s k)
+
+told_kept : (s : Setup) (p : Place) → Owes p → (path s p.run.demand.orders p.run.demand.done).output ≡ (path s (told p) p.run.demand.done).output
+told_kept s p (owes_none all) = ap (λ (k : ℕ). (path s (drop k p.run.demand.orders) p.run.demand.done).output) (sym all)
+told_kept s p (owes_one all m o os is opening on) =
+    let d = p.run.demand in
+    let rest : told p ≡ Commit m ∷ os = ap (λ (k : ℕ). drop k d.orders) all ∙ ap (λ (l : List Order). drop 1 l) is in
+    ap (λ (l : List Order). (path s l d.done).output) is ∙ output_kept s o (Commit m ∷ os) d.done (omega (arith, opening.number)) ∙ ap (λ (l : List Order). (path s l d.done).output) (sym rest)
+
+-- what is committed under the orders told has room
+told_output : (s : Setup) (k : ℕ) → length (path s (told (place s k)) (place s k).run.demand.done).output ≤ s.output
+told_output s k =
+    let p = place s k in
+    let d = p.run.demand in
+    subst (λ (bytes : List ℕ). length bytes ≤ s.output) (ap (λ (a : Arch). a.output) (place_related s k).arch ∙ told_kept s p (place_owes s k)) (output_within s k)
+
+-- each order told commits no more than that
+abbrev pub AreWithin : Setup → List Order → Type 0
+AreWithin s [] = Unit {0}
+AreWithin s (o ∷ os) = (length (path s (o ∷ os) (last_commit (o ∷ os))).output ≤ s.output) × AreWithin s os
+
+one_more : (s : Setup) (o : Option Order) (os : List Order) → length (path s (with_order o os) (last_commit (with_order o os))).output ≤ s.output → AreWithin s os → AreWithin s (with_order o os)
+one_more s None os first are = are
+one_more s (Some o) os first are = (first, are)
+
+pub told_within : (s : Setup) (k : ℕ) → AreWithin s (told (place s k))
+unfolding place
+told_within s zero = tt
+told_within s (suc k) =
+    let o = told_by (place s k) (place s (suc k)) in
+    let os = told (place s k) in
+    let first : length (path s (told (place s (suc k))) (last_commit (told (place s (suc k))))).output ≤ s.output =
+    subst (λ (n : ℕ). length (path s (told (place s (suc k))) n).output ≤ s.output) (done_told s (suc k)) (told_output s (suc k)) in
+    subst (AreWithin s) (sym (step_told s k)) (one_more s o os (subst (λ (l : List Order). length (path s l (last_commit l)).output ≤ s.output) (step_told s k) first) (told_within s k))
+
+pub within_behind : (s : Setup) (xs ys : List Order) → AreWithin s (xs ++ ys) → AreWithin s ys
+within_behind s [] ys are = are
+within_behind s (o ∷ xs) ys are = within_behind s xs ys are.1
+
+kept_within : (s : Setup) (o : Order) (os : List Order) (n : ℕ) → number_of o ≡ n → n ≡ last_commit os → length (path s (o ∷ os) (last_commit os)).output ≤ s.output → length (path s os n).output ≤ s.output
+kept_within s o os n is at within =
+    subst (λ (bytes : List ℕ). length bytes ≤ s.output) (output_kept s o os n (omega (arith, is)))
+    (subst (λ (k : ℕ). length (path s (o ∷ os) k).output ≤ s.output) (sym at) within)
+
+pub commits_within : (s : Setup) (o : Order) (os : List Order) → IsAtCommit os o → length (path s (o ∷ os) (last_commit (o ∷ os))).output ≤ s.output → IsInRoom s os o
+commits_within s (Set m addr) os at within = tt
+commits_within s (Commit m) os at within = subst (λ (a : Arch). length a.output ≤ s.output) (path-commit s m os m) within
+commits_within s (Interrupt m) os at within = kept_within s (Interrupt m) os m refl at within
+commits_within s (Time m v) os at within = tt
+commits_within s (Stop m) os at within = tt
+commits_within s (Sync m) os at within = kept_within s (Sync m) os m refl at within

@@ -1,0 +1,40 @@
+-- Every event, and the rounds to a boundary, lead on to states that events lead to.
+use Rattle.std.proofs.Common.{◌≡◌, ℕ, zero, suc, if◌then◌else◌, List, [], ◌∷◌, ◌++◌, refl, ap, sym, ◌∙◌, subst}
+use Rattle.std.proofs.lemmas.Bool.{cond_both}
+use Rattle.mono_model.specs.declared.setup.Setup.{Setup}
+use Rattle.mono_model.specs.Split.{Split, split_start, Event, compute, push, obey, tick, take, send, event_at, played, is_place_boundary, is_boundary, round, rounds_to_boundary}
+use Rattle.machine_laws.specs.Reached.{IsReached}
+use Rattle.machine_laws.specs.SplitLaw.{IsRun}
+use Rattle.machine_laws.proofs.SplitRun.{is_run}
+
+played_last : (s : Setup) (es : List Event) (e : Event) (x : Split) → played s (es ++ e ∷ []) x ≡ event_at s e (played s es x)
+played_last s [] e x = refl
+played_last s (a ∷ es) e x = played_last s es e (event_at s a x)
+
+pub start_reached : (s : Setup) → IsReached s (split_start s)
+start_reached s = record { events = []; is = refl }
+
+pub event_reached : (s : Setup) (e : Event) (x : Split) → IsReached s x → IsReached s (event_at s e x)
+event_reached s e x reached = record {
+  events = reached.events ++ e ∷ [];
+  is = ap (event_at s e) reached.is ∙ sym (played_last s reached.events e (split_start s));
+}
+
+pub round_reached : (s : Setup) (x : Split) → IsReached s x → IsReached s (round s x)
+round_reached s x reached =
+    let a = event_at s push (event_at s compute (event_at s obey x)) in
+    let b = event_at s take a in
+    let a_reached : IsReached s a =
+    event_reached s push (event_at s compute (event_at s obey x)) (event_reached s compute (event_at s obey x) (event_reached s obey x reached)) in
+    let b_reached : IsReached s b = event_reached s take a a_reached in
+    event_reached s send (if is_place_boundary b.place then b else event_at s tick b)
+    (cond_both (is_place_boundary b.place) b (event_at s tick b) (IsReached s) (λ e. b_reached) (λ e. event_reached s tick b b_reached))
+
+pub boundary_reached : (s : Setup) (rounds : ℕ) (x : Split) → IsReached s x → IsReached s (rounds_to_boundary s rounds x)
+unfolding rounds_to_boundary
+boundary_reached s zero x reached = reached
+boundary_reached s (suc more) x reached =
+    cond_both (is_boundary x) x (rounds_to_boundary s more (round s x)) (IsReached s) (λ e. reached) (λ e. boundary_reached s more (round s x) (round_reached s x reached))
+
+pub reached_run : (s : Setup) (x : Split) → IsReached s x → IsRun s x
+reached_run s x reached = subst (IsRun s) (sym reached.is) (is_run s reached.events)

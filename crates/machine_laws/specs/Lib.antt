@@ -1,0 +1,10 @@
+pub mod Relation
+pub mod Served
+pub mod Runs
+pub mod Numbers
+pub mod Stays
+pub mod Telling
+pub mod Counts
+pub mod Output
+pub mod Reached
+pub mod SplitLaw

@@ -1,0 +1,29 @@
+-- What is committed stays.
+use Rattle.std.specs.Prelude.{◌≡◌, ℕ, ◌<◌, ◌==◌, if◌then◌else◌, List, [], ◌∷◌, ◌++◌}
+use Rattle.rollback_cmds.specs.declared.order.Order.{Order}
+use Rattle.rollback_cmds.specs.declared.order.Order.TheVariants.{Set, Commit, Interrupt, Time, Stop, Sync}
+use Rattle.mono_model.specs.declared.setup.Setup.{Setup}
+use Rattle.mono_model.specs.Arch.{Arch, interrupted}
+use Rattle.mono_model.specs.Path.{path}
+use Rattle.mono_model.specs.Demand.{Place, told}
+
+-- a state with the traps of those interrupts taken, among orders with the newest first, that come before instruction `n`
+abbrev pub with_interrupts : List Order → ℕ → Arch → Arch
+with_interrupts [] n a = a
+with_interrupts (Set m addr ∷ os) n a = with_interrupts os n a
+with_interrupts (Commit m ∷ os) n a = with_interrupts os n a
+with_interrupts (Interrupt m ∷ os) n a = if m == n then interrupted (with_interrupts os n a) else with_interrupts os n a
+with_interrupts (Time m v ∷ os) n a = with_interrupts os n a
+with_interrupts (Stop m ∷ os) n a = with_interrupts os n a
+with_interrupts (Sync m ∷ os) n a = with_interrupts os n a
+
+-- the path up to the next instruction to commit, at a place and at a later one: below it the path stays
+abbrev pub StaysBelow : Setup → Place → Place → Type 0
+StaysBelow s p q = (n : ℕ) → n < p.run.demand.done → path s (told q) n ≡ path s (told p) n
+
+-- and at it only interrupts change the path, each by its trap
+pub record StaysAt (s : Setup) (p q : Place) : Type 0 where
+  -- the orders told since, the newest first
+  pub later : List Order
+  pub orders : told q ≡ later ++ told p
+  pub state : path s (told q) p.run.demand.done ≡ with_interrupts later p.run.demand.done (path s (told p) p.run.demand.done)

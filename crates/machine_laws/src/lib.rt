@@ -1,0 +1,30 @@
+//! Laws of the machines: what holds of the monolithic run, of the demand run beside it and of the path under its orders,
+//! for every setup.
+//!
+//! Each function does nothing: its clauses are the laws.
+#![tactic(auto)]
+
+mod counts;
+mod numbers;
+mod on_path;
+mod orders;
+mod runs;
+mod split_run;
+mod stays;
+
+pub use counts::counts_of_a_run_agree;
+pub use numbers::{
+    numbers_of_a_run_are_bounded, orders_are_numbered_within_the_window,
+    window_stays_within_its_size,
+};
+pub use on_path::{machine_is_on_the_path, time_reads_are_served};
+pub use orders::{
+    epochs_go_by_the_orders_told, orders_told_begin_those_of_the_run, step_tells_one_order_at_most,
+};
+pub use runs::{
+    demand_run_halts, each_cycle_is_reached, machines_of_the_demand_run_are_the_monolithic_ones,
+};
+pub use split_run::{
+    boundaries_are_reached, split_core_runs_as_the_machine, split_states_are_reached,
+};
+pub use stays::{committed_stays, output_stays_within_its_limit, what_orders_commit_has_room};
