@@ -1,5 +1,5 @@
 -- An order that is obeyed bends the path.
-use Rattle.std.proofs.Common.{◌≡◌, ℕ, ◌+◌, ◌≤◌, Bool, true, false, List, [], ◌∷◌, length, Option, refl, ap, sym, ◌∙◌, subst, arith}
+use Rattle.std.proofs.Common.{◌≡◌, ◌<◌, ℕ, ◌+◌, ◌≤◌, Bool, true, false, List, [], ◌∷◌, length, Option, refl, ap, sym, ◌∙◌, subst, arith}
 use Rattle.rollback_cmds.specs.declared.order.Order.{Order}
 use Rattle.rollback_cmds.specs.declared.order.Order.TheVariants.{Set, Commit, Interrupt, Time, Stop, Sync}
 use Rattle.rollback_cmds.specs.Order.{opens_epoch_of}
@@ -7,13 +7,13 @@ use Rattle.undo_journal.specs.declared.past.Past.{Past}
 use Rattle.mono_model.specs.declared.setup.Setup.{Setup}
 use Rattle.mono_model.specs.Setup.{ram_range}
 use Rattle.mono_model.specs.Arch.{Arch, interrupted, synced, trapped}
-use Rattle.mono_model.specs.Path.{path, time_of, openings}
+use Rattle.mono_model.specs.Path.{path, time_of, openings, GoesOn, has_stop}
 use Rattle.mono_model.specs.Demand.{number_of}
 use Rattle.func_model.specs.declared.contents.Contents.{Contents}
 use Rattle.func_model.specs.declared.walk.Walk.{Walk}
 use Rattle.func_model.specs.Contents.{StandsFor}
-use Rattle.func_model.specs.Walk.{LeadsBack, Holds, Stands, GoesOn, IsSameBut, IsMoved, IsObeyed, HasRoom, given_at, committed_of, stopped_of, bytes_before}
-use Rattle.func_model.proofs.Path.{path_below, path_at_set, path_at_interrupt, path_at_time, path_at_sync, path_commit, path_stop}
+use Rattle.func_model.specs.Walk.{LeadsBack, Holds, Stands, IsSameBut, IsMoved, IsObeyed, HasRoom, given_at, committed_of, bytes_before}
+use Rattle.mono_model.proofs.Path.{path_below, path_at_set, path_at_interrupt, path_at_time, path_at_sync, path_commit, path_stop}
 use Rattle.func_model.proofs.Leading.{leads_along}
 use Rattle.func_model.proofs.Outputs.{bytes_before_is}
 use Rattle.func_model.proofs.Walking.{ends_at, by_side}
@@ -120,7 +120,7 @@ settles_sync s m os = record { opens = refl; at = path_at_sync s m os; output = 
 
 -- a walk that stands where it holds, by its position
 pub stands_at_number : {D : Type 0} (s : Setup) (o : Order) (os : List Order) (n : ℕ) (walk : Walk D) → Holds s (o ∷ os) walk → walk.position ≡ n → GoesOn (o ∷ os) n →
-    walk.committed ≡ committed_of (o ∷ os) → walk.is_stopped ≡ stopped_of (o ∷ os) → Stands s (o ∷ os) walk
+    walk.committed ≡ committed_of (o ∷ os) → walk.is_stopped ≡ has_stop (o ∷ os) → Stands s (o ∷ os) walk
 stands_at_number s o os n walk h here on done stopped =
     let P : ℕ → Type 0 = λ k. GoesOn (o ∷ os) k in
     record { holds = h; done = done; stopped = stopped; on = λ still. subst P (sym here) on }
@@ -151,18 +151,18 @@ commit_stands {D} s os n walk next h holds here still done =
     }
 
 -- what is committed has room in the output
-pub within_path : {D : Type 0} (s : Setup) (os : List Order) (walk : Walk D) (n : ℕ) → Stands s os walk → walk.is_stopped ≡ false → walk.committed ≤ n → bytes_before walk n ≤ walk.limit →
+pub within_path : {D : Type 0} (s : Setup) (os : List Order) (walk : Walk D) (n : ℕ) → Stands s os walk → (walk.position < n → walk.is_stopped ≡ false) → walk.committed ≤ n → bytes_before walk n ≤ walk.limit →
     length (path s os n).output ≤ s.output
-within_path s os walk n h running from within = omega (arith, bytes_before_is s os walk h running n from, within, h.holds.limit)
+within_path s os walk n h running from within = omega (arith, bytes_before_is s os walk h n running from, within, h.holds.limit)
 
 -- what is committed on the way, and all else as the order makes it
-pub settled_moved : {D : Type 0} (n : ℕ) (old mid walk : Walk D) (contents : Contents D) (given : Option (ℕ × ℕ)) → old.is_stopped ≡ false → IsSameBut old mid → mid.position ≡ n →
+pub settled_moved : {D : Type 0} (n : ℕ) (old mid walk : Walk D) (contents : Contents D) (given : Option (ℕ × ℕ)) → IsSameBut old mid → mid.position ≡ n →
     walk ≡ record mid { journal = walk.journal; committed = n } → walk.journal.room ≡ mid.journal.room →
-    IsMoved n n false old (record walk { contents = contents; epoch = walk.epoch + 1; given = given })
-settled_moved {D} n old mid walk contents given running others here same room = record {
+    IsMoved n n old.is_stopped old (record walk { contents = contents; epoch = walk.epoch + 1; given = given })
+settled_moved {D} n old mid walk contents given others here same room = record {
   position = ap (λ (w : Walk D). w.position) same ∙ here;
   committed = ap (λ (w : Walk D). w.committed) same;
-  stopped = ap (λ (w : Walk D). w.is_stopped) same ∙ others.running ∙ running;
+  stopped = ap (λ (w : Walk D). w.is_stopped) same ∙ others.running;
   epoch = ap (λ (w : Walk D). w.epoch + 1) same ∙ ap (λ (e : ℕ). e + 1) others.epoch;
   room = room ∙ others.room;
   limit = ap (λ (w : Walk D). w.limit) same ∙ others.limit;
@@ -175,14 +175,14 @@ commit_from order n k is from = let P : Order → Type 0 = λ o. k ≤ number_of
 pub commit_within : {D : Type 0} (order : Order) (n : ℕ) (walk : Walk D) → order ≡ Commit n → HasRoom order walk walk.limit → bytes_before walk n ≤ walk.limit
 commit_within order n walk is within = let P : Order → Type 0 = λ o. HasRoom o walk walk.limit in subst P is within
 
-pub commit_obeyed : {D : Type 0} (order : Order) (n : ℕ) (old walk : Walk D) → order ≡ Commit n → old.is_stopped ≡ false → walk ≡ record old { journal = walk.journal; committed = n } →
+pub commit_obeyed : {D : Type 0} (order : Order) (n : ℕ) (old walk : Walk D) → order ≡ Commit n → walk ≡ record old { journal = walk.journal; committed = n } →
     walk.journal.room ≡ old.journal.room → IsObeyed order old walk
-commit_obeyed {D} order n old walk is running same room =
+commit_obeyed {D} order n old walk is same room =
     let P : Order → Type 0 = λ o. IsObeyed {D = D} o old walk in
     subst P (sym is) (record {
       position = ap (λ (w : Walk D). w.position) same;
       committed = ap (λ (w : Walk D). w.committed) same;
-      stopped = ap (λ (w : Walk D). w.is_stopped) same ∙ running;
+      stopped = ap (λ (w : Walk D). w.is_stopped) same;
       epoch = ap (λ (w : Walk D). w.epoch) same ∙ omega arith;
       room = room;
       limit = ap (λ (w : Walk D). w.limit) same;

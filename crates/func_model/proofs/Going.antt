@@ -19,6 +19,7 @@ use Rattle.func_model.proofs.Walking.{one_longer}
 pub record Backing {D : Type 0} (n : ℕ) (opened walk : Walk D) : Type 0 where
   pub holds : (s : Setup) (os : List Order) → Holds s os opened → Holds s os walk
   pub others : IsSameBut opened walk
+  pub within : walk.position ≤ opened.position
   pub above : n < opened.position → n ≤ walk.position
   pub stays : opened.position ≤ n → walk ≡ opened
 
@@ -26,6 +27,7 @@ pub backing_start : {D : Type 0} (n : ℕ) (walk : Walk D) → Backing n walk wa
 backing_start n walk = record {
   holds = λ s os h. h;
   others = record { committed = refl; room = refl; running = refl; epoch = refl; limit = refl };
+  within = omega arith;
   above = λ more. omega arith;
   stays = λ less. refl;
 }
@@ -83,6 +85,7 @@ backing_more {D} n opened walk contents journal past from at more is stands spac
     record {
       holds = back;
       others = record { committed = at.others.committed; room = sym (ap (λ (j : Log). j.room) is) ∙ at.others.room; running = at.others.running; epoch = at.others.epoch; limit = at.others.limit };
+      within = omega (arith, at.within);
       above = λ up. omega arith;
       stays = λ low. absurd (omega (arith, ap (λ (w : Walk D). w.position) (at.stays low)));
     }
@@ -94,6 +97,7 @@ backing_more {D} n opened walk contents journal past from at more is stands spac
 pub record Onward {D : Type 0} (n : ℕ) (opened walk : Walk D) : Type 0 where
   pub stands : (s : Setup) (os : List Order) → Stands s os opened → Stands s os walk
   pub others : IsSameBut opened walk
+  pub from : opened.position ≤ walk.position
   pub below : opened.position ≤ n → walk.position ≤ n
   pub stays : n < opened.position → walk ≡ opened
 
@@ -101,6 +105,7 @@ pub onward_start : {D : Type 0} (n : ℕ) (walk : Walk D) → Onward n walk walk
 onward_start n walk = record {
   stands = λ s os h. h;
   others = record { committed = refl; room = refl; running = refl; epoch = refl; limit = refl };
+  from = omega arith;
   below = λ less. less;
   stays = λ more. refl;
 }
@@ -120,6 +125,7 @@ onward_more {D} n opened walk next at less stands further others = record {
     epoch = others.epoch ∙ at.others.epoch;
     limit = others.limit ∙ at.others.limit;
   };
+  from = omega (arith, at.from, further);
   below = λ low. omega (arith, further);
   stays = λ up. absurd (omega (arith, ap (λ (w : Walk D). w.position) (at.stays up)));
 }

@@ -10,6 +10,7 @@ pub mod Loads
 pub mod Made
 pub mod Outputs
 pub mod Path
+pub mod Reaching
 pub mod Reported
 pub mod Running
 pub mod Stepping

@@ -1,5 +1,5 @@
 -- How long the output is along a path: ahead by execution, and back by undo steps.
-use Rattle.std.proofs.Common.{◌≡◌, ℕ, zero, suc, ◌+◌, ◌-◌, ◌≤◌, nat_le, if◌then◌else◌, Bool, true, false, Option, Some, None, List, [], ◌∷◌, ◌++◌, length, refl, ap, sym, ◌∙◌, subst, arith, inl, inr, length-append, length-take}
+use Rattle.std.proofs.Common.{◌≡◌, ◌<◌, ℕ, zero, suc, ◌+◌, ◌-◌, ◌≤◌, nat_le, if◌then◌else◌, Bool, true, false, Option, Some, None, List, [], ◌∷◌, ◌++◌, length, refl, ap, sym, ◌∙◌, subst, arith, inl, inr, length-append, length-take}
 use Rattle.std.specs.Prelude.{filter}
 use Rattle.std.proofs.lemmas.Bool.{le-leb, lt-leb, cond-true, cond-false, cases_lt}
 use Rattle.fsim_base.specs.declared.access.RamRange.{RamRange}
@@ -18,13 +18,13 @@ use Rattle.mono_model.specs.Found.{Found, found_at}
 use Rattle.mono_model.specs.Result.{Result}
 use Rattle.mono_model.specs.Effect.{effect, effect_by, retired, note_of, with_note}
 use Rattle.mono_model.specs.Sequence.{seq, found_next, result_at}
-use Rattle.mono_model.specs.Path.{path, time_of}
+use Rattle.mono_model.specs.Path.{path, time_of, GoesOn}
 use Rattle.func_model.specs.declared.walk.Walk.{Walk}
 use Rattle.func_model.specs.Hart.{arch_of, found_by}
 use Rattle.func_model.specs.Contents.{output_in}
 use Rattle.func_model.specs.Undo.{undone, shortened}
-use Rattle.func_model.specs.Walk.{LeadsBack, GoesOn, Stands, given_at, seq_by, ahead, bytes_sent, bytes_before}
-use Rattle.func_model.proofs.Path.{path_next, goes_on_after}
+use Rattle.func_model.specs.Walk.{LeadsBack, Stands, given_at, seq_by, ahead, bytes_sent, bytes_before}
+use Rattle.mono_model.proofs.Path.{path_next, goes_on_after}
 use Rattle.func_model.proofs.Leading.{leads_from, length_from}
 
 -- one instruction sends one byte at most
@@ -134,10 +134,10 @@ unfolding arch_of
 output_is walk a is = ap (λ (x : Arch). x.output) is
 
 -- the bytes before an instruction are those of the path
-pub bytes_before_is : {D : Type 0} (s : Setup) (os : List Order) (walk : Walk D) → Stands s os walk → walk.is_stopped ≡ false → (n : ℕ) → walk.committed ≤ n →
+pub bytes_before_is : {D : Type 0} (s : Setup) (os : List Order) (walk : Walk D) → Stands s os walk → (n : ℕ) → (walk.position < n → walk.is_stopped ≡ false) → walk.committed ≤ n →
     bytes_before walk n ≡ length (path s os n).output
 unfolding bytes_before
-bytes_before_is {D} s os walk stands running n from = elim (cases_lt walk.position n) [
+bytes_before_is {D} s os walk stands n running from = elim (cases_lt walk.position n) [
   | inl beyond ↦
       let h = stands.holds in
       let e : walk.position + (n - walk.position) ≡ n = omega arith in
@@ -145,7 +145,7 @@ bytes_before_is {D} s os walk stands running n from = elim (cases_lt walk.positi
       ∙ ap (λ (range : RamRange). length (ahead range (exec_of walk.contents.hart.memory) (given_at walk.given) walk.position (n - walk.position) (arch_of walk.contents.hart walk.contents.bus)).output) h.contents.range
       ∙ ap (λ (text : ℕ → Bool). length (ahead (ram_range s.params) text (given_at walk.given) walk.position (n - walk.position) (arch_of walk.contents.hart walk.contents.bus)).output) h.contents.exec
       ∙ ap (λ (a : Arch). length a.output)
-      (ahead_is s os walk.position (n - walk.position) (given_at walk.given) (arch_of walk.contents.hart walk.contents.bus) (stands.on running) h.given h.contents.arch ∙ ap (path s os) e)
+      (ahead_is s os walk.position (n - walk.position) (given_at walk.given) (arch_of walk.contents.hart walk.contents.bus) (stands.on (running beyond)) h.given h.contents.arch ∙ ap (path s os) e)
   | inr within ↦
       let h = stands.holds in
       let e : walk.committed + length walk.journal.steps ≡ walk.position = omega (arith, h.held) in

@@ -17,7 +17,8 @@ use Rattle.func_model.specs.Hart.{arch_of}
 use Rattle.func_model.specs.Undo.{undone, IsRestorable}
 use Rattle.func_model.specs.Contents.{StandsFor, output_in, retired_in}
 use Rattle.func_model.specs.Walk.{IsStep, LeadsBack, Holds, Stands}
-use Rattle.func_model.proofs.Path.{path_next, goes_on_more, retired_within}
+use Rattle.mono_model.proofs.Path.{path_next, goes_on_more}
+use Rattle.func_model.proofs.Path.{retired_within}
 use Rattle.func_model.proofs.Leading.{leads_more}
 use Rattle.func_model.proofs.Outputs.{outputs_on, outputs_within}
 

@@ -1,5 +1,5 @@
 -- What a functional side stands for: a setup, the orders obeyed, and a position on their path.
-use Rattle.std.specs.Prelude.{◌≡◌, ◌⊎◌, ◌≤◌, ℕ, zero, suc, ◌+◌, ◌-◌, ◌==◌, ◌||◌, if◌then◌else◌, Bool, true, false, IfSome, List, [], ◌∷◌, length, filter, nat_le, Option, Some, None}
+use Rattle.std.specs.Prelude.{◌≡◌, ◌⊎◌, ◌≤◌, ◌<◌, ℕ, zero, suc, ◌+◌, ◌-◌, ◌==◌, ◌||◌, if◌then◌else◌, Bool, true, false, IfSome, List, [], ◌∷◌, length, filter, nat_le, Option, Some, None}
 use Rattle.fsim_base.specs.declared.access.RamRange.{RamRange}
 use Rattle.rollback_cmds.specs.declared.order.Order.{Order}
 use Rattle.rollback_cmds.specs.declared.order.Order.TheVariants.{Set, Commit, Interrupt, Time, Stop, Sync}
@@ -11,7 +11,7 @@ use Rattle.mono_model.specs.Arch.{Arch}
 use Rattle.mono_model.specs.Effect.{effect}
 use Rattle.rollback_cmds.specs.Order.{opens_epoch_of}
 use Rattle.trace_entry.specs.declared.Entry.{Entry}
-use Rattle.mono_model.specs.Path.{path, entry, time_of, openings}
+use Rattle.mono_model.specs.Path.{path, entry, time_of, openings, GoesOn, stops, has_stop}
 use Rattle.mono_model.specs.Split.{room}
 use Rattle.func_model.specs.declared.walk.Walk.{Walk}
 use Rattle.phys_mem.specs.Ram.{exec_of, range_of}
@@ -30,16 +30,6 @@ pub record IsStep (range : RamRange) (at : ℕ → Arch) (n : ℕ) (past : Past)
 abbrev pub LeadsBack : RamRange → (ℕ → Arch) → ℕ → List Past → Type 0
 LeadsBack range at n [] = Unit {0}
 LeadsBack range at n (past ∷ later) = IsStep range at n past × LeadsBack range at (suc n) later
-
--- the path goes on by execution from `n`: the newest order that bent it speaks of `n` or an earlier instruction
-abbrev pub GoesOn : List Order → ℕ → Type 0
-GoesOn [] n = Unit {0}
-GoesOn (Set m addr ∷ os) n = m ≤ n
-GoesOn (Commit m ∷ os) n = GoesOn os n
-GoesOn (Interrupt m ∷ os) n = m ≤ n
-GoesOn (Time m v ∷ os) n = m ≤ n
-GoesOn (Stop m ∷ os) n = GoesOn os n
-GoesOn (Sync m ∷ os) n = m ≤ n
 
 -- the time of an instruction, where one was given
 abbrev pub given_at : Option (ℕ × ℕ) → ℕ → Option ℕ
@@ -60,19 +50,6 @@ abbrev pub committed_of : List Order → ℕ
 committed_of [] = 0
 committed_of (o ∷ os) = committed_by o (committed_of os)
 
--- whether a list of orders stops the side
-abbrev pub stops : Order → Bool
-stops (Set m addr) = false
-stops (Commit m) = false
-stops (Interrupt m) = false
-stops (Time m v) = false
-stops (Stop m) = true
-stops (Sync m) = false
-
-abbrev pub stopped_of : List Order → Bool
-stopped_of [] = false
-stopped_of (o ∷ os) = stops o || stopped_of os
-
 -- The side's contents are those of the path before the instruction at its position, and its journal leads back from there
 -- to its committed number.
 pub record Holds {D : Type 0} (s : Setup) (os : List Order) (walk : Walk D) : Type 0 where
@@ -92,7 +69,7 @@ pub record Holds {D : Type 0} (s : Setup) (os : List Order) (walk : Walk D) : Ty
 pub record Stands {D : Type 0} (s : Setup) (os : List Order) (walk : Walk D) : Type 0 where
   pub holds : Holds s os walk
   pub done : walk.committed ≡ committed_of os
-  pub stopped : walk.is_stopped ≡ stopped_of os
+  pub stopped : walk.is_stopped ≡ has_stop os
   pub on : walk.is_stopped ≡ false → GoesOn os walk.position
 
 -- there are a setup and orders for which it stands
@@ -105,6 +82,17 @@ pub record IsHolding {D : Type 0} (walk : Walk D) : Type 0 where
   pub setup : Setup
   pub orders : List Order
   pub holds : Holds setup orders walk
+
+-- a walk can be taken to instruction `n`: back by its journal, or on by execution, where it isn't stopped
+pub record CanReach {D : Type 0} (n : ℕ) (walk : Walk D) : Type 0 where
+  pub back : n < walk.position → IsHolding walk
+  pub on : walk.position < n → IsStanding walk
+  pub running : walk.position < n → walk.is_stopped ≡ false
+
+-- a walk whose run is over: it is stopped at what is committed
+pub record IsOver {D : Type 0} (walk : Walk D) : Type 0 where
+  pub stopped : walk.is_stopped ≡ true
+  pub here : walk.position ≡ walk.committed
 
 -- what a walk keeps as it goes back or on
 pub record IsSameBut {D : Type 0} (old new : Walk D) : Type 0 where
@@ -188,7 +176,7 @@ position_by (Sync m) position = m
 pub record IsObeyed {D : Type 0} (order : Order) (old new : Walk D) : Type 0 where
   pub position : new.position ≡ position_by order old.position
   pub committed : new.committed ≡ committed_by order old.committed
-  pub stopped : new.is_stopped ≡ stops order
+  pub stopped : new.is_stopped ≡ (stops order || old.is_stopped)
   pub epoch : new.epoch ≡ old.epoch + (if opens_epoch_of order then 1 else 0)
   pub room : new.journal.room ≡ old.journal.room
   pub limit : new.limit ≡ old.limit

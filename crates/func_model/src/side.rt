@@ -29,15 +29,15 @@ pub struct FuncSide<D: Device> {
 }
 
 impl<D: Device> Model for FuncSide<D> {
-    ghost use Rattle.std.specs.Prelude.{◌≡◌, false};
+    ghost use Rattle.std.specs.Prelude.{◌⊎◌};
     ghost use Rattle.func_model.specs.declared.walk.Walk.{Walk};
-    ghost use Rattle.func_model.specs.Walk.{IsStanding};
+    ghost use Rattle.func_model.specs.Walk.{IsStanding, IsOver};
 
     ghost Value = { Walk D };
 
     ghost view = { λ side. side.walk };
 
-    ghost invariant = { λ side. side.walk.is_stopped ≡ false → IsStanding side.walk };
+    ghost invariant = { λ side. IsStanding side.walk ⊎ IsOver side.walk };
 }
 
 impl<D: Device> FuncSide<D> {
@@ -78,9 +78,9 @@ impl<D: Device> FuncSide<D> {
     }
 
     /// Obeys an order of the timing side. Each but Commit goes to instruction `n`, backwards by undoing or forwards by
-    /// executing. What is committed, by Commit, Interrupt or Sync, is never taken back.
+    /// executing; a side that is stopped goes no further. What is committed, by Commit, Interrupt or Sync, is never taken back.
     pub fn obey(&mut self, order: Order)
-        requires running { self.old.is_stopped ≡ false }
+        requires reach { self.old.is_stopped ≡ true → number_of order ≤ self.old.position }
         requires from { self.old.committed ≤ number_of order }
         requires room { number_of order ≤ self.old.committed + self.old.journal.room }
         requires number { number_of order < 2 ^ 62 }

@@ -1,4 +1,4 @@
-ghost use Rattle.std.specs.Prelude.{◌≡◌, ◌↔◌, ◌<◌, ◌≤◌, ◌+◌, ◌^◌, ℕ, Option, Some, None, true, false, map, IfOk, IfSome, IfNone, IsNone, length};
+ghost use Rattle.std.specs.Prelude.{◌≡◌, ◌↔◌, ◌⊎◌, ◌<◌, ◌≤◌, ◌+◌, ◌^◌, ℕ, Option, Some, None, true, false, map, IfOk, IfSome, IfNone, IsNone, length};
 
 use crate::contents::Contents;
 use device_bus::Device;
@@ -36,7 +36,7 @@ impl<D: Device> Walk<D> {
     ghost use Rattle.mono_model.specs.Setup.{is_setup};
     ghost use Rattle.mono_model.specs.Path.{path, entry};
     ghost use Rattle.mono_model.specs.Demand.{number_of};
-    ghost use Rattle.func_model.specs.Walk.{Holds, Stands, IsHolding, IsSameBut, IsStanding, IsFresh, IsMoved, IsForward, IsAtRest, IsProduced, IsObeyed, HasRoom, bytes_before, given_at};
+    ghost use Rattle.func_model.specs.Walk.{Holds, Stands, IsHolding, CanReach, IsOver, IsSameBut, IsStanding, IsFresh, IsMoved, IsForward, IsAtRest, IsProduced, IsObeyed, HasRoom, bytes_before, given_at};
 
     /// The walk at the start of a run. All memory of the run is taken here.
     pub fn new(alloc: Global, setup: &Setup, devices: Vec<D>) -> Result<Walk<D>, NoMemory>
@@ -92,7 +92,7 @@ impl<D: Device> Walk<D> {
 
     /// Takes instructions back until instruction `n` is the next one. What is committed isn't taken back.
     fn go_back(&mut self, n: u64)
-        requires holding { IsHolding self.old }
+        requires holding { n < self.old.position → IsHolding self.old }
         requires from { self.old.committed ≤ n }
         ensures holds { (s : RunSetup) (os : List SpecOrder) → Holds s os self.old → Holds s os self.new }
         ensures position { n < self.old.position → self.new.position ≡ n }
@@ -110,8 +110,8 @@ impl<D: Device> Walk<D> {
 
     /// Executes until instruction `n` is the next one.
     fn go_on(&mut self, n: u64)
-        requires standing { IsStanding self.old }
-        requires running { self.old.is_stopped ≡ false }
+        requires standing { self.old.position < n → IsStanding self.old }
+        requires running { self.old.position < n → self.old.is_stopped ≡ false }
         requires room { n ≤ self.old.committed + self.old.journal.room }
         requires bounded { n < 2 ^ 63 }
         ensures stands { (s : RunSetup) (os : List SpecOrder) → Stands s os self.old → Stands s os self.new }
@@ -126,8 +126,7 @@ impl<D: Device> Walk<D> {
 
     /// Goes to instruction `n`, backwards by undoing or forwards by executing.
     fn go_to(&mut self, n: u64)
-        requires standing { IsStanding self.old }
-        requires running { self.old.is_stopped ≡ false }
+        requires reach { CanReach n self.old }
         requires from { self.old.committed ≤ n }
         requires room { n ≤ self.old.committed + self.old.journal.room }
         requires bounded { n < 2 ^ 63 }
@@ -144,7 +143,6 @@ impl<D: Device> Walk<D> {
 
     /// Makes `n` the number of the first instruction that isn't committed. What is below can't be taken back any more.
     fn commit(&mut self, n: u64)
-        requires holding { IsHolding self.old }
         requires from { self.old.committed ≤ n }
         ensures holds { (s : RunSetup) (os : List SpecOrder) → Holds s os self.old → length (path s os n).output ≤ s.output → Holds s os self.new }
         ensures committed { self.new.committed ≡ n }
@@ -157,14 +155,13 @@ impl<D: Device> Walk<D> {
 
     /// Instruction `n` stands at `addr`.
     fn set(&mut self, n: u64, addr: u32)
-        requires standing { IsStanding self.old }
-        requires running { self.old.is_stopped ≡ false }
+        requires reach { CanReach n self.old }
         requires from { self.old.committed ≤ n }
         requires room { n ≤ self.old.committed + self.old.journal.room }
         requires bounded { n < 2 ^ 63 }
         requires epoch { self.old.epoch < 2 ^ 63 }
         ensures stands { (s : RunSetup) (os : List SpecOrder) → Stands s os self.old → Stands s (Set n addr ∷ os) self.new }
-        ensures moved { IsMoved n self.old.committed false self.old self.new }
+        ensures moved { IsMoved n self.old.committed self.old.is_stopped self.old self.new }
     {
         self.go_to(n);
         self.contents.jump(addr);
@@ -173,15 +170,14 @@ impl<D: Device> Walk<D> {
 
     /// The timer interrupt is taken before instruction `n`, and committed.
     fn interrupt(&mut self, n: u64)
-        requires standing { IsStanding self.old }
-        requires running { self.old.is_stopped ≡ false }
+        requires reach { CanReach n self.old }
         requires from { self.old.committed ≤ n }
         requires room { n ≤ self.old.committed + self.old.journal.room }
         requires bounded { n < 2 ^ 63 }
         requires epoch { self.old.epoch < 2 ^ 63 }
         requires within { bytes_before self.old n ≤ self.old.limit }
         ensures stands { (s : RunSetup) (os : List SpecOrder) → Stands s os self.old → Stands s (Interrupt n ∷ os) self.new }
-        ensures moved { IsMoved n n false self.old self.new }
+        ensures moved { IsMoved n n self.old.is_stopped self.old self.new }
     {
         self.go_to(n);
         self.commit(n);
@@ -192,14 +188,13 @@ impl<D: Device> Walk<D> {
 
     /// Instruction `n` is given a time.
     fn serve(&mut self, n: u64, time: u64)
-        requires standing { IsStanding self.old }
-        requires running { self.old.is_stopped ≡ false }
+        requires reach { CanReach n self.old }
         requires from { self.old.committed ≤ n }
         requires room { n ≤ self.old.committed + self.old.journal.room }
         requires bounded { n < 2 ^ 63 }
         requires epoch { self.old.epoch < 2 ^ 63 }
         ensures stands { (s : RunSetup) (os : List SpecOrder) → Stands s os self.old → Stands s (Time n time ∷ os) self.new }
-        ensures moved { IsMoved n self.old.committed false self.old self.new }
+        ensures moved { IsMoved n self.old.committed self.old.is_stopped self.old self.new }
     {
         self.go_to(n);
         self.given = Some((n, time));
@@ -208,8 +203,7 @@ impl<D: Device> Walk<D> {
 
     /// The run has ended before instruction `n`.
     fn stop(&mut self, n: u64)
-        requires standing { IsStanding self.old }
-        requires running { self.old.is_stopped ≡ false }
+        requires reach { CanReach n self.old }
         requires from { self.old.committed ≤ n }
         requires room { n ≤ self.old.committed + self.old.journal.room }
         requires bounded { n < 2 ^ 63 }
@@ -224,15 +218,14 @@ impl<D: Device> Walk<D> {
 
     /// Fetch sees memory as it stands before instruction `n`, which is committed.
     fn sync(&mut self, n: u64)
-        requires standing { IsStanding self.old }
-        requires running { self.old.is_stopped ≡ false }
+        requires reach { CanReach n self.old }
         requires from { self.old.committed ≤ n }
         requires room { n ≤ self.old.committed + self.old.journal.room }
         requires bounded { n < 2 ^ 63 }
         requires epoch { self.old.epoch < 2 ^ 63 }
         requires within { bytes_before self.old n ≤ self.old.limit }
         ensures stands { (s : RunSetup) (os : List SpecOrder) → Stands s os self.old → Stands s (Sync n ∷ os) self.new }
-        ensures moved { IsMoved n n false self.old self.new }
+        ensures moved { IsMoved n n self.old.is_stopped self.old self.new }
     {
         self.go_to(n);
         self.commit(n);
@@ -257,8 +250,8 @@ impl<D: Device> Walk<D> {
 
     /// Obeys an order.
     pub fn obey(&mut self, order: Order)
-        requires standing { IsStanding self.old }
-        requires running { self.old.is_stopped ≡ false }
+        requires able { IsStanding self.old ⊎ IsOver self.old }
+        requires reach { self.old.is_stopped ≡ true → number_of order ≤ self.old.position }
         requires from { self.old.committed ≤ number_of order }
         requires room { number_of order ≤ self.old.committed + self.old.journal.room }
         requires bounded { number_of order < 2 ^ 63 }

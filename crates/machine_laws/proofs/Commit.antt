@@ -12,22 +12,23 @@ use Rattle.mono_model.specs.Found.{Found, is_fence_i}
 use Rattle.mono_model.specs.Result.{Result}
 use Rattle.mono_model.specs.Effect.{effect, note_of}
 use Rattle.mono_model.specs.Sequence.{seq, found_next, result_at}
-use Rattle.mono_model.specs.Path.{path, time_of}
+use Rattle.mono_model.specs.Path.{path, time_of, GoesOn}
 use Rattle.mono_model.specs.Alone.{has_no_room}
 use Rattle.mono_model.specs.Window.{Record, Stage, waiting, until, done}
 use Rattle.mono_model.specs.Machine.{Machine, flushed}
 use Rattle.mono_model.specs.Commit as commit
 use Rattle.mono_model.specs.Demand.{Demand, ending_orders, commit_order, demand_commit}
-use Rattle.machine_laws.specs.Relation.{Tracked, Tracks, Related, GoesOn, Within}
-use Rattle.machine_laws.proofs.Path.{Follows, path_steps, path_at_set, path_at_sync, path_commit, time_none, within_after}
+use Rattle.machine_laws.specs.Relation.{Tracked, Tracks, Related, Within}
+use Rattle.mono_model.proofs.Path.{path_at_set, path_at_sync, path_commit}
+use Rattle.machine_laws.proofs.Path.{Follows, path_steps, time_none, within_after}
 use Rattle.machine_laws.proofs.Changes.{behind_next}
 use Rattle.machine_laws.proofs.Tracks.{tracks_end, next_none}
 
-abbrev numbered : Machine → ℕ → List Order → Demand
+abbrev pub numbered : Machine → ℕ → List Order → Demand
 numbered m n os = record { machine = m; done = n; orders = os }
 
 -- what the oldest record leaves behind it, where it has number `n`
-abbrev KeptBy : Setup → ℕ → List Order → commit.Leaving → Type 0
+abbrev pub KeptBy : Setup → ℕ → List Order → commit.Leaving → Type 0
 KeptBy s n os commit.stays = Unit {0}
 KeptBy s n os (commit.full m) = Related s (numbered m n os)
 KeptBy s n os (commit.leaves m) = Related s (numbered m (suc n) os)
@@ -52,7 +53,7 @@ module _ (s : Setup) (m : Machine) (n : ℕ) (os : List Order) (rec : Record) (r
     (tracks : Tracks s (time_of os) (path s os) (suc n) rest m.fetch_addr m.kept)
     (on : GoesOn os (suc n + length rest)) (within : Within os n) where
   -- its effect is the sequential step
-  effect_is : effect rec.found r rec.time rec.addr m.arch ≡ seq s (time_of os n) (path s os n)
+  pub effect_is : effect rec.found r rec.time rec.addr m.arch ≡ seq s (time_of os n) (path s os n)
   unfolding seq
   effect_is =
       ap (λ (a : Arch). effect rec.found r rec.time rec.addr a) arch
@@ -144,7 +145,7 @@ first_kept : (s : Setup) (m : Machine) (n : ℕ) (os : List Order) (window : Lis
 first_kept s m n os [] there related = tt
 first_kept s m n os (rec ∷ rest) there related = stage_kept s m n os rec rest rec.stage refl there related
 
-leaving_kept : (s : Setup) (m : Machine) (n : ℕ) (os : List Order) → Related s (numbered m n os) → KeptBy s n os (commit.leaving s m)
+pub leaving_kept : (s : Setup) (m : Machine) (n : ℕ) (os : List Order) → Related s (numbered m n os) → KeptBy s n os (commit.leaving s m)
 unfolding commit.leaving
 leaving_kept s m n os related = first_kept s m n os m.window refl related
 
@@ -153,7 +154,7 @@ abbrev EndedBy : Setup → ℕ → List Order → commit.Committed → Type 0
 EndedBy s start os c =
     Related s (numbered c.machine (start + c.left) (ending_orders c.ending c.machine.arch.pc (start + c.left) os))
 
-related_number : (s : Setup) (m : Machine) (n k : ℕ) (os : List Order) → n ≡ k → Related s (numbered m n os) → Related s (numbered m k os)
+pub related_number : (s : Setup) (m : Machine) (n k : ℕ) (os : List Order) → n ≡ k → Related s (numbered m n os) → Related s (numbered m k os)
 related_number s m n k os is related = subst (λ (j : ℕ). Related s (numbered m j os)) is related
 
 ended_by : (s : Setup) (start left : ℕ) (m : Machine) (os : List Order) (l : commit.Leaving) (go_on : Machine → commit.Committed) → Related s (numbered m (start + left) os) →
@@ -180,7 +181,7 @@ commits_kept s start os (suc more) left m related =
     (λ behind kept. commits_kept s start os more (left + 1) behind kept)
 
 -- an order Commit changes nothing
-commit_related : (s : Setup) (m : Machine) (n k : ℕ) (os : List Order) → Related s (numbered m n os) → Related s (numbered m n (Commit k ∷ os))
+pub commit_related : (s : Setup) (m : Machine) (n k : ℕ) (os : List Order) → Related s (numbered m n os) → Related s (numbered m n (Commit k ∷ os))
 commit_related s m n k os related =
     let P : (ℕ → Arch) → Type 0 = λ p. m.arch ≡ p n in
     let Q : (ℕ → Arch) → Type 0 = λ p. Tracks s (time_of os) p n m.window m.fetch_addr m.kept in

@@ -6,13 +6,14 @@ use Rattle.rollback_cmds.specs.declared.order.Order.TheVariants.{Set}
 use Rattle.mono_model.specs.declared.setup.Setup.{Setup}
 use Rattle.mono_model.specs.Arch.{Arch}
 use Rattle.mono_model.specs.Result.{Result}
-use Rattle.mono_model.specs.Path.{path, time_of}
+use Rattle.mono_model.specs.Path.{path, time_of, GoesOn}
 use Rattle.mono_model.specs.Window.{Record, Stage, waiting, until, done}
 use Rattle.mono_model.specs.Machine.{flushed}
 use Rattle.mono_model.specs.Complete.{Completed, due, is_mispredicted, in_front, complete_next, completes, completed_by, complete_phase}
 use Rattle.mono_model.specs.Demand.{Demand, next, redirect_orders, demand_complete}
-use Rattle.machine_laws.specs.Relation.{Tracked, Tracks, Related, GoesOn, next_by}
-use Rattle.machine_laws.proofs.Path.{path_below, path_at_set, time_none}
+use Rattle.machine_laws.specs.Relation.{Tracked, Tracks, Related, next_by}
+use Rattle.mono_model.proofs.Path.{path_below, path_at_set}
+use Rattle.machine_laws.proofs.Path.{time_none}
 use Rattle.machine_laws.proofs.Tracks.{tracked_alike, kept_none, next_none}
 
 -- What is kept of a window of so many records: all of it; or, with a misprediction, its front, which stands on any path

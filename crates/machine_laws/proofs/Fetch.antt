@@ -14,7 +14,8 @@ use Rattle.mono_model.specs.Machine.{Machine}
 use Rattle.mono_model.specs.Fetch.{misses, appends, turns, missed, appended, new_record, predicted_next, cache_read, fetch_try}
 use Rattle.mono_model.specs.Demand.{Demand, next, path_orders, demand_try}
 use Rattle.machine_laws.specs.Relation.{Tracked, Tracks, Related}
-use Rattle.machine_laws.proofs.Path.{path_next, path_below, path_at_set, path_text, time_none, goes_on_after}
+use Rattle.mono_model.proofs.Path.{path_next, path_below, path_at_set, goes_on_after}
+use Rattle.machine_laws.proofs.Path.{path_text, time_none}
 use Rattle.machine_laws.proofs.Tracks.{tracks_end, tracks_append}
 
 entry_next : (s : Setup) (os : List Order) (n : ℕ) → (entry s os n).next ≡ (seq s (time_of os n) (path s os n)).pc

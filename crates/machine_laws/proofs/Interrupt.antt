@@ -8,7 +8,7 @@ use Rattle.mono_model.specs.Machine.{flushed}
 use Rattle.mono_model.specs.Interrupt.{is_interrupted, take_interrupt, interrupt_phase}
 use Rattle.mono_model.specs.Demand.{Demand, demand_interrupt}
 use Rattle.machine_laws.specs.Relation.{Related}
-use Rattle.machine_laws.proofs.Path.{path_at_interrupt}
+use Rattle.mono_model.proofs.Path.{path_at_interrupt}
 
 taken_related : (s : Setup) (d : Demand) → Related s d → Related s (record d { machine = take_interrupt d.machine; orders = Interrupt d.done ∷ d.orders })
 unfolding flushed

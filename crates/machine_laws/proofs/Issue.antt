@@ -9,13 +9,14 @@ use Rattle.mono_model.specs.Arch.{Arch, register_value}
 use Rattle.mono_model.specs.Found.{Found, first_source, second_source}
 use Rattle.mono_model.specs.Result.{Result, executed}
 use Rattle.mono_model.specs.Sequence.{found_next, seen_in, result_at}
-use Rattle.mono_model.specs.Path.{path, time_of}
+use Rattle.mono_model.specs.Path.{path, time_of, GoesOn}
 use Rattle.mono_model.specs.Window.{Record, Stage, waiting, until, done, class_at, is_waiting, is_waiting_stage, operand, busy_divisions}
 use Rattle.mono_model.specs.Machine.{Machine, flushed}
 use Rattle.mono_model.specs.Issue.{Used, none_used, has_unit, class_allows, is_past_front, seen_from, result_with, ready_result, cached, Turned, unchanged, begun, begun_if, turn_of, walk, wants_time, oldest_address, replayed, issued, issue_phase}
 use Rattle.mono_model.specs.Demand.{Demand, next, demand_issue}
-use Rattle.machine_laws.specs.Relation.{Tracked, Tracks, Related, GoesOn}
-use Rattle.machine_laws.proofs.Path.{Follows, path_steps, path_at_time}
+use Rattle.machine_laws.specs.Relation.{Tracked, Tracks, Related}
+use Rattle.mono_model.proofs.Path.{path_at_time}
+use Rattle.machine_laws.proofs.Path.{Follows, path_steps}
 use Rattle.machine_laws.proofs.Executed.{executed_alike}
 use Rattle.machine_laws.proofs.Operands.{Olders, operand_is, sees_alike}
 
@@ -26,7 +27,7 @@ waits (done r) is = cc
 
 module _ (s : Setup) (times : ℕ → Option ℕ) (p : ℕ → Arch) (a : Arch) where
   -- the operands, the instruction and its time are those of the path
-  same_result : (n : ℕ) (rec : Record) (behind x y : ℕ) → Tracked s (times n) (p n) behind rec →
+  pub same_result : (n : ℕ) (rec : Record) (behind x y : ℕ) → Tracked s (times n) (p n) behind rec →
       x ≡ register_value (p n).regs (first_source rec.found) → y ≡ register_value (p n).regs (second_source rec.found) →
       executed (ram_range s.params) rec.found rec.addr x y (seen_in rec.time (p n)) ≡ result_at s (times n) (p n)
   unfolding result_at
@@ -50,7 +51,7 @@ module _ (s : Setup) (times : ℕ → Option ℕ) (p : ℕ → Arch) (a : Arch) 
   with_is n older rec behind r (Some x) None tracked olds first second gives allows = cc
   with_is n older rec behind r None second tracked olds first second_is gives allows = cc
 
-  ready_is : (n : ℕ) (older : List Record) (rec : Record) (behind : ℕ) (r : Result) → Tracked s (times n) (p n) behind rec → Olders s times p a n older →
+  pub ready_is : (n : ℕ) (older : List Record) (rec : Record) (behind : ℕ) (r : Result) → Tracked s (times n) (p n) behind rec → Olders s times p a n older →
       ready_result s a older rec ≡ Some r → class_allows (class_at rec) r.access older ≡ true → r ≡ result_at s (times n) (p n)
   unfolding ready_result
   ready_is n older rec behind r tracked olds gives allows =
@@ -78,7 +79,7 @@ module _ (s : Setup) (times : ℕ → Option ℕ) (p : ℕ → Arch) (a : Arch) 
           }
       by_test false may = tracked
 
-  turn_tracked : (cycle busy n : ℕ) (older : List Record) (rec : Record) (behind : ℕ) (used : Used) (caches : CachesState) →
+  pub turn_tracked : (cycle busy n : ℕ) (older : List Record) (rec : Record) (behind : ℕ) (used : Used) (caches : CachesState) →
       Tracked s (times n) (p n) behind rec → Olders s times p a n older → Tracked s (times n) (p n) behind (turn_of s cycle a busy older rec used caches).turned
   unfolding turn_of
   turn_tracked cycle busy n older rec behind used caches tracked olds = by_test (is_past_front s.params cycle rec) refl

@@ -32,7 +32,6 @@ mod SplitStale
 mod SplitSteps
 mod SplitTurns
 mod Staying
-mod Telling
 mod Whole
 pub mod Changes
 pub mod Commit
@@ -46,5 +45,6 @@ pub mod Path
 pub mod Places
 pub mod RamAbove
 pub mod Serving
+pub mod Telling
 pub mod TimeReads
 pub mod Tracks

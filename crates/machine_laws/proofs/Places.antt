@@ -8,7 +8,7 @@ use Rattle.mono_model.specs.Machine.{machine_start}
 use Rattle.mono_model.specs.Cycle.{ticked}
 use Rattle.mono_model.specs.Demand.{Demand, At, interrupting, committing, completing, issuing, trying, ending, stopping, halted, Run, run_start, turn_at, turn, Place, step_by, step, place}
 use Rattle.machine_laws.specs.Relation.{Related, Tracks}
-use Rattle.machine_laws.proofs.Path.{path_first, path_stop}
+use Rattle.mono_model.proofs.Path.{path_first, path_stop}
 use Rattle.machine_laws.proofs.Interrupt.{interrupt_related}
 use Rattle.machine_laws.proofs.Commit.{commit_phase_related}
 use Rattle.machine_laws.proofs.Complete.{complete_related}

@@ -15,7 +15,7 @@ use Rattle.mono_model.specs.Path.{path, entry, path-commit}
 use Rattle.mono_model.specs.Demand.{Demand, next, ending_orders, commit_order, redirect_orders, path_orders, At, interrupting, committing, completing, issuing, trying, ending, stopping, halted, Run, tried_turn, turn_at, turn, step_by, step, place, told}
 use Rattle.machine_laws.specs.Output.{AreInRoom}
 use Rattle.machine_laws.proofs.Phases.{EndingLeft, commit_from}
-use Rattle.machine_laws.proofs.Path.{path_at_set, path_at_sync}
+use Rattle.mono_model.proofs.Path.{path_at_set, path_at_sync}
 use Rattle.machine_laws.proofs.OutputRoom.{output_within}
 use Rattle.machine_laws.proofs.Places.{place_related}
 

@@ -9,12 +9,11 @@ use Rattle.rollback_cmds.specs.Order.{opens_epoch_of}
 use Rattle.trace_entry.specs.declared.Entry.{Entry}
 use Rattle.mono_model.specs.declared.setup.Setup.{Setup}
 use Rattle.mono_model.specs.Machine.{machine_start}
-use Rattle.mono_model.specs.Path.{entry, openings}
+use Rattle.mono_model.specs.Path.{entry, openings, stops}
 use Rattle.mono_model.specs.Sequence.{entry_at}
 use Rattle.mono_model.specs.Demand.{next, Place, step, told, needs_entry, number_of}
 use Rattle.mono_model.specs.Split.{Split, split_start, Event, room, goes_to, compute, push, obey, tick, take, send, may_compute, on_compute, pushed, obeys, on_obey, is_halted, may_tick, told_by, opens, has_appended, held_after, ticked_to, on_tick, may_take, taken, on_take, sent, event_at, run}
 use Rattle.machine_laws.proofs.Telling.{by_none, by_one}
-use Rattle.machine_laws.specs.SplitLaw.{stops}
 use Rattle.machine_laws.proofs.SplitEvents.{run_keeps}
 use Rattle.machine_laws.proofs.SplitOrders.{IsOrdered, none_is, may_hand, event_ordered, start_ordered}
 use Rattle.machine_laws.proofs.SplitTurns.{one}

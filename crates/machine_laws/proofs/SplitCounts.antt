@@ -5,13 +5,12 @@ use Rattle.rollback_cmds.specs.declared.order.Order.{Order}
 use Rattle.rollback_cmds.specs.declared.order.Order.TheVariants.{Set, Commit, Interrupt, Time, Stop, Sync}
 use Rattle.trace_entry.specs.declared.Entry.{Entry}
 use Rattle.mono_model.specs.declared.setup.Setup.{Setup}
-use Rattle.mono_model.specs.Path.{entry}
+use Rattle.mono_model.specs.Path.{entry, GoesOn, has_stop}
 use Rattle.mono_model.specs.Demand.{Place, step, told, number_of}
 use Rattle.mono_model.specs.Split.{Split, split_start, Event, compute, push, obey, tick, take, send, room, may_compute, on_compute, pushed, obeys, on_obey, may_tick, ticked_to, on_tick, may_take, taken, on_take, sent, event_at}
-use Rattle.machine_laws.specs.Relation.{GoesOn}
 use Rattle.machine_laws.specs.Numbers.{IsNumbered, AreNumbered, IsAtCommit, AreAtCommit}
 use Rattle.machine_laws.specs.Telling.{with_order}
-use Rattle.machine_laws.specs.SplitLaw.{has_stop, IsCounted}
+use Rattle.machine_laws.specs.SplitLaw.{IsCounted}
 use Rattle.machine_laws.proofs.Numbering.{orders_numbered, orders_at_commit}
 use Rattle.machine_laws.proofs.SplitOrders.{IsOrdered, obey_list}
 use Rattle.machine_laws.proofs.SplitLists.{hand_list, AreReached}

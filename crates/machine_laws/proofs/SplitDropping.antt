@@ -4,12 +4,12 @@ use Rattle.std.proofs.lemmas.Bool.{cond_both, and_from}
 use Rattle.rollback_cmds.specs.declared.order.Order.{Order}
 use Rattle.trace_entry.specs.declared.Entry.{Entry}
 use Rattle.mono_model.specs.declared.setup.Setup.{Setup}
-use Rattle.mono_model.specs.Path.{entry, openings}
+use Rattle.mono_model.specs.Path.{entry, openings, has_stop}
 use Rattle.mono_model.specs.Demand.{next, Place, told, is_try, needs_entry}
 use Rattle.mono_model.specs.Split.{Split, compute, room, may_compute, on_compute, pushed, on_obey, on_take, event_at}
 use Rattle.machine_laws.specs.Numbers.{last_commit}
 use Rattle.machine_laws.specs.Telling.{with_order}
-use Rattle.machine_laws.specs.SplitLaw.{IsListed, has_stop}
+use Rattle.machine_laws.specs.SplitLaw.{IsListed}
 use Rattle.machine_laws.specs.Reached.{IsReached}
 use Rattle.machine_laws.proofs.Numbering.{window_within}
 use Rattle.machine_laws.proofs.Staying.{done_told}

@@ -12,7 +12,7 @@ use Rattle.machine_laws.specs.Numbers.{last_commit, IsAtCommit}
 use Rattle.machine_laws.specs.Telling.{with_order}
 use Rattle.machine_laws.specs.Output.{IsInRoom}
 use Rattle.machine_laws.proofs.OutputRoom.{output_within}
-use Rattle.machine_laws.proofs.Path.{path_below, path_at_set, path_at_interrupt, path_at_time, path_at_sync}
+use Rattle.mono_model.proofs.Path.{path_below, path_at_set, path_at_interrupt, path_at_time, path_at_sync}
 use Rattle.machine_laws.proofs.Places.{place_related}
 use Rattle.machine_laws.proofs.Staying.{done_told}
 use Rattle.machine_laws.proofs.SplitSteps.{Owes, owes_none, owes_one, step_stepped}

@@ -24,10 +24,9 @@ use Rattle.mono_model.specs.Complete.{Completed, due, is_mispredicted, complete_
 use Rattle.mono_model.specs.Issue.{none_used, wants_time, replayed, issued, issue_phase}
 use Rattle.mono_model.specs.Fetch.{Try, misses, appends, turns, may_fetch, cache_read, missed, appended, new_record, predicted_next, tried, fetch_try}
 use Rattle.mono_model.specs.Cycle.{ticked}
-use Rattle.mono_model.specs.Path.{entry}
+use Rattle.mono_model.specs.Path.{entry, stops}
 use Rattle.mono_model.specs.Demand.{Demand, next, ending_orders, commit_order, redirect_orders, path_orders, demand_interrupt, demand_commit, demand_complete, demand_issue, demand_try, At, interrupting, committing, completing, issuing, trying, ending, stopping, halted, is_try, try_or_end, at_after_commit, Run, tried_turn, turn_at, number_of}
 use Rattle.mono_model.specs.Split.{is_halted}
-use Rattle.machine_laws.specs.SplitLaw.{stops}
 use Rattle.machine_laws.proofs.Phases.{walk_length, interrupt_flushes, interrupt_window, EndingLeft, commit_from, completes_from, complete_window, replay_flushes}
 
 -- Commit without a flush: the records that leave and those that stay are all there were.

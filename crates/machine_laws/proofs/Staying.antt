@@ -12,7 +12,7 @@ use Rattle.mono_model.specs.Path.{path, path-commit, path-stop}
 use Rattle.mono_model.specs.Demand.{Demand, ending_orders, commit_order, demand_interrupt, demand_commit, demand_complete, demand_issue, demand_try, At, interrupting, committing, completing, issuing, trying, ending, stopping, halted, Run, tried_turn, turn_at, turn, step_by, step, place, Place, told, number_of}
 use Rattle.machine_laws.specs.Numbers.{last_commit}
 use Rattle.machine_laws.specs.Stays.{with_interrupts, StaysBelow, StaysAt}
-use Rattle.machine_laws.proofs.Path.{path_below, path_at_interrupt, path_at_time}
+use Rattle.mono_model.proofs.Path.{path_below, path_at_interrupt, path_at_time}
 use Rattle.machine_laws.proofs.Making.{IsLater, AreLater, turn_made}
 use Rattle.machine_laws.proofs.Numbering.{done_is}
 use Rattle.machine_laws.proofs.Reaching.{interrupt_count, left_count, redirect_count, time_count, try_count}

@@ -99,11 +99,11 @@ csr_accesses : (word : ℕ) (i : Insn) (addr : ℕ) (time : Option ℕ) (done : 
 csr_accesses word i addr time None = refl
 csr_accesses word i addr time (Some done) = refl
 
-plain_accesses : (word : ℕ) (i : Insn) (addr x : ℕ) (e : Seen) (o : Outcome) → (plain_result word i addr x e o).access ≡ access.Nothing
+pub plain_accesses : (word : ℕ) (i : Insn) (addr x : ℕ) (e : Seen) (o : Outcome) → (plain_result word i addr x e o).access ≡ access.Nothing
 plain_accesses word i addr x e o =
     either_access (is_csr_insn i) _ _ access.Nothing (csr_accesses word i addr e.time (csr_read e i x)) (either_access (is_mret_insn i) _ _ access.Nothing refl refl)
 
-load_accesses : (next addr : ℕ) (width : Width) (signed : Bool) (spot : Spot) (raw : Option ℕ) → (loaded_raw next addr width signed spot raw).access ≡ access.Load addr width spot
+pub load_accesses : (next addr : ℕ) (width : Width) (signed : Bool) (spot : Spot) (raw : Option ℕ) → (loaded_raw next addr width signed spot raw).access ≡ access.Load addr width spot
 load_accesses next addr width signed spot None = refl
 load_accesses next addr width signed spot (Some raw) = refl
 

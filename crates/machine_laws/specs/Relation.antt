@@ -10,7 +10,7 @@ use Rattle.mono_model.specs.declared.setup.Setup.{Setup}
 use Rattle.mono_model.specs.Arch.{Arch}
 use Rattle.mono_model.specs.Result.{Result}
 use Rattle.mono_model.specs.Sequence.{found_next, result_at}
-use Rattle.mono_model.specs.Path.{path, time_of}
+use Rattle.mono_model.specs.Path.{path, time_of, GoesOn}
 use Rattle.mono_model.specs.Window.{Record, Stage, waiting, until, done}
 use Rattle.mono_model.specs.Demand.{Demand, next}
 
@@ -49,16 +49,6 @@ abbrev pub Tracks : Setup → (ℕ → Option ℕ) → (ℕ → Arch) → ℕ �
 Tracks s times p n [] fetch_addr kept = ((p n).pc ≡ fetch_addr) × (kept ≡ times n)
 Tracks s times p n (rec ∷ rest) fetch_addr kept =
     Tracked s (times n) (p n) (p (suc n)).pc rec × Tracks s times p (suc n) rest fetch_addr kept
-
--- the path goes on by execution from instruction `n`: the newest order that bent it speaks of `n` or an earlier instruction
-abbrev pub GoesOn : List Order → ℕ → Type 0
-GoesOn [] n = Unit {0}
-GoesOn (Set m addr ∷ os) n = m ≤ n
-GoesOn (Commit m ∷ os) n = GoesOn os n
-GoesOn (Interrupt m ∷ os) n = m ≤ n
-GoesOn (Time m v ∷ os) n = m ≤ n
-GoesOn (Stop m ∷ os) n = GoesOn os n
-GoesOn (Sync m ∷ os) n = m ≤ n
 
 -- each order that changes more than the path's address speaks of instruction `n` or an earlier one
 abbrev pub Within : List Order → ℕ → Type 0

@@ -1,32 +1,17 @@
 -- The law of the split state: what holds of functional side, timing side, and the entries and orders between them, after
 -- every list of events.
-use Rattle.std.specs.Prelude.{◌≡◌, ℕ, ◌+◌, ◌*◌, ◌^◌, ◌≤◌, ◌<◌, Bool, true, false, ◌||◌, None, IfSome, List, [], ◌∷◌, ◌++◌, reverse, length}
+use Rattle.std.specs.Prelude.{◌≡◌, ℕ, ◌+◌, ◌*◌, ◌^◌, ◌≤◌, ◌<◌, true, false, None, IfSome, List, [], ◌∷◌, ◌++◌, reverse, length}
 use Rattle.rollback_cmds.specs.declared.order.Order.{Order}
-use Rattle.rollback_cmds.specs.declared.order.Order.TheVariants.{Set, Commit, Interrupt, Time, Stop, Sync}
 use Rattle.trace_entry.specs.declared.Entry.{Entry}
 use Rattle.mono_model.specs.declared.setup.Setup.{Setup}
 use Rattle.mono_model.specs.Cycle.{mono}
-use Rattle.mono_model.specs.Path.{path, entry, openings}
+use Rattle.mono_model.specs.Path.{path, entry, openings, GoesOn, has_stop}
 use Rattle.mono_model.specs.Demand.{place, told, needs_entry, needed_entry, number_of, step_bound, entry_in}
 use Rattle.mono_model.specs.Split.{Split, room, is_boundary, is_place_boundary, committed}
 use Rattle.machine_laws.specs.Numbers.{last_commit, AreAtCommit}
 use Rattle.machine_laws.specs.Output.{IsInRoom}
-use Rattle.machine_laws.specs.Relation.{GoesOn}
 use Rattle.machine_laws.specs.Runs.{IsMono}
 use Rattle.machine_laws.specs.Telling.{with_order}
-
--- whether an order stops the functional side, and whether one of a list does
-abbrev pub stops : Order → Bool
-stops (Set m addr) = false
-stops (Commit m) = false
-stops (Interrupt m) = false
-stops (Time m v) = false
-stops (Stop m) = true
-stops (Sync m) = false
-
-abbrev pub has_stop : List Order → Bool
-has_stop [] = false
-has_stop (o ∷ os) = stops o || has_stop os
 
 -- The functional side's numbers are as the orders obeyed say.
 pub record IsCounted (s : Setup) (x : Split) : Type 0 where

@@ -1,6 +1,5 @@
 -- The run without a machine file: one instruction a step, and the step's number is the time.
-use Rattle.std.specs.Prelude.{◌≡◌, refl, ℕ, zero, suc, ◌+◌, ◌==◌, nat_le, if◌then◌else◌, Bool, true, false, is_some, length, Option, Some, None}
-use Rattle.fsim_base.specs.declared.instruction.Halt.{Halt}
+use Rattle.std.specs.Prelude.{◌≡◌, refl, ℕ, zero, suc, ◌+◌, ◌==◌, nat_le, if◌then◌else◌, Bool, true, false, length, Option, Some, None}
 use Rattle.device_bus.specs.declared.undo.Note.{Note}
 use Rattle.device_bus.specs.declared.undo.Note.TheVariants as note
 use Rattle.machine_csr.specs.Trap.{timer_pending}

@@ -3,22 +3,20 @@
 use Rattle.std.specs.Prelude.{◌≡◌, refl, ℕ, zero, suc, ◌+◌, if◌then◌else◌, Bool, true, false, Option, Some, None, List, [], ◌∷◌}
 use Rattle.fsim_base.specs.declared.access.Access.{Access}
 use Rattle.fsim_base.specs.declared.access.Access.TheVariants as access
-use Rattle.fsim_base.specs.declared.access.Spot.TheVariants.{Ram, Device, Nowhere}
+use Rattle.fsim_base.specs.declared.access.Spot.TheVariants.{Ram}
 use Rattle.fsim_base.specs.declared.cause.Cause.{Cause}
 use Rattle.fsim_base.specs.declared.instruction.Flow.{Flow}
 use Rattle.fsim_base.specs.declared.instruction.Flow.TheVariants as flow
-use Rattle.fsim_base.specs.declared.instruction.Halt.{Halt}
 use Rattle.device_bus.specs.declared.undo.Note.{Note}
 use Rattle.device_bus.specs.declared.undo.Note.TheVariants as note
 use Rattle.branch_predictor.specs.Predictor.{trained}
 use Rattle.cache_timing.specs.Caches.{CachesState, stored}
 use Rattle.cache_timing.specs.declared.params.AllCaches.{AllCaches}
-use Rattle.mono_model.specs.declared.final_state.End.{End}
 use Rattle.mono_model.specs.declared.final_state.End.TheVariants.{OutputFull}
 use Rattle.mono_model.specs.declared.setup.Setup.{Setup}
 use Rattle.mono_model.specs.Setup.{predictor_params, caches_params}
-use Rattle.mono_model.specs.Arch.{Arch, synced}
-use Rattle.mono_model.specs.Found.{Found, flow_in, is_fence_i}
+use Rattle.mono_model.specs.Arch.{synced}
+use Rattle.mono_model.specs.Found.{flow_in, is_fence_i}
 use Rattle.mono_model.specs.Result.{Result}
 use Rattle.mono_model.specs.Effect.{effect, note_of}
 use Rattle.mono_model.specs.Final.{end_of}

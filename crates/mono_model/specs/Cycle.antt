@@ -1,13 +1,12 @@
 -- A cycle of the monolithic machine, and the machine after any number of cycles.
 use Rattle.std.specs.Prelude.{◌≡◌, refl, ℕ, zero, suc, ◌+◌, ◌==◌, if◌then◌else◌}
-use Rattle.mono_model.specs.declared.final_state.End.{End}
 use Rattle.mono_model.specs.declared.final_state.End.TheVariants.{Limit}
 use Rattle.mono_model.specs.declared.final_state.Final.{Final}
 use Rattle.mono_model.specs.declared.setup.Setup.{Setup}
 use Rattle.mono_model.specs.Final.{has_ended}
 use Rattle.mono_model.specs.Machine.{Machine, machine_start, machine_final}
 use Rattle.mono_model.specs.Interrupt.{interrupt_phase}
-use Rattle.mono_model.specs.Commit.{Committed, commit_phase}
+use Rattle.mono_model.specs.Commit.{commit_phase}
 use Rattle.mono_model.specs.Complete.{complete_phase}
 use Rattle.mono_model.specs.Issue.{issue_phase}
 use Rattle.mono_model.specs.Fetch.{fetch_phase}

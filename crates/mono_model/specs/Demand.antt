@@ -1,17 +1,16 @@
 -- The demand run: the monolithic run with instruction numbers and orders written beside it, cut into turns and steps.
 -- It says which orders the timing side gives, and which entry it needs at each place.
-use Rattle.std.specs.Prelude.{◌≡◌, refl, ℕ, zero, suc, ◌+◌, ◌-◌, ◌*◌, ◌==◌, nat_lt, nat_le, if◌then◌else◌, Bool, true, false, Option, Some, None, List, [], ◌∷◌, length, reverse, drop}
+use Rattle.std.specs.Prelude.{◌≡◌, refl, ℕ, zero, suc, ◌+◌, ◌-◌, ◌*◌, ◌==◌, if◌then◌else◌, Bool, true, false, Option, Some, None, List, [], ◌∷◌, length, reverse, drop}
 use Rattle.rollback_cmds.specs.declared.order.Order.{Order}
 use Rattle.rollback_cmds.specs.declared.order.Order.TheVariants.{Set, Commit, Interrupt, Time, Stop, Sync}
 use Rattle.rollback_cmds.specs.Order.{opens_epoch_of}
 use Rattle.trace_entry.specs.declared.Entry.{Entry}
 use Rattle.mono_model.specs.declared.setup.Setup.{Setup}
 use Rattle.mono_model.specs.Final.{has_ended}
-use Rattle.mono_model.specs.Window.{Record}
 use Rattle.mono_model.specs.Machine.{Machine, machine_start}
 use Rattle.mono_model.specs.Interrupt.{is_interrupted, interrupt_phase}
 use Rattle.mono_model.specs.Commit.{Committed, Ending, plain, trap, sync, commit_phase}
-use Rattle.mono_model.specs.Complete.{Completed, completes, complete_phase}
+use Rattle.mono_model.specs.Complete.{completes, complete_phase}
 use Rattle.mono_model.specs.Issue.{wants_time, issue_phase}
 use Rattle.mono_model.specs.Fetch.{Try, misses, appends, turns, may_fetch, fetch_try, predicted_next}
 use Rattle.mono_model.specs.Cycle.{ticked}

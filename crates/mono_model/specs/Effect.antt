@@ -1,13 +1,12 @@
 -- What an instruction changes once its result is known: its register, RAM, the devices, the output, the CSRs
 -- (RISC-V unprivileged manual, chapter 2; privileged manual, section 3.1, and section 3.3.2 for MRET).
-use Rattle.std.specs.Prelude.{ℕ, ◌+◌, ◌&&◌, if◌then◌else◌, Bool, not, is_none, is_some, Option, Some, None, unwrap_or, List, [], ◌∷◌, ◌++◌}
+use Rattle.std.specs.Prelude.{ℕ, ◌+◌, ◌&&◌, if◌then◌else◌, Bool, is_none, Option, Some, None, unwrap_or, List, [], ◌∷◌, ◌++◌}
 use Rattle.fsim_base.specs.Memory.{put_bytes}
 use Rattle.fsim_base.specs.Width.{width_bytes}
 use Rattle.fsim_base.specs.Cause.{cause_number}
 use Rattle.fsim_base.specs.declared.access.Access.{Access}
 use Rattle.fsim_base.specs.declared.access.Access.TheVariants as access
-use Rattle.fsim_base.specs.declared.access.Spot.TheVariants.{Ram, Device, Nowhere}
-use Rattle.fsim_base.specs.declared.access.Width.{Width}
+use Rattle.fsim_base.specs.declared.access.Spot.TheVariants.{Ram, Device}
 use Rattle.fsim_base.specs.declared.cause.Cause.{Cause}
 use Rattle.rv_decode.specs.declared.insn.Insn.{Insn}
 use Rattle.rv_decode.specs.Class.{sources_of}

@@ -1,6 +1,6 @@
 -- The fifth phase of a cycle: records are appended along the predicted path
 -- (Hennessy and Patterson, Computer Architecture, sections 3.3 and 3.9).
-use Rattle.std.specs.Prelude.{◌≡◌, refl, ℕ, zero, suc, ◌+◌, ◌==◌, ◌&&◌, not, nat_le, nat_lt, if◌then◌else◌, Bool, true, false, None, List, [], ◌∷◌, ◌++◌, length}
+use Rattle.std.specs.Prelude.{◌≡◌, refl, ℕ, zero, suc, ◌+◌, ◌==◌, ◌&&◌, not, nat_le, nat_lt, if◌then◌else◌, Bool, true, false, None, [], ◌∷◌, ◌++◌, length}
 use Rattle.fsim_base.specs.Number.{wrap_sum}
 use Rattle.branch_predictor.specs.Predictor.{predicted}
 use Rattle.cache_timing.specs.Caches.{CachesState, Served, fetched}

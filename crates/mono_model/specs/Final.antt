@@ -1,5 +1,5 @@
 -- What is reported of a run.
-use Rattle.std.specs.Prelude.{ℕ, zero, suc, ◌-◌, List, [], ◌∷◌, length, Option, Some, None, Bool, true, false}
+use Rattle.std.specs.Prelude.{ℕ, zero, suc, ◌-◌, List, [], ◌∷◌, Bool, true, false}
 use Rattle.fsim_base.specs.declared.instruction.Halt.{Halt}
 use Rattle.fsim_base.specs.declared.instruction.Halt.TheVariants as halt
 use Rattle.mono_model.specs.declared.final_state.End.{End}

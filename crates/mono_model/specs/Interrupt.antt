@@ -1,8 +1,7 @@
 -- The first phase of a cycle: the timer interrupt (RISC-V privileged manual, section 3.1.9 and 3.2.1).
-use Rattle.std.specs.Prelude.{ℕ, ◌+◌, if◌then◌else◌, Bool, None, List, []}
+use Rattle.std.specs.Prelude.{◌+◌, if◌then◌else◌, Bool, None, []}
 use Rattle.machine_csr.specs.Trap.{timer_pending}
-use Rattle.mono_model.specs.Arch.{Arch, compare_of, interrupted}
-use Rattle.mono_model.specs.Window.{Record}
+use Rattle.mono_model.specs.Arch.{compare_of, interrupted}
 use Rattle.mono_model.specs.Machine.{Machine, flushed}
 
 abbrev pub is_interrupted : Machine → Bool

@@ -1,10 +1,9 @@
 -- The fourth phase of a cycle: records with operands and a unit begin to execute, from the oldest to the youngest
 -- (Hennessy and Patterson, Computer Architecture, section 3.6, issue and execute; section 3.4, Tomasulo's algorithm).
-use Rattle.std.specs.Prelude.{◌≡◌, refl, ℕ, ◌+◌, ◌==◌, ◌&&◌, nat_le, nat_lt, if◌then◌else◌, Bool, true, false, is_none, Option, Some, None, List, [], ◌∷◌}
+use Rattle.std.specs.Prelude.{◌≡◌, refl, ℕ, ◌+◌, ◌&&◌, nat_le, nat_lt, if◌then◌else◌, Bool, true, false, is_none, Option, Some, None, List, [], ◌∷◌}
 use Rattle.fsim_base.specs.declared.access.Access.{Access}
 use Rattle.fsim_base.specs.declared.access.Access.TheVariants as access
-use Rattle.fsim_base.specs.declared.access.Spot.TheVariants.{Ram, Device, Nowhere}
-use Rattle.fsim_base.specs.declared.access.RamRange.{RamRange}
+use Rattle.fsim_base.specs.declared.access.Spot.TheVariants.{Ram, Device}
 use Rattle.fsim_base.specs.declared.cause.Cause.{Cause}
 use Rattle.fsim_base.specs.declared.instruction.Class.{Class}
 use Rattle.fsim_base.specs.declared.instruction.Class.TheVariants as class
@@ -13,9 +12,9 @@ use Rattle.mono_model.specs.declared.params.Params.{Params}
 use Rattle.mono_model.specs.declared.setup.Setup.{Setup}
 use Rattle.mono_model.specs.Setup.{ram_range, caches_params}
 use Rattle.mono_model.specs.Arch.{Arch}
-use Rattle.mono_model.specs.Found.{Found, first_source, second_source}
+use Rattle.mono_model.specs.Found.{first_source, second_source}
 use Rattle.mono_model.specs.Result.{Result, Seen, executed, is_time_read}
-use Rattle.mono_model.specs.Window.{Record, Stage, waiting, until, done, class_at, is_waiting, operand, loaded_byte, are_stores_done, busy_divisions}
+use Rattle.mono_model.specs.Window.{Record, until, class_at, is_waiting, operand, loaded_byte, are_stores_done, busy_divisions}
 use Rattle.mono_model.specs.Machine.{Machine, flushed}
 
 -- How many records of each unit kind have begun in this cycle.

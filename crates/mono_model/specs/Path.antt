@@ -1,6 +1,6 @@
 -- The path of the functional side: the instructions one after the other under the orders obeyed so far, the newest order
 -- first. Nothing is undone here: a path is computed from the start.
-use Rattle.std.specs.Prelude.{◌≡◌, refl, ℕ, zero, suc, ◌+◌, ◌-◌, ◌==◌, nat_lt, if◌then◌else◌, Bool, Option, Some, None, List, [], ◌∷◌}
+use Rattle.std.specs.Prelude.{◌≡◌, ◌≤◌, refl, ℕ, zero, suc, ◌+◌, ◌-◌, ◌==◌, ◌||◌, nat_lt, if◌then◌else◌, Bool, true, false, Option, Some, None, List, [], ◌∷◌}
 use Rattle.rollback_cmds.specs.declared.order.Order.{Order}
 use Rattle.rollback_cmds.specs.declared.order.Order.TheVariants.{Set, Commit, Interrupt, Time, Stop, Sync}
 use Rattle.rollback_cmds.specs.Order.{opens_epoch_of}
@@ -79,3 +79,26 @@ openings (o ∷ os) = (if opens_epoch_of o then 1 else 0) + openings os
 -- what is told of instruction `n` under a list of orders
 unfoldable pub entry : Setup → List Order → ℕ → Entry
 entry s os n = entry_at s (time_of os n) (path s os n) n (openings os)
+
+-- the path goes on by execution from instruction `n`: the newest order that bent it speaks of `n` or an earlier instruction
+abbrev pub GoesOn : List Order → ℕ → Type 0
+GoesOn [] n = Unit {0}
+GoesOn (Set m addr ∷ os) n = m ≤ n
+GoesOn (Commit m ∷ os) n = GoesOn os n
+GoesOn (Interrupt m ∷ os) n = m ≤ n
+GoesOn (Time m v ∷ os) n = m ≤ n
+GoesOn (Stop m ∷ os) n = GoesOn os n
+GoesOn (Sync m ∷ os) n = m ≤ n
+
+-- whether an order stops the functional side, and whether one of a list does
+abbrev pub stops : Order → Bool
+stops (Set m addr) = false
+stops (Commit m) = false
+stops (Interrupt m) = false
+stops (Time m v) = false
+stops (Stop m) = true
+stops (Sync m) = false
+
+abbrev pub has_stop : List Order → Bool
+has_stop [] = false
+has_stop (o ∷ os) = stops o || has_stop os

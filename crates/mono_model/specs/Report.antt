@@ -1,13 +1,11 @@
 -- The report of a run, as text: lines of ASCII codes. Numbers are decimal; addresses, registers and CSRs are hexadecimal
 -- in small letters with all their digits.
-use Rattle.std.specs.Prelude.{ℕ, zero, suc, ◌+◌, ◌*◌, ◌/◌, ◌%◌, ◌==◌, nat_lt, if◌then◌else◌, Bool, true, false, List, [], ◌∷◌, ◌++◌, codes, decimal, map, slice_index, length}
+use Rattle.std.specs.Prelude.{ℕ, zero, suc, ◌+◌, ◌/◌, ◌%◌, ◌==◌, nat_lt, if◌then◌else◌, Bool, true, false, List, [], ◌∷◌, ◌++◌, codes, decimal, map, slice_index}
 use Rattle.machine_csr.specs.Csr.{flag}
 use Rattle.mono_model.specs.declared.final_state.End.{End}
 use Rattle.mono_model.specs.declared.final_state.End.TheVariants.{Pass, Fail, Limit, OutputFull, Running}
 use Rattle.mono_model.specs.declared.final_state.Final.{Final}
 use Rattle.mono_model.specs.declared.setup.Setup.{Setup}
-use Rattle.mono_model.specs.Arch.{Arch}
-use Rattle.mono_model.specs.Machine.{Machine}
 use Rattle.mono_model.specs.Cycle.{mono, final}
 
 abbrev pub Text : Type 0

@@ -1,6 +1,6 @@
 -- What an instruction computes of its operands and of what it sees
 -- (RISC-V unprivileged manual, chapter 2, M and Zicsr; privileged manual, sections 3.1, 3.2.1 and 3.3).
-use Rattle.std.specs.Prelude.{ℕ, ◌==◌, ◌&&◌, ◌||◌, if◌then◌else◌, Bool, true, false, not, is_none, is_some, Option, Some, None, option_map, unwrap_or}
+use Rattle.std.specs.Prelude.{ℕ, ◌==◌, ◌&&◌, ◌||◌, if◌then◌else◌, Bool, true, false, is_none, is_some, Option, Some, None, unwrap_or}
 use Rattle.fsim_base.specs.Number.{wrap_sum}
 use Rattle.fsim_base.specs.Memory.{from_bytes}
 use Rattle.fsim_base.specs.Width.{width_bytes, is_aligned}

@@ -1,5 +1,5 @@
 -- What a run depends on, and which of its values a run may have.
-use Rattle.std.specs.Prelude.{ℕ, ◌==◌, ◌&&◌, ◌||◌, nat_le, Bool, length}
+use Rattle.std.specs.Prelude.{◌==◌, ◌&&◌, ◌||◌, nat_le, Bool, length}
 use Rattle.fsim_base.specs.declared.access.RamRange.{RamRange}
 use Rattle.branch_predictor.specs.declared.params.PredParams.{PredParams}
 use Rattle.cache_timing.specs.declared.params.CacheParams.{CacheParams}

@@ -1,16 +1,14 @@
 -- The split state: the functional side, the timing side, and the entries and orders under way between them; its six
 -- events; and what is committed (Chiou et al., FPGA-Accelerated Simulation Technologies, MICRO 2007).
-use Rattle.std.specs.Prelude.{◌≡◌, refl, ℕ, zero, suc, ◌+◌, ◌*◌, ◌==◌, ◌&&◌, ◌||◌, not, nat_lt, nat_le, if◌then◌else◌, Bool, true, false, is_none, Option, Some, None, List, [], ◌∷◌, ◌++◌, length, drop}
+use Rattle.std.specs.Prelude.{◌≡◌, refl, ℕ, zero, suc, ◌+◌, ◌*◌, ◌==◌, ◌&&◌, ◌||◌, not, nat_lt, if◌then◌else◌, Bool, true, false, is_none, Option, Some, None, List, [], ◌∷◌, ◌++◌, length}
 use Rattle.rollback_cmds.specs.declared.order.Order.{Order}
 use Rattle.rollback_cmds.specs.declared.order.Order.TheVariants.{Set, Commit, Interrupt, Time, Stop, Sync}
 use Rattle.rollback_cmds.specs.Order.{opens_epoch_of}
 use Rattle.trace_entry.specs.declared.Entry.{Entry}
 use Rattle.mono_model.specs.declared.setup.Setup.{Setup}
 use Rattle.mono_model.specs.Arch.{Arch}
-use Rattle.mono_model.specs.Final.{has_ended}
-use Rattle.mono_model.specs.Machine.{Machine}
 use Rattle.mono_model.specs.Path.{path, entry, openings}
-use Rattle.mono_model.specs.Demand.{Demand, At, interrupting, committing, completing, issuing, trying, ending, stopping, halted, Run, Place, place_start, step, told, needs_entry, number_of}
+use Rattle.mono_model.specs.Demand.{At, interrupting, committing, completing, issuing, trying, ending, stopping, halted, Place, place_start, step, told, needs_entry}
 
 pub record Split : Type 0 where
   -- the functional side: the orders obeyed, the newest first; its position; its committed number; the entry in hand

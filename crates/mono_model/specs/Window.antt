@@ -1,13 +1,13 @@
 -- The window: the instructions under way, the oldest first
 -- (Hennessy and Patterson, Computer Architecture, section 3.6, the reorder buffer).
-use Rattle.std.specs.Prelude.{ℕ, ◌+◌, ◌-◌, ◌/◌, ◌%◌, ◌^◌, ◌*◌, ◌==◌, ◌&&◌, nat_le, nat_lt, if◌then◌else◌, Bool, true, false, is_none, Option, Some, None, List, [], ◌∷◌}
+use Rattle.std.specs.Prelude.{ℕ, ◌+◌, ◌-◌, ◌/◌, ◌%◌, ◌^◌, ◌==◌, ◌&&◌, nat_le, nat_lt, if◌then◌else◌, Bool, true, false, is_none, Option, Some, None, List, [], ◌∷◌}
 use Rattle.fsim_base.specs.Width.{width_bytes}
 use Rattle.fsim_base.specs.declared.access.Access.{Access}
 use Rattle.fsim_base.specs.declared.access.Access.TheVariants as access
-use Rattle.fsim_base.specs.declared.access.Spot.TheVariants.{Ram, Device, Nowhere}
+use Rattle.fsim_base.specs.declared.access.Spot.TheVariants.{Ram}
 use Rattle.fsim_base.specs.declared.instruction.Class.{Class}
 use Rattle.fsim_base.specs.declared.instruction.Class.TheVariants as class
-use Rattle.mono_model.specs.Found.{Found, class_in, first_source, second_source, destination_in}
+use Rattle.mono_model.specs.Found.{Found, class_in, destination_in}
 use Rattle.mono_model.specs.Result.{Result}
 
 -- How far an instruction has come.

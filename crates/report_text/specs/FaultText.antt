@@ -30,7 +30,7 @@ status_number (TooLong role limit) = 17
 status_number (BadPlan place) = 18
 status_number (Later command) = 20
 status_number (BadScript line) = 21
-status_number (Sets machine) = 22
+status_number (Sets named) = 22
 
 -- the answer has a line; those of a run and that of the sink's fault have none
 abbrev pub has_line : Status → Bool
@@ -92,5 +92,5 @@ fault_text (TooLong role limit) = codes "fast: too long: " ++ role_text role ++ 
 fault_text (BadPlan place) = codes "fast: bad plan: " ++ decimal place ++ line_feed
 fault_text (Later command) = codes "fast: later: " ++ command ++ line_feed
 fault_text (BadScript line) = codes "fast: bad script: " ++ decimal line ++ line_feed
-fault_text (Sets machine) = codes "fast: sets: " ++ decimal machine ++ line_feed
+fault_text (Sets named) = codes "fast: sets: " ++ decimal named ++ line_feed
 fault_text status = []

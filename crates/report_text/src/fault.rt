@@ -193,7 +193,7 @@ pub fn fault_line<K: Sink>(status: &Status, sink: &mut K) -> Result<(), WriteFau
         Status::BadPlan(place) => put_count(b"fast: bad plan: ", *place, sink),
         Status::Later(command) => put_key(b"fast: later: ", command.as_slice(), b"\n", sink),
         Status::BadScript(line) => put_count(b"fast: bad script: ", *line, sink),
-        Status::Sets(machine) => put_count(b"fast: sets: ", u64::from(*machine), sink),
+        Status::Sets(named) => put_count(b"fast: sets: ", u64::from(*named), sink),
         Status::Pass
         | Status::Fail(_)
         | Status::Limit

@@ -25,7 +25,7 @@ pub enum Status {
     OutputFull,
     /// The plan has left the run at a cycle where it has not ended.
     Running,
-    /// What was asked for was shown, and nothing was run to its end.
+    /// The whole answer to a debugger's script or to a sweep was written.
     Shown,
     /// The words are no command line.
     Usage,
@@ -49,7 +49,7 @@ pub enum Status {
     Later(Bytes),
     /// The script's first line that is no command, counted from 1.
     BadScript(u64),
-    /// The machine with this number, counted from 0, has cache sets that it may not have where others run beside it.
+    /// A sweep names this many machine files, and fewer sets of devices were handed in.
     Sets(u32),
 }
 

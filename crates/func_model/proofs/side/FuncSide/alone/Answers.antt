@@ -3,6 +3,7 @@ use Rattle.mono_model.specs.declared.setup.Setup.{Setup as RunSetup}
 use Rattle.func_model.specs.declared.walk.Walk.{Walk}
 use Rattle.func_model.specs.Walk.{Stands, IsStanding}
 use Rattle.func_model.proofs.Walking.{walk_retired, fresh_start}
+use Rattle.func_model.proofs.Reaching.{running_stands}
 use Rattle.func_model.proofs.side.FuncSide.alone.Given as given
 use Rattle.func_model.proofs.side.FuncSide.alone.Goals as goal
 
@@ -15,7 +16,7 @@ stands_inside g c s h = let P : Walk g.row.D.Denot → Type 0 = λ w. Stands s [
 
 pub alone-requires-clause-fresh : goal.alone-requires-clause-fresh
 alone-requires-clause-fresh g c =
-    let standing : IsStanding c.self.inside.walk = c.self.invariant (ap (λ (w : Walk g.row.D.Denot). w.is_stopped) c.self.view_is ∙ c.requires.fresh.running) in
+    let standing : IsStanding c.self.inside.walk = running_stands c.self.inside.walk c.self.invariant (ap (λ (w : Walk g.row.D.Denot). w.is_stopped) c.self.view_is ∙ c.requires.fresh.running) in
     omega (arith, walk_retired standing.setup standing.orders c.self.inside.walk standing.stands.holds, ap (λ (w : Walk g.row.D.Denot). w.position) c.self.view_is, c.requires.fresh.position)
 
 pub returns-clause-reported : goal.returns-clause-reported

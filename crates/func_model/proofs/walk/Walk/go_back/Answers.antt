@@ -8,7 +8,7 @@ loop-self-init g c = backing_start c.args.n c.args.self.now
 
 -- what is committed isn't reached
 impossible : {A : Type 0} (g : given.Over) (c : goal.In_default g) → A
-impossible g c = not_empty c.args.n c.args.self.now c.loop-self.self c.requires.holding c.requires.from c.loop-self.invariant c.loop-self-test.true (c.in_default.ensures.empty.0 refl)
+impossible g c = not_empty c.args.n c.args.self.now c.loop-self.self (c.requires.holding (omega (arith, c.loop-self.invariant.within, c.loop-self-test.true))) c.requires.from c.loop-self.invariant c.loop-self-test.true (c.in_default.ensures.empty.0 refl)
 
 pub returns-in_default-clause-holds : goal.returns-in_default-clause-holds
 returns-in_default-clause-holds g c = impossible g c
@@ -24,7 +24,7 @@ returns-in_default-clause-others g c = impossible g c
 
 pub undo-requires : goal.undo-requires
 undo-requires g c = record {
-  restorable = last_restorable c.args.n c.args.self.now c.loop-self.self c.back.new.self c.in-Some.past c.requires.holding c.requires.from c.loop-self.invariant c.loop-self-test.true c.in-Some.ensures.newest;
+  restorable = last_restorable c.args.n c.args.self.now c.loop-self.self c.back.new.self c.in-Some.past (c.requires.holding (omega (arith, c.loop-self.invariant.within, c.loop-self-test.true))) c.requires.from c.loop-self.invariant c.loop-self-test.true c.in-Some.ensures.newest;
 }
 
 pub loop-self-preserved : goal.loop-self-preserved

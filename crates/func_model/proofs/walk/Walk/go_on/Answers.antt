@@ -6,10 +6,10 @@ pub loop-self-init : goal.loop-self-init
 loop-self-init g c = onward_start c.args.n c.args.self.now
 
 pub step-requires-clause-standing : goal.step-requires-clause-standing
-step-requires-clause-standing g c = onward_standing c.args.n c.args.self.now c.loop-self.self c.requires.standing c.loop-self.invariant
+step-requires-clause-standing g c = onward_standing c.args.n c.args.self.now c.loop-self.self (c.requires.standing (omega (arith, c.loop-self.invariant.from, c.loop-self-test.true))) c.loop-self.invariant
 
 pub step-requires-clause-running : goal.step-requires-clause-running
-step-requires-clause-running g c = c.loop-self.invariant.others.running ∙ c.requires.running
+step-requires-clause-running g c = c.loop-self.invariant.others.running ∙ c.requires.running (omega (arith, c.loop-self.invariant.from, c.loop-self-test.true))
 
 pub step-requires-clause-room : goal.step-requires-clause-room
 step-requires-clause-room g c = omega (arith, c.loop-self.invariant.others.committed, c.loop-self.invariant.others.room, c.requires.room, c.loop-self-test.true)

@@ -1,19 +1,36 @@
 use Rattle.std.proofs.Common.{ap, sym, subst, ◌∷◌}
 use Rattle.rollback_cmds.specs.declared.order.Order.{Order}
+use Rattle.rollback_cmds.specs.declared.order.Order.TheVariants.{Set, Interrupt, Time, Stop, Sync}
 use Rattle.func_model.specs.declared.walk.Walk.{Walk}
 use Rattle.func_model.specs.Walk.{Stands}
 use Rattle.func_model.proofs.Bending.{commit_stands, commit_from, commit_within, commit_obeyed, committed_position, within_path}
+use Rattle.func_model.proofs.Reaching.{order_reach, commit_running}
 use Rattle.func_model.proofs.walk.Walk.obey.Goals as goal
 
 pub returns-in-Commit-clause-stands : goal.returns-in-Commit-clause-stands
 returns-in-Commit-clause-stands g c = λ s os h.
     let P : Order → Type 0 = λ o. Stands s (o ∷ os) c.commit.new.self in
     let from = commit_from c.args.order c.in-Commit.n c.args.self.now.committed c.in-Commit.is c.requires.from in
-    let within = within_path s os c.args.self.now c.in-Commit.n h c.requires.running from (commit_within c.args.order c.in-Commit.n c.args.self.now c.in-Commit.is c.requires.within) in
+    let within = within_path s os c.args.self.now c.in-Commit.n h (commit_running c.args.order c.in-Commit.n c.args.self.now c.in-Commit.is c.requires.reach) from (commit_within c.args.order c.in-Commit.n c.args.self.now c.in-Commit.is c.requires.within) in
     subst P (sym c.in-Commit.is)
     (commit_stands s os c.in-Commit.n c.args.self.now c.commit.new.self h (c.commit.ensures.holds s os h.holds within)
     (committed_position c.args.self.now c.commit.new.self c.in-Commit.n c.commit.ensures.others) (ap (λ (w : Walk g.row.D.Denot). w.is_stopped) c.commit.ensures.others) c.commit.ensures.committed)
 
 pub returns-in-Commit-clause-moved : goal.returns-in-Commit-clause-moved
 returns-in-Commit-clause-moved g c =
-    commit_obeyed c.args.order c.in-Commit.n c.args.self.now c.commit.new.self c.in-Commit.is c.requires.running c.commit.ensures.others c.commit.ensures.room
+    commit_obeyed c.args.order c.in-Commit.n c.args.self.now c.commit.new.self c.in-Commit.is c.commit.ensures.others c.commit.ensures.room
+
+pub set-requires-clause-reach : goal.set-requires-clause-reach
+set-requires-clause-reach g c = order_reach c.args.order (Set c.in-Set.n c.in-Set.addr) c.args.self.now c.in-Set.is c.requires.able c.requires.from c.requires.reach
+
+pub interrupt-requires-clause-reach : goal.interrupt-requires-clause-reach
+interrupt-requires-clause-reach g c = order_reach c.args.order (Interrupt c.in-Interrupt.n) c.args.self.now c.in-Interrupt.is c.requires.able c.requires.from c.requires.reach
+
+pub serve-requires-clause-reach : goal.serve-requires-clause-reach
+serve-requires-clause-reach g c = order_reach c.args.order (Time c.in-Time.n c.in-Time.v) c.args.self.now c.in-Time.is c.requires.able c.requires.from c.requires.reach
+
+pub stop-requires-clause-reach : goal.stop-requires-clause-reach
+stop-requires-clause-reach g c = order_reach c.args.order (Stop c.in-Stop.n) c.args.self.now c.in-Stop.is c.requires.able c.requires.from c.requires.reach
+
+pub sync-requires-clause-reach : goal.sync-requires-clause-reach
+sync-requires-clause-reach g c = order_reach c.args.order (Sync c.in-Sync.n) c.args.self.now c.in-Sync.is c.requires.able c.requires.from c.requires.reach

@@ -1,0 +1,33 @@
+-- The instructions in the window (Hennessy and Patterson, Computer Architecture, section 3.6, the reorder buffer).
+use Rattle.std.specs.Prelude.{◌≡◌, ◌≢◌, ℕ, ◌+◌, ◌-◌, ◌%◌, List, Option, nat_lt, nat_le, length, filter, count_by, AllPairs, slice_get}
+use Rattle.std.specs.List.{AllAdjacentBelow}
+use Rattle.reorder_buffer.specs.declared.slot.Slot.{Slot}
+
+-- how many slots a window has room for, and those that it holds, the oldest first
+pub record Contents : Type 0 where
+  pub cap : ℕ
+  pub slots : List Slot
+
+-- each number is one above that of the slot in front
+abbrev pub IsConsecutive : List Slot → Type 0
+IsConsecutive slots = AllAdjacentBelow (λ older younger. younger.number ≡ older.number + 1) slots (length slots)
+
+-- the youngest slot, where there is one
+abbrev pub youngest : List Slot → Option Slot
+youngest slots = slice_get slots (length slots - 1)
+
+-- the index of an instruction's slot: the numbers in the window follow one another and are at most cap, so each has its own
+abbrev pub index_of : ℕ → ℕ → ℕ
+index_of cap number = number % cap
+
+-- no two slots have one index
+abbrev pub HasOwnIndices : ℕ → List Slot → Type 0
+HasOwnIndices cap slots = AllPairs (λ older younger. index_of cap older.number ≢ index_of cap younger.number) slots
+
+-- the slots whose numbers are below n
+abbrev pub below_number : ℕ → List Slot → List Slot
+below_number n slots = filter (λ s. nat_lt s.number n) slots
+
+-- how many slots have the number n or one above
+abbrev pub count_from : ℕ → List Slot → ℕ
+count_from n slots = count_by (λ s. nat_le n s.number) slots

@@ -1,0 +1,167 @@
+ghost use Rattle.std.specs.Prelude.{◌≡◌, ◌+◌, IsTrue, IfSome};
+ghost use Rattle.reorder_buffer.specs.Window.{youngest};
+
+use crate::{Slot, SlotState, Window};
+use fsim_base::{Access, Class};
+use std::test::Fail;
+
+/// What is done to the window.
+#[derive(Clone, Copy, Debug, PartialEq, Eq)]
+enum Step {
+    Append(u64),
+    /// Marks the slot at this place as done.
+    Finish(u32),
+    Pop,
+    CutFrom(u64),
+}
+
+/// An instruction that waits.
+fn slot(number: u64) -> Slot
+    ensures { result.number ≡ number }
+{
+    Slot {
+        number,
+        addr: 0x8000_0010,
+        word: 0x0000_0013,
+        class: Class::Alu,
+        access: Access::Nothing,
+        next: 0x8000_0014,
+        predicted: 0x8000_0014,
+        cause: None,
+        unserved: false,
+        sends: false,
+        halt: None,
+        irq_on: false,
+        cmp: 0,
+        fetched: 1,
+        state: SlotState::Waiting,
+    }
+}
+
+/// Whether the number is the one behind the youngest slot's.
+fn follows(window: &Window, number: u64) -> bool
+    ensures { IsTrue result → IfSome (youngest window.now.slots) (λ last. number ≡ last.number + 1) }
+{
+    let len = window.len();
+    if len == 0 {
+        return true;
+    }
+    let (_, last) = window.at(len - 1);
+    number.checked_sub(1) == Some(last.number)
+}
+
+/// Does a step that is possible, and gives the index or the count that it answers; None for a step that isn't.
+fn play(window: &mut Window, step: Step) -> Option<u32> {
+    match step {
+        Step::Append(number) if !window.is_full() && follows(window, number) => {
+            Some(window.append(slot(number)))
+        }
+        Step::Finish(place) if place < window.len() => {
+            window.mark(place, SlotState::Done);
+            Some(place)
+        }
+        Step::Pop if window.len() > 0 => {
+            window.pop();
+            Some(0)
+        }
+        Step::CutFrom(number) => Some(window.cut_from(number)),
+        _ => None,
+    }
+}
+
+/// The number and the index of the slot at a place, and whether it is done; None behind the last.
+fn seen(window: &Window, place: u32) -> Option<(u64, u32, bool)> {
+    if place >= window.len() {
+        return None;
+    }
+    let (index, slot) = window.at(place);
+    Some((slot.number, index, slot.state == SlotState::Done))
+}
+
+#[test]
+fn a_window_of_three_goes_round(rt: HostRuntime) -> Result<(), Fail> {
+    let mut window = Window::new(rt.alloc(), 3)?;
+    // A step, what it answers, and the three places after it.
+    let steps = [
+        (Step::Append(7), 1, [Some((7, 1, false)), None, None]),
+        (
+            Step::Append(8),
+            2,
+            [Some((7, 1, false)), Some((8, 2, false)), None],
+        ),
+        (
+            Step::Append(9),
+            0,
+            [
+                Some((7, 1, false)),
+                Some((8, 2, false)),
+                Some((9, 0, false)),
+            ],
+        ),
+        (
+            Step::Finish(1),
+            1,
+            [Some((7, 1, false)), Some((8, 2, true)), Some((9, 0, false))],
+        ),
+        (
+            Step::Pop,
+            0,
+            [Some((8, 2, true)), Some((9, 0, false)), None],
+        ),
+        (
+            Step::Append(10),
+            1,
+            [
+                Some((8, 2, true)),
+                Some((9, 0, false)),
+                Some((10, 1, false)),
+            ],
+        ),
+        (
+            Step::CutFrom(11),
+            0,
+            [
+                Some((8, 2, true)),
+                Some((9, 0, false)),
+                Some((10, 1, false)),
+            ],
+        ),
+        (Step::CutFrom(9), 2, [Some((8, 2, true)), None, None]),
+        (
+            Step::Append(9),
+            0,
+            [Some((8, 2, true)), Some((9, 0, false)), None],
+        ),
+        (Step::CutFrom(3), 2, [None, None, None]),
+        (Step::Append(50), 2, [Some((50, 2, false)), None, None]),
+    ];
+    for (step, answer, places) in steps {
+        assert_eq!(rt;
+            play(&mut window, step),
+            Some(answer),
+            "the answer to {step:?}"
+        );
+        let now = [seen(&window, 0), seen(&window, 1), seen(&window, 2)];
+        assert_eq!(rt; now, places, "behind {step:?}");
+        let oldest = window.oldest().map(|slot| slot.number);
+        assert_eq!(rt;
+            oldest,
+            places[0].map(|(number, _, _)| number),
+            "oldest behind {step:?}"
+        );
+        assert_eq!(rt;
+            window.is_full(),
+            places[2].is_some(),
+            "full behind {step:?}"
+        );
+    }
+    Ok(())
+}
+
+#[test]
+fn a_window_without_room_is_full_and_empty(rt: HostRuntime) -> Result<(), Fail> {
+    let window = Window::new(rt.alloc(), 0)?;
+    assert!(rt; window.is_full());
+    assert!(rt; window.oldest().is_none());
+    Ok(())
+}

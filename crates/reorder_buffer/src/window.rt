@@ -1,0 +1,150 @@
+ghost use Rattle.std.specs.Prelude.{◌≡◌, ◌<◌, ◌^◌};
+ghost use Rattle.reorder_buffer.specs.Window.{index_of};
+
+use crate::slot::{Slot, SlotState};
+use circular_buffer::HeapCircularBuffer;
+use fsim_base::NoMemory;
+use std::alloc::Global;
+use std::marker::Model;
+
+/// The instructions in the window, the oldest first, with numbers one after the other and a fixed room (Hennessy and
+/// Patterson, Computer Architecture, section 3.6, the reorder buffer).
+#[derive(Debug, Drop)]
+pub struct Window {
+    slots: HeapCircularBuffer<Slot>,
+}
+
+impl Model for Window {
+    ghost use Rattle.std.specs.Prelude.{◌<◌, ◌^◌};
+    ghost use Rattle.reorder_buffer.specs.Window.{Contents, IsConsecutive};
+
+    ghost Value = { Contents };
+
+    ghost view = { λ w. record { cap = w.slots.capacity; slots = w.slots.items } };
+
+    ghost invariant = { λ w. (w.slots.capacity < 2 ^ 32) × IsConsecutive w.slots.items };
+}
+
+impl Window {
+    ghost use Rattle.std.specs.Prelude.{◌≡◌, ◌≢◌, ◌↔◌, ◌+◌, ◌<◌, ◌≤◌, ◌++◌, ◌∷◌, [], length, drop, All, Some, IsTrue, IsNone, IfOk, IfSome, slice_get, slice_set};
+    ghost use Rattle.std.specs.Option.{option_copied};
+    ghost use Rattle.reorder_buffer.specs.Window.{IsConsecutive, HasOwnIndices, youngest, index_of, below_number, count_from};
+
+    /// An empty window with room for `cap` slots. All its memory is taken here; want of it is the one refusal.
+    pub fn new(alloc: Global, cap: u32) -> Result<Window, NoMemory>
+        ensures opening { IfOk result (λ w. w ≡ record { cap = cap; slots = [] }) }
+    {
+        match HeapCircularBuffer::with_capacity(alloc, cap as usize) {
+            Ok(slots) => Ok(Window { slots }),
+            Err(_) => Err(NoMemory),
+        }
+    }
+
+    /// How many slots the window holds.
+    #[tactic(auto, using(crate::proofs::Consecutive::own_indices))]
+    pub fn len(&self) -> u32
+        ensures count { result ≡ length self.now.slots }
+        ensures within { result ≤ self.now.cap }
+        ensures consecutive { IsConsecutive self.now.slots }
+        ensures apart { HasOwnIndices self.now.cap self.now.slots }
+    {
+        self.slots.len() as u32
+    }
+
+    /// Whether there is no room for a further slot.
+    pub fn is_full(&self) -> bool
+        ensures full { IsTrue result ↔ (length self.now.slots ≡ self.now.cap) }
+        ensures within { length self.now.slots ≤ self.now.cap }
+    {
+        self.slots.len() == self.slots.capacity()
+    }
+
+    /// Adds a slot behind the others and gives its index, which no other slot has. There is room, and its number is
+    /// the one behind the youngest slot's.
+    pub fn append(&mut self, s: Slot) -> u32
+        requires room { length self.old.slots < self.old.cap }
+        requires next { IfSome (youngest self.old.slots) (λ last. s.number ≡ last.number + 1) }
+        ensures appended { self.new ≡ record self.old { slots = self.old.slots ++ s ∷ [] } }
+        ensures index { result ≡ index_of self.old.cap s.number }
+        ensures below { result < self.old.cap }
+        ensures free { All (λ held. index_of self.old.cap held.number ≢ result) self.old.slots }
+    {
+        let index = index_in(self.slots.capacity(), s.number);
+        // There is room, so this is Ok.
+        let _ = self.slots.try_push_back(s);
+        index
+    }
+
+    /// The index and the slot at a place, counted from the oldest at 0.
+    pub fn at(&self, place: u32) -> (u32, &Slot)
+        requires { place < length self.now.slots }
+        ensures slot { slice_get self.now.slots place ≡ Some result.1.now }
+        ensures index { result.0 ≡ index_of self.now.cap result.1.now.number }
+        ensures below { result.0 < self.now.cap }
+    {
+        let slot = self.slots.get(place as usize).unwrap();
+        (index_in(self.slots.capacity(), slot.number), slot)
+    }
+
+    /// Sets the state of the slot at a place, counted from the oldest at 0, and nothing else.
+    pub fn mark(&mut self, place: u32, state: SlotState)
+        requires { place < length self.old.slots }
+        ensures marked { IfSome (slice_get self.old.slots place)
+            (λ s. self.new ≡ record self.old { slots = slice_set self.old.slots place (record s { state = state }) }) }
+    {
+        if let Some(slot) = self.slots.get_mut(place as usize) {
+            slot.state = state;
+        }
+    }
+
+    /// The oldest slot; None where there is none.
+    #[tactic(auto, using(crate::proofs::Consecutive::oldest_none))]
+    pub fn oldest(&self) -> Option<&Slot>
+        ensures oldest { option_copied result ≡ slice_get self.now.slots 0 }
+        ensures empty { IsNone result ↔ (self.now.slots ≡ []) }
+    {
+        self.slots.front()
+    }
+
+    /// Removes the oldest slot. There is one.
+    pub fn pop(&mut self)
+        requires { 0 < length self.old.slots }
+        ensures popped { self.new ≡ record self.old { slots = drop 1 self.old.slots } }
+    {
+        let _ = self.slots.pop_front();
+    }
+
+    /// Removes the slots of this number and above, and gives how many they were.
+    #[tactic(auto, using(crate::proofs::Consecutive::take_below, crate::proofs::Consecutive::count_others))]
+    pub fn cut_from(&mut self, number: u64) -> u32
+        ensures kept { self.new ≡ record self.old { slots = below_number number self.old.slots } }
+        ensures count { result ≡ count_from number self.old.slots }
+    {
+        let len = self.slots.len();
+        let kept = self.count_below(number);
+        self.slots.truncate_back(kept);
+        (len - kept) as u32
+    }
+
+    /// How many slots have numbers below this one. They stand first, and their numbers follow one another.
+    fn count_below(&self, number: u64) -> usize
+        ensures count { result ≡ length (below_number number self.now.slots) }
+        ensures within { result ≤ length self.now.slots }
+    {
+        let len = self.slots.len();
+        match self.oldest() {
+            Some(oldest) => len.min(number.saturating_sub(oldest.number) as usize),
+            None => 0,
+        }
+    }
+}
+
+/// The index of the slot that an instruction of this number has in a window of this room.
+fn index_in(cap: usize, number: u64) -> u32
+    requires some { 0 < cap }
+    requires fits { cap < 2 ^ 32 }
+    ensures index { result ≡ index_of cap number }
+    ensures below { result < cap }
+{
+    (number % cap as u64) as u32
+}

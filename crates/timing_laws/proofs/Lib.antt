@@ -1,0 +1,13 @@
+pub mod Words
+pub mod Accesses
+pub mod Effects
+pub mod Entries
+pub mod Interrupt
+pub mod Tick
+pub mod Complete
+pub mod Fetch
+pub mod Commit
+pub mod Issue
+pub mod Turning
+pub mod Stepping
+pub mod Knowing

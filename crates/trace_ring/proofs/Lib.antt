@@ -1,0 +1,5 @@
+mod Two
+pub mod RingSteps
+pub mod OrderSteps
+pub mod Sizes
+pub mod Trials
