@@ -61,7 +61,7 @@ redirect_orderly s None n m os least most is = is
 redirect_orderly s (Some addr) n m os least most is = set_orderly s n os is m addr least most
 
 -- At each turn the window is within its size, and has room where a try may be made.
-abbrev HasRoomFor : Setup → At → Machine → Type 0
+abbrev pub HasRoomFor : Setup → At → Machine → Type 0
 HasRoomFor s interrupting m = Unit {0}
 HasRoomFor s committing m = Unit {0}
 HasRoomFor s completing m = Unit {0}

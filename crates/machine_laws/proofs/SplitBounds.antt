@@ -35,7 +35,7 @@ openings_most : (os : List Order) → openings os ≤ length os
 openings_most [] = omega arith
 openings_most (o ∷ os) = omega (arith, one_most (opens_epoch_of o), openings_most os)
 
-told_count : (s : Setup) (k : ℕ) → 1 ≤ s.cycles → openings (told (place s k)) ≤ step_bound s
+pub told_count : (s : Setup) (k : ℕ) → 1 ≤ s.cycles → openings (told (place s k)) ≤ step_bound s
 told_count s k cycles =
     let grown = grown_all s k cycles in
     omega (arith, openings_most (told (place s k)), ap (λ (os : List Order). length os) grown.orders, length-append grown.later (told (place s k)), (run_bounded s (step_bound s) cycles).orders)

@@ -10,16 +10,16 @@ use Rattle.mono_model.specs.Split.{Split, Event, run}
 use Rattle.machine_laws.specs.SplitLaw.{IsRun, IsRanged}
 use Rattle.machine_laws.proofs.SplitRun.{is_run}
 
-between : (low high n : ℕ) → is_between low high n ≡ true → (low ≤ n) × (n ≤ high)
+pub between : (low high n : ℕ) → is_between low high n ≡ true → (low ≤ n) × (n ≤ high)
 between low high n is = let parts = and_parts (nat_le low n) (nat_le n high) is in (leb-true low n parts.0, leb-true n high parts.1)
 
-record InRange (s : Setup) : Type 0 where
-  fetch : s.params.core_fetch ≤ 8
-  commit : s.params.core_commit ≤ 8
-  window : s.params.core_window ≤ 256
-  some : 1 ≤ s.cycles
-  cycles : s.cycles ≤ 1099511627776
-  ring : s.ring ≤ 65536
+pub record InRange (s : Setup) : Type 0 where
+  pub fetch : s.params.core_fetch ≤ 8
+  pub commit : s.params.core_commit ≤ 8
+  pub window : s.params.core_window ≤ 256
+  pub some : 1 ≤ s.cycles
+  pub cycles : s.cycles ≤ 1099511627776
+  pub ring : s.ring ≤ 65536
 
 core_is : (p : Params) → are_params p ≡ true → are_core p ≡ true
 unfolding are_params
@@ -30,7 +30,7 @@ core_is p is =
     (and_parts (ram && are_core p && are_units p) (is_predictor p)
     (and_parts (ram && are_core p && are_units p && is_predictor p) (are_caches p) is).0).0).0).1
 
-in_range : (s : Setup) → is_setup s ≡ true → InRange s
+pub in_range : (s : Setup) → is_setup s ≡ true → InRange s
 unfolding is_setup
 in_range s is =
     let p = s.params in

@@ -1,0 +1,5 @@
+pub mod Operands
+pub mod Stations
+pub mod Stores
+pub mod Divisions
+pub mod Changes

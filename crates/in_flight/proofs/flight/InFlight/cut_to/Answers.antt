@@ -1,0 +1,34 @@
+use Rattle.std.proofs.Common.{◌-◌, ap, ◌∙◌, arith, take, length}
+use Rattle.reorder_buffer.specs.Window.{Contents}
+use Rattle.load_store_queue.specs.Queue.{Contents as Stores}
+use Rattle.load_store_queue.specs.Queue as queue
+use Rattle.in_flight.proofs.Stores.{stores_cut, window_cut, window_count}
+use Rattle.in_flight.proofs.flight.InFlight.cut_to.Goals as goal
+
+pub invariant_of-self : goal.invariant_of-self
+invariant_of-self c =
+    let window = c.self.inside.window in
+    let slot = c.slot_at.result.1.now in
+    let front = window_cut window.slots c.args.place slot c.slot_at.ensures.consecutive c.slot_at.ensures.slot in
+    let kept = c.cut_from-2.ensures.kept ∙ ap (λ slots. let now : Contents = record { cap = window.cap; slots = slots } in now) front in
+    let below : Stores → Stores = λ q. record q { stores = queue.below_number slot.number q.stores } in
+    let stores = stores_cut window.slots c.args.place slot c.slot_at.ensures.consecutive c.slot_at.ensures.slot in
+    rw kept (record {
+      limit = c.self.invariant.limit;
+      stations_are = c.cut_stations.ensures.kept;
+      stores_are = c.cut_from.ensures.kept ∙ ap below c.self.invariant.stores_are ∙ ap (λ held. let now : Stores = record { cap = window.cap; stores = held } in now) stores;
+      dividing_is = omega (arith, c.self.invariant.dividing_is, c.cut_stations.ensures.divisions);
+    })
+
+pub returns-clause-kept : goal.returns-clause-kept
+returns-clause-kept c =
+    let window = c.self.inside.window in
+    let front = window_cut window.slots c.args.place c.slot_at.result.1.now c.slot_at.ensures.consecutive c.slot_at.ensures.slot in
+    c.cut_from-2.ensures.kept ∙ ap (λ slots. let now : Contents = record { cap = window.cap; slots = slots } in now) front
+    ∙ ap (λ (w : Contents). let now : Contents = record w { slots = take c.args.place w.slots } in now) c.self.view_is
+
+pub returns-clause-count : goal.returns-clause-count
+returns-clause-count c =
+    let window = c.self.inside.window in
+    c.cut_from-2.ensures.count ∙ window_count window.slots c.args.place c.slot_at.result.1.now c.slot_at.ensures.consecutive c.slot_at.ensures.slot
+    ∙ ap (λ (w : Contents). length w.slots - c.args.place) c.self.view_is

@@ -1,0 +1,37 @@
+use Rattle.std.proofs.Common.{sym, subst, arith, IfSome}
+use Rattle.std.specs.Prelude.{slice_get}
+use Rattle.reorder_buffer.specs.Window.{Contents}
+use Rattle.in_flight.specs.Flight.{IsExecuting}
+use Rattle.in_flight.proofs.Divisions.{division_counts}
+use Rattle.in_flight.proofs.Changes.{executes_at, finished_keeps}
+use Rattle.in_flight.proofs.flight.InFlight.finish.Goals as goal
+
+pub overflow_sub-self : goal.overflow_sub-self
+overflow_sub-self c =
+    let window = c.self.inside.window in
+    let slot = c.slot_at-index.result.1.now in
+    omega (arith, c.self.invariant.dividing_is, c.divisions_in.ensures, division_counts window.slots c.args.place slot c.slot_at-index.ensures.slot)
+
+pub wake-requires : goal.wake-requires
+wake-requires c =
+    let window = c.self.inside.window in
+    let slot = c.slot_at-index.result.1.now in
+    let there = subst (λ (w : Contents). IfSome (slice_get w.slots c.args.place) (λ s. IsExecuting s.state)) (sym c.self.view_is) c.requires.executing in
+    let executes = rw c.slot_at-index.ensures.slot at there in
+    record {
+      issued = rw c.slot_at-index.ensures.index
+          (executes_at window c.self.inside.stations c.args.place slot c.self.invariant.stations_are c.slot_at-index.ensures.apart c.slot_at-index.ensures.slot executes);
+    }
+
+pub invariant_of-self : goal.invariant_of-self
+invariant_of-self c =
+    let window = c.self.inside.window in
+    let slot = c.slot_at-index.result.1.now in
+    let queued = rw c.slot_at-index.ensures.slot at c.finish_store.ensures.finished in
+    let keeps =
+    finished_keeps window c.self.inside.stations c.self.inside.stores c.finish_store.new.stores c.self.inside.dividing c.args.place slot c.self.invariant
+    c.slot_at-index.ensures.apart c.slot_at-index.ensures.slot queued
+    in
+    let marks = rw c.slot_at-index.ensures.slot at c.mark.ensures.marked in
+    let wakes = rw (c.slot_at-index.ensures.index, c.is_some.ensures) at c.wake.ensures.woken in
+    rw (marks, wakes, c.divisions_in.ensures) keeps

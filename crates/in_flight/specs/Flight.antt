@@ -1,0 +1,26 @@
+-- Which of the instructions in flight waits for nothing but a unit (Hennessy and Patterson, Computer Architecture,
+-- section 3.6, issue and execute).
+use Rattle.std.specs.Prelude.{ℕ, ◌&&◌, Bool, false, Option, Some, None, List, reverse, take, slice_get}
+use Rattle.reorder_buffer.specs.declared.slot.Slot.{Slot}
+use Rattle.reorder_buffer.specs.declared.slot.SlotState.{SlotState}
+use Rattle.reorder_buffer.specs.declared.slot.SlotState.TheVariants.{Waiting, Until, Done}
+use Rattle.timing_laws.specs.Slots.{is_waiting_state}
+use Rattle.timing_laws.specs.Issue.{has_operands}
+
+-- the slots in front of a place, the youngest first
+abbrev pub older_at : List Slot → ℕ → List Slot
+older_at slots place = reverse (take place slots)
+
+-- whether a slot waits and has its operands
+abbrev pub may_start : List Slot → Option Slot → Bool
+may_start older None = false
+may_start older (Some slot) = is_waiting_state slot.state && has_operands older slot
+
+abbrev pub may_start_at : List Slot → ℕ → Bool
+may_start_at slots place = may_start (older_at slots place) (slice_get slots place)
+
+-- it executes, until some cycle
+abbrev pub IsExecuting : SlotState → Type 0
+IsExecuting Waiting = ⊥
+IsExecuting (Until cycle) = Unit {0}
+IsExecuting Done = ⊥

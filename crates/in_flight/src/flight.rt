@@ -1,0 +1,199 @@
+use crate::cutting::cut_stations;
+use crate::queueing::{finish_store, pop_oldest, put_youngest};
+use crate::reading::{divisions_in, registers_of, slot_at};
+use fsim_base::NoMemory;
+use load_store_queue::StoreQueue;
+use reorder_buffer::{Slot, SlotState, Window};
+use reservation_stations::Stations;
+use std::alloc::Global;
+use std::marker::Model;
+
+/// The instructions in flight, the oldest first, with numbers one after the other: each has a slot in the window and a
+/// reservation station, and a store has a place in the store queue (Hennessy and Patterson, Computer Architecture,
+/// section 3.6).
+#[derive(Debug, Drop)]
+pub struct InFlight {
+    window: Window,
+    stations: Stations,
+    stores: StoreQueue,
+    /// How many divisions execute.
+    dividing: u32,
+}
+
+impl Model for InFlight {
+    ghost use Rattle.reorder_buffer.specs.Window.{Contents};
+
+    ghost Value = { Contents };
+
+    ghost use Rattle.in_flight.specs.Step.{IsInStep};
+
+    ghost view = { λ f. f.window };
+
+    ghost invariant = { λ f. IsInStep f.window f.stations f.stores f.dividing };
+}
+
+impl InFlight {
+    ghost use Rattle.std.specs.Prelude.{◌≡◌, ◌↔◌, ℕ, ◌+◌, ◌-◌, ◌<◌, ◌≤◌, ◌++◌, ◌∷◌, [], false, length, take, drop, Some, IsTrue, IfOk, IfSome, IfNone, slice_get, slice_set};
+    ghost use Rattle.std.specs.Option.{option_copied};
+    ghost use Rattle.reorder_buffer.specs.declared.slot.SlotState.TheVariants.{Waiting, Until, Done};
+    ghost use Rattle.reorder_buffer.specs.Window.{IsConsecutive, youngest};
+    ghost use Rattle.timing_laws.specs.Slots.{waiting_count};
+    ghost use Rattle.timing_laws.specs.Issue.{busy_divisions, are_stores_done};
+    ghost use Rattle.in_flight.specs.Flight.{older_at, may_start_at, IsExecuting};
+
+    /// No instructions, with room for `cap`, at most 256. All memory is taken here; want of it is the one refusal.
+    pub fn new(alloc: Global, cap: u32) -> Result<InFlight, NoMemory>
+        requires limit { cap ≤ 256 }
+        ensures opening { IfOk result (λ f. f ≡ record { cap = cap; slots = [] }) }
+    {
+        let window = Window::new(alloc, cap)?;
+        let stations = Stations::new(alloc, cap)?;
+        let stores = StoreQueue::new(alloc, cap)?;
+        Ok(InFlight {
+            window,
+            stations,
+            stores,
+            dividing: 0,
+        })
+    }
+
+    /// How many instructions there are.
+    pub fn len(&self) -> u32
+        ensures count { result ≡ length self.now.slots }
+        ensures within { result ≤ self.now.cap }
+        ensures limit { self.now.cap ≤ 256 }
+        ensures consecutive { IsConsecutive self.now.slots }
+    {
+        self.window.len()
+    }
+
+    /// Whether there is no room for a further one.
+    pub fn is_full(&self) -> bool
+        ensures full { IsTrue result ↔ (length self.now.slots ≡ self.now.cap) }
+        ensures within { length self.now.slots ≤ self.now.cap }
+    {
+        self.window.is_full()
+    }
+
+    /// How many wait for operands or a unit.
+    pub fn waiting(&self) -> u32
+        ensures count { result ≡ waiting_count self.now.slots }
+    {
+        self.stations.waiting()
+    }
+
+    /// How many divisions execute.
+    pub fn dividing(&self) -> u32
+        ensures count { result ≡ busy_divisions self.now.slots }
+    {
+        self.dividing
+    }
+
+    /// The slot of the oldest instruction; None where there is none.
+    pub fn oldest(&self) -> Option<&Slot>
+        ensures oldest { option_copied result ≡ slice_get self.now.slots 0 }
+    {
+        self.window.oldest()
+    }
+
+    /// The slot at a place, counted from the oldest at 0.
+    pub fn at(&self, place: u32) -> &Slot
+        requires within { place < length self.now.slots }
+        ensures slot { slice_get self.now.slots place ≡ Some result.now }
+    {
+        let (_, slot) = self.window.at(place);
+        slot
+    }
+
+    /// Adds an instruction that waits, behind the others. There is room, and its number is the one behind the
+    /// youngest one's.
+    pub fn append(&mut self, slot: Slot)
+        requires room { length self.old.slots < self.old.cap }
+        requires next { IfSome (youngest self.old.slots) (λ last. slot.number ≡ last.number + 1) }
+        requires waiting { slot.state ≡ Waiting }
+        ensures appended { self.new ≡ record self.old { slots = self.old.slots ++ slot ∷ [] } }
+    {
+        let registers = registers_of(slot.word);
+        let index = self.window.append(slot);
+        self.stations
+            .enter(index, registers.sources, registers.destination);
+        put_youngest(&mut self.stores, &self.window);
+    }
+
+    /// The oldest instruction leaves, in whatever state. There is one.
+    pub fn leave(&mut self)
+        requires some { 0 < length self.old.slots }
+        ensures left { self.new ≡ record self.old { slots = drop 1 self.old.slots } }
+    {
+        let (index, slot) = slot_at(&self.window, 0);
+        self.dividing -= divisions_in(slot);
+        self.stations.retire(index);
+        pop_oldest(&mut self.stores, &self.window);
+        self.window.pop();
+    }
+
+    /// Removes the instructions from a place on, and gives how many they were: none where there is none at the place.
+    pub fn cut_to(&mut self, place: u32) -> u32
+        ensures kept { self.new ≡ record self.old { slots = take place self.old.slots } }
+        ensures count { result ≡ length self.old.slots - place }
+    {
+        if place >= self.window.len() {
+            return 0;
+        }
+        let (_, slot) = slot_at(&self.window, place);
+        let number = slot.number;
+        self.dividing -= cut_stations(&self.window, &mut self.stations, place);
+        self.stores.cut_from(number);
+        self.window.cut_from(number)
+    }
+
+    /// The first place from a place on at which an instruction waits and has its operands; None where there is none.
+    pub fn choose(&self, from: u32) -> Option<u32>
+        ensures behind { IfSome result (λ place. from ≤ place) }
+        ensures found { IfSome result (λ place. IsTrue (may_start_at self.now.slots place)) }
+        ensures first { IfSome result (λ place. (k : ℕ) → from ≤ k → k < place → may_start_at self.now.slots k ≡ false) }
+        ensures none { IfNone result ((k : ℕ) → from ≤ k → may_start_at self.now.slots k ≡ false) }
+    {
+        self.stations.choose(from)
+    }
+
+    /// Whether all stores older than the instruction at a place are done.
+    pub fn stores_done(&self, place: u32) -> bool
+        requires within { place < length self.now.slots }
+        ensures done { result ≡ are_stores_done (older_at self.now.slots place) }
+    {
+        let (_, slot) = slot_at(&self.window, place);
+        self.stores.older_done(slot.number)
+    }
+
+    /// Lets the instruction at a place, which waits, execute until a cycle.
+    pub fn begin(&mut self, place: u32, until: u64)
+        requires within { place < length self.old.slots }
+        requires waiting { IfSome (slice_get self.old.slots place) (λ slot. slot.state ≡ Waiting) }
+        ensures begun { IfSome (slice_get self.old.slots place)
+            (λ slot. self.new ≡ record self.old { slots = slice_set self.old.slots place (record slot { state = Until until }) }) }
+    {
+        let (index, slot) = slot_at(&self.window, place);
+        let begun = Slot {
+            state: SlotState::Until(until),
+            ..*slot
+        };
+        self.dividing += divisions_in(&begun);
+        self.stations.issue(index);
+        self.window.mark(place, begun.state);
+    }
+
+    /// Ends the execution of the instruction at a place. Without a cause, it wakes those that wait for its value.
+    pub fn finish(&mut self, place: u32)
+        requires within { place < length self.old.slots }
+        requires executing { IfSome (slice_get self.old.slots place) (λ slot. IsExecuting slot.state) }
+        ensures finished { IfSome (slice_get self.old.slots place)
+            (λ slot. self.new ≡ record self.old { slots = slice_set self.old.slots place (record slot { state = Done }) }) }
+    {
+        let (index, slot) = slot_at(&self.window, place);
+        self.dividing -= divisions_in(slot);
+        self.stations.wake(index, slot.cause.is_some());
+        finish_store(&mut self.stores, &self.window, place);
+        self.window.mark(place, SlotState::Done);
+    }
+}

@@ -1,0 +1,12 @@
+//! The instructions in flight on the timing side: the window, the reservation stations and the store queue, kept in step.
+#![tactic(auto)]
+
+mod cutting;
+mod flight;
+mod queueing;
+mod reading;
+
+pub use flight::InFlight;
+
+#[cfg(test)]
+mod tests;

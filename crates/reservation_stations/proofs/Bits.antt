@@ -1,0 +1,140 @@
+-- One bit of four words: set, cleared, and all of them clear.
+use Rattle.std.proofs.Common.{◌≡◌, ◌≢◌, ℕ, ◌+◌, ◌-◌, ◌*◌, ◌/◌, ◌%◌, ◌^◌, min, max, ◌<◌, ◌==◌, ◌&&◌, ◌||◌, not, Bool, true, false, List, length, get_or, w64, inl, inr, ◌⊎◌, arith, ap, refl, sym, ◌∙◌, eq-eqb, IsTrue, ◌↔◌}
+use Rattle.std.specs.Prelude.{slice_set, bit_or, bit_and}
+use Rattle.std.specs.Int.{bit_at}
+use Rattle.std.proofs.lemmas.Bool.{cases_eq, ne_eqb, eqb-false, eqb-true}
+use Rattle.std.proofs.lemmas.List.{get_or-set_same, get_or-set_other, get_or_past}
+use Rattle.std.proofs.lemmas.Nat.Bits.{bit_at_set_same, bit_at_set_other, bit_at_clear_same, bit_at_clear_other, bit_at_or, bit_at-zero, bit_at-lt, same_from_bits, same_from_bits_below}
+
+-- whether a bit is set
+abbrev pub is_set : List ℕ → ℕ → Bool
+is_set words slot = bit_at (get_or words (slot / 64) 0) (slot % 64) == 1
+
+-- one word replaced: the bit in it, or in another word
+in_word : (words : List ℕ) (slot other word : ℕ) → slot < 256 → length words ≡ 4 → other / 64 ≡ slot / 64 →
+    get_or (slice_set words (slot / 64) word) (other / 64) 0 ≡ word
+in_word words slot other word within four same = rw same (get_or-set_same words (slot / 64) word 0 (omega arith))
+
+elsewhere : (words : List ℕ) (slot other word : ℕ) → other / 64 ≢ slot / 64 →
+    get_or (slice_set words (slot / 64) word) (other / 64) 0 ≡ get_or words (other / 64) 0
+elsewhere words slot other word differ = get_or-set_other words (slot / 64) (other / 64) word 0 differ
+
+false_or : (b c : Bool) → c ≡ false → b ≡ (b || c)
+false_or true c is = refl
+false_or false c is = sym is
+
+or_true : (b c : Bool) → c ≡ true → true ≡ (b || c)
+or_true true c is = refl
+or_true false c is = sym is
+
+and_not_true : (b c : Bool) → c ≡ true → false ≡ (b && not c)
+and_not_true true c is = grind arith
+and_not_true false c is = refl
+
+and_not_false : (b c : Bool) → c ≡ false → b ≡ (b && not c)
+and_not_false true c is = grind arith
+and_not_false false c is = refl
+
+abbrev with_bit : List ℕ → ℕ → List ℕ
+with_bit words slot = slice_set words (slot / 64) (bit_or (get_or words (slot / 64) 0) (1 * 2 ^ (slot % 64) % 18446744073709551616))
+
+abbrev without_bit : List ℕ → ℕ → List ℕ
+without_bit words slot = slice_set words (slot / 64) (bit_and (get_or words (slot / 64) 0) (18446744073709551615 - 1 * 2 ^ (slot % 64) % 18446744073709551616))
+
+with_other : (words : List ℕ) (slot other : ℕ) → slot < 256 → length words ≡ 4 → other ≢ slot → is_set (with_bit words slot) other ≡ is_set words other
+with_other words slot other within four differ =
+    elim (cases_eq (other / 64) (slot / 64)) [
+      | inl same ↦
+          let apart : other % 64 ≢ slot % 64 = λ e. differ (omega arith) in
+          ap (λ n. bit_at n (other % 64) == 1) (in_word words slot other _ within four same)
+          ∙ ap (λ n. n == 1) (bit_at_set_other w64 (get_or words (slot / 64) 0) (slot % 64) (omega arith) (other % 64) apart)
+          ∙ ap (λ k. bit_at (get_or words k 0) (other % 64) == 1) (sym same)
+      | inr apart ↦ ap (λ n. bit_at n (other % 64) == 1) (elsewhere words slot other _ apart)
+    ]
+
+pub is_set-with : (words : List ℕ) (slot : ℕ) → slot < 256 → length words ≡ 4 → (other : ℕ) →
+    is_set (with_bit words slot) other ≡ (is_set words other || (other == slot))
+is_set-with words slot within four other =
+    elim (cases_eq other slot) [
+      | inl same ↦
+          ap (is_set (with_bit words slot)) same
+          ∙ ap (λ n. bit_at n (slot % 64) == 1) (in_word words slot slot _ within four refl)
+          ∙ ap (λ n. n == 1) (bit_at_set_same w64 (get_or words (slot / 64) 0) (slot % 64) (omega arith))
+          ∙ or_true (is_set words other) (other == slot) (eq-eqb other slot same)
+      | inr differ ↦ with_other words slot other within four differ ∙ false_or (is_set words other) (other == slot) (ne_eqb other slot differ)
+    ]
+
+without_other : (words : List ℕ) (slot other : ℕ) → slot < 256 → length words ≡ 4 → other ≢ slot → is_set (without_bit words slot) other ≡ is_set words other
+without_other words slot other within four differ =
+    elim (cases_eq (other / 64) (slot / 64)) [
+      | inl same ↦
+          let apart : other % 64 ≢ slot % 64 = λ e. differ (omega arith) in
+          ap (λ n. bit_at n (other % 64) == 1) (in_word words slot other _ within four same)
+          ∙ ap (λ n. n == 1) (bit_at_clear_other w64 (get_or words (slot / 64) 0) (slot % 64) (omega arith) (other % 64) (omega arith) apart)
+          ∙ ap (λ k. bit_at (get_or words k 0) (other % 64) == 1) (sym same)
+      | inr apart ↦ ap (λ n. bit_at n (other % 64) == 1) (elsewhere words slot other _ apart)
+    ]
+
+pub is_set-without : (words : List ℕ) (slot : ℕ) → slot < 256 → length words ≡ 4 → (other : ℕ) →
+    is_set (without_bit words slot) other ≡ (is_set words other && not (other == slot))
+is_set-without words slot within four other =
+    elim (cases_eq other slot) [
+      | inl same ↦
+          ap (is_set (without_bit words slot)) same
+          ∙ ap (λ n. bit_at n (slot % 64) == 1) (in_word words slot slot _ within four refl)
+          ∙ ap (λ n. n == 1) (bit_at_clear_same w64 (get_or words (slot / 64) 0) (slot % 64) (omega arith))
+          ∙ and_not_true (is_set words other) (other == slot) (eq-eqb other slot same)
+      | inr differ ↦ without_other words slot other within four differ ∙ and_not_false (is_set words other) (other == slot) (ne_eqb other slot differ)
+    ]
+
+-- no bit is set exactly where each word is 0
+pub none_from_zeros : (words : List ℕ) → ((k : ℕ) → k < 4 → get_or words k 0 ≡ 0) → length words ≡ 4 → (slot : ℕ) → is_set words slot ≡ false
+none_from_zeros words zeros four slot =
+    let word : get_or words (slot / 64) 0 ≡ 0 =
+    elim (cases_eq (min (slot / 64) 3) (slot / 64)) [
+      | inl few ↦ zeros (slot / 64) (omega arith)
+      | inr many ↦ get_or_past words (slot / 64) 0 (omega arith)
+    ] in
+    ap (λ n. bit_at n (slot % 64) == 1) word ∙ ap (λ n. n == 1) (bit_at-zero (slot % 64))
+
+pub zero_from_none : (words : List ℕ) (k : ℕ) → get_or words k 0 < 2 ^ 64 → ((slot : ℕ) → is_set words slot ≡ false) → get_or words k 0 ≡ 0
+zero_from_none words k fits none =
+    same_from_bits_below 64 (get_or words k 0) 0 fits (omega arith) (λ i within.
+    let quotient : (64 * k + i) / 64 ≡ k = omega arith in
+    let rest : (64 * k + i) % 64 ≡ i = omega arith in
+    let clear : is_set words (64 * k + i) ≡ false = none (64 * k + i) in
+    let here : (bit_at (get_or words k 0) i == 1) ≡ false = rw (quotient, rest) at clear in
+    let not_one : bit_at (get_or words k 0) i ≢ 1 = eqb-false (bit_at (get_or words k 0) i) 1 here in
+    omega (arith, bit_at-lt (get_or words k 0) i, bit_at-zero i, not_one))
+
+-- words whose union is 0 are 0
+zeros_from_or : (a b : ℕ) → bit_or a b ≡ 0 → (a ≡ 0) × (b ≡ 0)
+zeros_from_or a b none =
+    let clear : (i : ℕ) → max (bit_at a i) (bit_at b i) ≡ 0 = λ i. sym (bit_at_or a b i) ∙ ap (λ n. bit_at n i) none ∙ bit_at-zero i in
+    (same_from_bits a 0 (λ i. omega (arith, clear i, bit_at-zero i)), same_from_bits b 0 (λ i. omega (arith, clear i, bit_at-zero i)))
+
+below_four : (k : ℕ) → k < 4 → (k ≡ 0) ⊎ ((k ≡ 1) ⊎ ((k ≡ 2) ⊎ (k ≡ 3)))
+below_four k within = grind arith
+
+abbrev pub union : List ℕ → ℕ
+union words = bit_or (bit_or (bit_or (get_or words 0 0) (get_or words 1 0)) (get_or words 2 0)) (get_or words 3 0)
+
+union_of_zeros : (words : List ℕ) → ((k : ℕ) → get_or words k 0 ≡ 0) → union words ≡ 0
+union_of_zeros words zeros = rw (zeros 0, zeros 1, zeros 2, zeros 3) refl
+
+zeros_from_union : (words : List ℕ) → union words ≡ 0 → (k : ℕ) → k < 4 → get_or words k 0 ≡ 0
+zeros_from_union words none k within =
+    let last = zeros_from_or (bit_or (bit_or (get_or words 0 0) (get_or words 1 0)) (get_or words 2 0)) (get_or words 3 0) none in
+    let third = zeros_from_or (bit_or (get_or words 0 0) (get_or words 1 0)) (get_or words 2 0) last.0 in
+    let second = zeros_from_or (get_or words 0 0) (get_or words 1 0) third.0 in
+    elim (below_four k within) [
+      | inl is ↦ rw is second.0
+      | inr later ↦ elim later [ inl is ↦ rw is second.1 | inr last_two ↦ elim last_two [ inl is ↦ rw is third.1 | inr is ↦ rw is last.1 ] ]
+    ]
+
+pub empty : (words : List ℕ) → length words ≡ 4 → ((k : ℕ) → get_or words k 0 < 2 ^ 64) →
+    IsTrue (union words == 0) ↔ ((slot : ℕ) → is_set words slot ≡ false)
+empty words four fits = (
+  λ is. none_from_zeros words (zeros_from_union words (eqb-true (union words) 0 is)) four,
+  λ none. eq-eqb (union words) 0 (union_of_zeros words (λ k. zero_from_none words k (fits k) none)),
+)

@@ -1,0 +1,9 @@
+pub mod Bits
+pub mod Turns
+pub mod Slots
+pub mod Carried
+pub mod Marking
+pub mod Kept
+pub mod Reading
+pub mod Leaving
+pub mod Entering

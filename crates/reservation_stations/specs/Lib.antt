@@ -1,0 +1,4 @@
+pub mod Readiness
+pub mod Mask
+pub mod Keeps
+pub mod Changes

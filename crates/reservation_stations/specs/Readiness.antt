@@ -1,0 +1,87 @@
+-- Which instructions of the window wait for an operand: each register is renamed to the youngest older instruction that
+-- writes it (Hennessy and Patterson, Computer Architecture, section 3.4, Tomasulo's algorithm).
+use Rattle.std.specs.Prelude.{ℕ, ◌+◌, ◌==◌, ◌&&◌, if◌then◌else◌, Bool, true, false, Option, Some, None, option_map, List, [], ◌∷◌, length, map, find, reverse, take, slice_get, ◌-◌}
+use Rattle.reservation_stations.specs.declared.station.Mark.{Mark}
+use Rattle.reservation_stations.specs.declared.station.Mark.TheVariants.{Waiting, Issued, Done, Faulted}
+use Rattle.reservation_stations.specs.declared.station.Station.{Station}
+
+-- how many slots there are, and the records of the instructions under way, the oldest first
+pub record Window : Type 0 where
+  pub window : ℕ
+  pub stations : List Station
+
+-- whether a record waits, and whether its destination has a value
+abbrev pub is_waiting : Mark → Bool
+is_waiting Waiting = true
+is_waiting Issued = false
+is_waiting Done = false
+is_waiting Faulted = false
+
+abbrev pub is_done : Mark → Bool
+is_done Waiting = false
+is_done Issued = false
+is_done Done = true
+is_done Faulted = false
+
+-- whether a destination is this register
+abbrev pub is_register : ℕ → Option ℕ → Bool
+is_register register None = false
+is_register register (Some destination) = destination == register
+
+-- Whether a register has a value: where an older record writes it, the youngest such record is done; else it is the
+-- committed register, which has one. The older records stand youngest first.
+abbrev pub has_written_value : List Station → ℕ → Bool
+has_written_value [] register = true
+has_written_value (station ∷ older) register =
+    if is_register register station.destination then is_done station.mark else has_written_value older register
+
+-- whether a source has a value; where there is no source, nothing is waited for
+abbrev pub has_operand : List Station → Option ℕ → Bool
+has_operand older None = true
+has_operand older (Some register) = has_written_value older register
+
+-- whether both operands of a record have a value
+abbrev pub has_operands : List Station → Station → Bool
+has_operands older station = has_operand older station.first && has_operand older station.second
+
+-- the records older than the one at a place, the youngest first
+abbrev pub older_than : ℕ → List Station → List Station
+older_than place stations = reverse (take place stations)
+
+-- whether the record at a place waits for nothing but a unit
+abbrev pub can_begin : List Station → Option Station → Bool
+can_begin older None = false
+can_begin older (Some station) = is_waiting station.mark && has_operands older station
+
+abbrev pub can_begin_at : List Station → ℕ → Bool
+can_begin_at stations place = can_begin (older_than place stations) (slice_get stations place)
+
+-- the record that holds a slot, and its mark
+abbrev pub station_of : ℕ → List Station → Option Station
+station_of slot stations = find (λ station. station.slot == slot) stations
+
+abbrev pub mark_of : ℕ → List Station → Option Mark
+mark_of slot stations = option_map (λ (station : Station). station.mark) (station_of slot stations)
+
+-- the slots of the oldest and of the youngest record
+abbrev pub oldest_slot : List Station → Option ℕ
+oldest_slot stations = option_map (λ (station : Station). station.slot) (slice_get stations 0)
+
+abbrev pub youngest_slot : List Station → Option ℕ
+youngest_slot stations = option_map (λ (station : Station). station.slot) (slice_get stations (length stations - 1))
+
+-- a record, and all of them, with another mark on the one that holds a slot
+abbrev pub marked_if : ℕ → Mark → Station → Station
+marked_if slot mark station = if station.slot == slot then record station { mark = mark } else station
+
+abbrev pub marked : ℕ → Mark → List Station → List Station
+marked slot mark stations = map (marked_if slot mark) stations
+
+-- a record as it enters
+abbrev pub entered : ℕ → Option ℕ → Option ℕ → Option ℕ → Station
+entered slot first second destination = record { slot = slot; first = first; second = second; destination = destination; mark = Waiting }
+
+-- how many records wait
+abbrev pub waiting_count : List Station → ℕ
+waiting_count [] = 0
+waiting_count (station ∷ stations) = (if is_waiting station.mark then 1 else 0) + waiting_count stations

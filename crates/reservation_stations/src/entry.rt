@@ -1,0 +1,56 @@
+use crate::mask::Mask;
+use crate::station::Mark;
+
+/// What a slot of the window keeps of the record that holds it.
+#[derive(Clone, Copy, Debug, PartialEq, Eq)]
+pub struct Entry {
+    pub first: Option<u8>,
+    pub second: Option<u8>,
+    pub destination: Option<u8>,
+    pub mark: Mark,
+    /// The slots that it still waits for: the producers of its sources that aren't done.
+    pub waits: Mask,
+    /// The slot that was its destination's producer before it, while that record stands in the window.
+    pub displaced: Option<u32>,
+}
+
+impl Entry {
+    ghost use Rattle.std.specs.Prelude.{◌≡◌, ◌<◌, ℕ, false};
+    ghost use Rattle.reservation_stations.specs.Mask.{holds};
+    ghost use Rattle.reservation_stations.specs.Keeps.{free_entry};
+    ghost use Rattle.reservation_stations.specs.Changes.{Releases, Forgets};
+
+    /// That of a slot that no record held yet.
+    pub fn free() -> Entry
+        ensures free { record result { waits = free_entry.waits } ≡ free_entry }
+        ensures waits { (slot : ℕ) → holds result.waits slot ≡ false }
+    {
+        Entry {
+            first: None,
+            second: None,
+            destination: None,
+            mark: Mark::Waiting,
+            waits: Mask::none(),
+            displaced: None,
+        }
+    }
+
+    /// Waits no longer for a slot.
+    pub fn release(&mut self, slot: u32)
+        requires within { slot < 256 }
+        ensures released { Releases slot self.old self.new }
+    {
+        self.waits.remove(slot);
+    }
+
+    /// Waits no longer for a slot whose record leaves the window, and puts it back no more.
+    pub fn forget(&mut self, slot: u32)
+        requires within { slot < 256 }
+        ensures forgotten { Forgets slot self.old self.new }
+    {
+        self.release(slot);
+        if self.displaced == Some(slot) {
+            self.displaced = None;
+        }
+    }
+}

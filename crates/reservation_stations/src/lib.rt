@@ -1,0 +1,13 @@
+//! The reservation stations of the timing side: which instructions of the window wait for an operand, and which can begin.
+#![tactic(auto)]
+
+mod entry;
+mod mask;
+mod station;
+mod stations;
+mod tables;
+#[cfg(test)]
+mod tests;
+
+pub use station::{Mark, Station};
+pub use stations::Stations;

@@ -1,0 +1,230 @@
+use crate::entry::Entry;
+use crate::mask::Mask;
+use crate::station::Mark;
+use crate::tables::{drop_producer, forget, release, set_producer, uncounted};
+use circular_buffer::HeapCircularBuffer;
+use fsim_base::NoMemory;
+use std::alloc::Global;
+use std::marker::Model;
+
+/// The instructions of the window that are under way, the oldest first, and which of them wait for an operand.
+///
+/// Each register is renamed to its producer, the youngest record in the window that writes it. A record waits for the
+/// producers of its sources that weren't done when it entered, until they wake it or leave the window.
+#[derive(Debug, Drop)]
+pub struct Stations {
+    /// The slots of the records, the oldest first.
+    order: HeapCircularBuffer<u32>,
+    /// What each slot keeps of the record that holds it.
+    entries: Vec<Entry>,
+    /// The slot of each register's producer, where it has one.
+    producers: Vec<Option<u32>>,
+    /// How many records wait.
+    waiting: u32,
+}
+
+impl Model for Stations {
+    ghost use Rattle.reservation_stations.specs.Readiness.{Window};
+    ghost use Rattle.reservation_stations.specs.Keeps.{Keeps, stations_at, entry_at};
+
+    ghost Value = { Window };
+
+    ghost view = { λ s. record { window = s.order.capacity; stations = stations_at (entry_at s.entries.items) s.order.items } };
+
+    ghost invariant = { λ s. Keeps s.order.capacity s.order.items s.entries.items s.producers.items s.waiting };
+}
+
+impl Stations {
+    ghost use Rattle.std.specs.Prelude.{◌≡◌, ◌≢◌, ◌↔◌, ◌<◌, ◌≤◌, ◌-◌, ◌++◌, ◌∷◌, [], ℕ, false, length, reverse, take, drop, slice_get, All, AllPairs, IsTrue, IsSome, IsNone, IfSome, IfNone, IfOk, if◌then◌else◌};
+    ghost use Rattle.reservation_stations.specs.Readiness.{Window, station_of, mark_of, oldest_slot, youngest_slot, older_than, has_operands, can_begin_at, marked, entered, waiting_count};
+    ghost use Rattle.reservation_stations.specs.Keeps.{producer_of, awaited};
+    ghost use Rattle.reservation_stations.specs.declared.station.Station.{Station};
+
+    /// Stations of a window of so many slots, which no record holds. They take their memory here and none later.
+    pub fn new(alloc: Global, window: u32) -> Result<Stations, NoMemory>
+        requires limit { window ≤ 256 }
+        ensures empty { IfOk result (λ it. it ≡ record { window = window; stations = [] }) }
+    {
+        let Ok(order) = HeapCircularBuffer::with_capacity(alloc, window as usize) else {
+            return Err(NoMemory);
+        };
+        let Ok(entries) = vec![in alloc; Entry::free(); window as usize] else {
+            return Err(NoMemory);
+        };
+        let Ok(producers) = vec![in alloc; None; 256] else {
+            return Err(NoMemory);
+        };
+        Ok(Stations {
+            order,
+            entries,
+            producers,
+            waiting: 0,
+        })
+    }
+
+    /// How many records there are.
+    pub fn len(&self) -> u32
+        ensures count { result ≡ length self.now.stations }
+        ensures room { length self.now.stations ≤ self.now.window }
+        ensures limit { self.now.window ≤ 256 }
+        ensures within { All (λ station. station.slot < self.now.window) self.now.stations }
+        ensures distinct { AllPairs (λ older younger. older.slot ≢ younger.slot) self.now.stations }
+    {
+        self.order.len() as u32
+    }
+
+    /// How many records wait.
+    pub fn waiting(&self) -> u32
+        ensures count { result ≡ waiting_count self.now.stations }
+    {
+        self.waiting
+    }
+
+    /// The slot of the youngest record that writes a register, if one is given.
+    fn producer(&self, register: Option<u8>) -> Option<u32>
+        ensures producer { result ≡ producer_of (reverse self.now.stations) register }
+        ensures within { IfSome result (λ slot. slot < self.now.window) }
+    {
+        let register = register?;
+        self.producers[register as usize]
+    }
+
+    /// The slot whose record has yet to give the value of a source.
+    fn awaited(&self, source: Option<u8>) -> Option<u32>
+        ensures awaited { result ≡ awaited (reverse self.now.stations) source }
+        ensures within { IfSome result (λ slot. slot < self.now.window) }
+    {
+        let slot = self.producer(source)?;
+        if self.entries[slot as usize].mark.is_done() {
+            None
+        } else {
+            Some(slot)
+        }
+    }
+
+    /// Appends the record of an instruction, which waits, in a slot that no record holds.
+    pub fn enter(&mut self, slot: u32, sources: (Option<u8>, Option<u8>), destination: Option<u8>)
+        requires within { slot < self.old.window }
+        requires free { IsNone (station_of slot self.old.stations) }
+        ensures entered { self.new ≡ record self.old {
+          stations = self.old.stations ++ entered slot sources.0 sources.1 destination ∷ [];
+        } }
+    {
+        let waits = Mask::none()
+            .with(self.awaited(sources.0))
+            .with(self.awaited(sources.1));
+        let displaced = self.producer(destination);
+        self.entries[slot as usize] = Entry {
+            first: sources.0,
+            second: sources.1,
+            destination,
+            mark: Mark::Waiting,
+            waits,
+            displaced,
+        };
+        set_producer(&mut self.producers, destination, Some(slot));
+        // There is room, so this is Ok.
+        let _ = self.order.try_push_back(slot);
+        self.waiting += 1;
+    }
+
+    /// Whether both operands of the record that holds a slot have a value.
+    pub fn ready(&self, slot: u32) -> bool
+        requires held { IsSome (station_of slot self.now.stations) }
+        ensures ready { (place : ℕ) (station : Station) →
+            slice_get self.now.stations place ≡ Some station → station.slot ≡ slot →
+            result ≡ has_operands (older_than place self.now.stations) station }
+    {
+        let held = &self.entries[slot as usize];
+        held.waits.is_empty()
+    }
+
+    /// Lets a record that waits execute.
+    pub fn issue(&mut self, slot: u32)
+        requires waiting { mark_of slot self.old.stations ≡ Some Mark.Waiting }
+        ensures issued { self.new ≡ record self.old {
+          stations = marked slot Mark.Issued self.old.stations;
+        } }
+    {
+        self.entries[slot as usize].mark = Mark::Issued;
+        self.waiting -= 1;
+    }
+
+    /// Ends the execution of a record, with a fault or without. Without one, its destination has a value from now on.
+    pub fn wake(&mut self, slot: u32, faulted: bool)
+        requires issued { mark_of slot self.old.stations ≡ Some Mark.Issued }
+        ensures woken { self.new ≡ record self.old {
+          stations = marked slot (if faulted then Mark.Faulted else Mark.Done) self.old.stations;
+        } }
+    {
+        if faulted {
+            self.entries[slot as usize].mark = Mark::Faulted;
+        } else {
+            self.entries[slot as usize].mark = Mark::Done;
+            release(&mut self.entries, slot);
+        }
+    }
+
+    /// Removes the oldest record, whose slot is given. Those that waited for it take the committed register.
+    pub fn retire(&mut self, slot: u32)
+        requires oldest { oldest_slot self.old.stations ≡ Some slot }
+        ensures retired { self.new ≡ record self.old { stations = drop 1 self.old.stations } }
+    {
+        let Entry {
+            destination,
+            mark,
+            ..
+        } = self.entries[slot as usize];
+        let _ = self.order.pop_front();
+        forget(&mut self.entries, slot);
+        drop_producer(&mut self.producers, destination, slot);
+        self.waiting = uncounted(self.waiting, mark);
+    }
+
+    /// Removes the youngest record, whose slot is given.
+    pub fn cut(&mut self, slot: u32)
+        requires youngest { youngest_slot self.old.stations ≡ Some slot }
+        ensures cut { self.new ≡ record self.old {
+          stations = take (length self.old.stations - 1) self.old.stations;
+        } }
+    {
+        let Entry {
+            destination,
+            mark,
+            displaced,
+            ..
+        } = self.entries[slot as usize];
+        let _ = self.order.pop_back();
+        set_producer(&mut self.producers, destination, displaced);
+        self.waiting = uncounted(self.waiting, mark);
+    }
+
+    /// Whether the record at a place of the list waits for nothing but a unit.
+    fn can_begin(&self, place: u32) -> bool
+        ensures { result ≡ can_begin_at self.now.stations place }
+    {
+        match self.order.get(place as usize) {
+            None => false,
+            Some(slot) => {
+                let entry = &self.entries[*slot as usize];
+                entry.mark.is_waiting() && entry.waits.is_empty()
+            }
+        }
+    }
+
+    /// The place in the list of the first record from a place on that waits and whose operands have values.
+    pub fn choose(&self, from: u32) -> Option<u32>
+        ensures behind { IfSome result (λ place. from ≤ place) }
+        ensures found { IfSome result (λ place. IsTrue (can_begin_at self.now.stations place)) }
+        ensures first { IfSome result (λ place. (k : ℕ) → from ≤ k → k < place →
+            can_begin_at self.now.stations k ≡ false) }
+        ensures none { IfNone result ((k : ℕ) → from ≤ k → can_begin_at self.now.stations k ≡ false) }
+    {
+        for place in from..self.len() {
+            if self.can_begin(place) {
+                return Some(place);
+            }
+        }
+        None
+    }
+}

@@ -1,0 +1,47 @@
+use crate::Stations;
+use std::test::Fail;
+
+/// How many wait, and the first two places that can begin.
+fn seen(stations: &Stations) -> (u32, Option<u32>, Option<u32>) {
+    let first = stations.choose(0);
+    let second = match first {
+        Some(place) => stations.choose(place.saturating_add(1)),
+        None => None,
+    };
+    (stations.waiting(), first, second)
+}
+
+/// `lw x5, 0(x1)`, `add x6, x5, x2` and `lw x6, 0(x3)`; the last is cut, and `sw x6, 0(x5)` follows. The addition faults.
+#[test]
+fn a_source_waits_for_its_youngest_older_writer(rt: HostRuntime) -> Result<(), Fail> {
+    let mut stations = Stations::new(rt.alloc(), 4)?;
+    stations.enter(3, (Some(1), None), Some(5));
+    stations.enter(0, (Some(5), Some(2)), Some(6));
+    stations.enter(1, (Some(3), None), Some(6));
+    assert_eq!(rt;
+        seen(&stations),
+        (3, Some(0), Some(2)),
+        "both loads have their operand"
+    );
+    stations.issue(3);
+    stations.wake(3, false);
+    assert_eq!(rt; seen(&stations), (2, Some(1), Some(2)), "x5 has its value");
+    stations.cut(1);
+    stations.enter(1, (Some(5), Some(6)), None);
+    assert_eq!(rt;
+        seen(&stations),
+        (2, Some(1), None),
+        "x6 comes from the addition again"
+    );
+    stations.issue(0);
+    stations.wake(0, true);
+    assert_eq!(rt; seen(&stations), (1, None, None), "a fault gives no value");
+    stations.retire(3);
+    stations.retire(0);
+    assert_eq!(rt;
+        seen(&stations),
+        (1, Some(0), None),
+        "x6 is the committed register"
+    );
+    Ok(())
+}

@@ -1,0 +1,11 @@
+pub mod Standing
+pub mod Ranges
+pub mod Computing
+pub mod Listing
+pub mod Obeying
+pub mod Ticking
+pub mod Taking
+pub mod Playing
+pub mod Ending
+pub mod Reporting
+pub mod Opening

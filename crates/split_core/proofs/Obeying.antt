@@ -1,0 +1,126 @@
+-- The functional side obeys an order.
+use Rattle.std.proofs.Common.{◌≡◌, ◌<◌, ◌≤◌, ◌+◌, ◌^◌, ℕ, true, if◌then◌else◌, length, Option, Some, None, List, [], ◌∷◌, drop, slice_get, refl, ap, sym, ◌∙◌, subst, arith}
+use Rattle.circular_buffer.specs.Buffer.{Buffer, buffer}
+use Rattle.rollback_cmds.specs.declared.order.Order.{Order}
+use Rattle.rollback_cmds.specs.declared.order.Order.TheVariants.{Set, Commit, Interrupt, Time, Stop, Sync}
+use Rattle.rollback_cmds.specs.Order.{opens_epoch_of}
+use Rattle.trace_entry.specs.declared.Entry.{Entry}
+use Rattle.mono_model.specs.declared.setup.Setup.{Setup}
+use Rattle.mono_model.specs.Path.{path}
+use Rattle.mono_model.specs.Demand.{number_of}
+use Rattle.mono_model.specs.Split.{Split, obey, obeys, on_obey, event_at}
+use Rattle.machine_laws.specs.Output.{IsInRoom}
+use Rattle.machine_laws.specs.SplitLaw.{IsRun, MayObey, IsRanged}
+use Rattle.machine_laws.proofs.SplitReached.{reached_run}
+use Rattle.func_model.specs.declared.walk.Walk.{Walk}
+use Rattle.func_model.specs.Walk.{Stands, IsObeyed, HasRoom, position_by, bytes_before}
+use Rattle.func_model.proofs.Outputs.{bytes_before_is}
+use Rattle.split_core.specs.declared.state.SplitState.{SplitState}
+use Rattle.split_core.specs.Stands.{StandsFor, IsStanding}
+use Rattle.split_core.proofs.Standing.{Agrees, agrees, ranged, still_stands, front_is, no_front}
+
+-- what it needs of the oldest order that is listed
+pub record CanObey {D : Type 0} (order : Order) (func : Walk D) : Type 0 where
+  pub reach : func.is_stopped ≡ true → number_of order ≤ func.position
+  pub from : func.committed ≤ number_of order
+  pub room : number_of order ≤ func.committed + func.journal.room
+  pub number : number_of order < 2 ^ 62
+  pub within : HasRoom order func func.limit
+
+module _ {D : Type 0} (s : Setup) (os : List Order) (func : Walk D) (stands : Stands s os func) where
+  fits : (n : ℕ) → func.committed ≤ n → n ≤ func.position → length (path s os n).output ≤ s.output → bytes_before func n ≤ func.limit
+  fits n from most within =
+      omega (arith, bytes_before_is s os func stands n (λ beyond. absurd (omega arith)) from, stands.holds.limit, within)
+
+  has_room : (order : Order) → func.committed ≤ number_of order → number_of order ≤ func.position → IsInRoom s os order → HasRoom order func func.limit
+  has_room (Set m addr) from most within = tt
+  has_room (Commit m) from most within = fits m from most within
+  has_room (Interrupt m) from most within = fits m from most within
+  has_room (Time m v) from most within = tt
+  has_room (Stop m) from most within = tt
+  has_room (Sync m) from most within = fits m from most within
+
+pub can_obey : {D : Type 0} (state : SplitState D) (order : Order) → IsStanding state → slice_get state.listed.items 0 ≡ Some order → CanObey order state.func
+can_obey state order st front =
+    let s = st.setup in
+    let x = st.split in
+    let h : StandsFor s x state = st.stands in
+    let run : IsRun s x = reached_run s x st.reached in
+    let same : Agrees x state = agrees s x state st.reached h in
+    let items : state.listed.items ≡ x.listed = ap (λ (b : Buffer Order). b.items) h.listed in
+    let may : MayObey s x order = run.obeys order (drop 1 x.listed) (front_is x.listed order (ap (λ (os : List Order). slice_get os 0) (sym items) ∙ front)) in
+    let small : IsRanged x = ranged s x st.sound st.reached in
+    let from : state.func.committed ≤ number_of order = omega (arith, same.committed, may.least) in
+    let most : number_of order ≤ state.func.position = omega (arith, h.position, may.most) in
+    record {
+      reach = λ stopped. most;
+      from = from;
+      room = omega (arith, same.committed, may.window, h.func.holds.capacity);
+      number = omega (arith, may.most, small.position);
+      within = has_room s x.obeyed state.func h.func order from most may.output;
+    }
+
+-- what an order makes of the split state, as far as the core holds it
+record IsBehind (x : Split) (o : Order) (os : List Order) (y : Split) : Type 0 where
+  obeyed : y.obeyed ≡ o ∷ x.obeyed
+  position : y.position ≡ position_by o x.position
+  computed : y.computed ≡ (if opens_epoch_of o then None else x.computed)
+  place : y.place ≡ x.place
+  held : y.held ≡ x.held
+  hand : y.hand ≡ x.hand
+  entries : y.entries ≡ x.entries
+  listed : y.listed ≡ os
+
+obeys_behind : (x : Split) (o : Order) (os : List Order) → IsBehind x o os (obeys o (record x { listed = os }))
+obeys_behind x (Set m addr) os = record { obeyed = refl; position = refl; computed = refl; place = refl; held = refl; hand = refl; entries = refl; listed = refl }
+obeys_behind x (Commit m) os = record { obeyed = refl; position = refl; computed = refl; place = refl; held = refl; hand = refl; entries = refl; listed = refl }
+obeys_behind x (Interrupt m) os = record { obeyed = refl; position = refl; computed = refl; place = refl; held = refl; hand = refl; entries = refl; listed = refl }
+obeys_behind x (Time m v) os = record { obeyed = refl; position = refl; computed = refl; place = refl; held = refl; hand = refl; entries = refl; listed = refl }
+obeys_behind x (Stop m) os = record { obeyed = refl; position = refl; computed = refl; place = refl; held = refl; hand = refl; entries = refl; listed = refl }
+obeys_behind x (Sync m) os = record { obeyed = refl; position = refl; computed = refl; place = refl; held = refl; hand = refl; entries = refl; listed = refl }
+
+obey_is : (s : Setup) (x : Split) → event_at s obey x ≡ on_obey x.listed x
+unfolding event_at
+obey_is s x = refl
+
+dropped : (listed : Buffer Order) → listed.items ≡ [] → buffer (drop 1 listed.items) listed.capacity ≡ listed
+dropped listed none = ap (λ (os : List Order). buffer (drop 1 os) listed.capacity) none ∙ ap (λ (os : List Order). buffer os listed.capacity) (sym none)
+
+module _ {D : Type 0} (s : Setup) (x : Split) (state : SplitState D) (h : StandsFor s x state) (listed : Buffer Order) (popped : listed ≡ buffer (drop 1 state.listed.items) state.listed.capacity) where
+  items_are : state.listed.items ≡ x.listed
+  items_are = ap (λ (b : Buffer Order). b.items) h.listed
+
+  pub nothing_obeyed : slice_get state.listed.items 0 ≡ None → StandsFor s (event_at s obey x) (record state { listed = listed })
+  nothing_obeyed front =
+      let none : state.listed.items ≡ [] = no_front state.listed.items front in
+      let P : Buffer Order → Type 0 = λ b. StandsFor s x (record state { listed = b }) in
+      still_stands s x (event_at s obey x) (record state { listed = listed })
+      (obey_is s x ∙ ap (λ (os : List Order). on_obey os x) (sym items_are ∙ none))
+      (subst P (sym (popped ∙ dropped state.listed none)) h)
+
+  pub order_obeyed : (order : Order) (func : Walk D) (computed : Option Entry) → slice_get state.listed.items 0 ≡ Some order →
+      ((s : Setup) (os : List Order) → Stands s os state.func → Stands s (order ∷ os) func) → IsObeyed order state.func func →
+      computed ≡ (if opens_epoch_of order then None else state.computed) →
+      StandsFor s (event_at s obey x) (record state { func = func; listed = listed; computed = computed })
+  order_obeyed order func computed front stands moved kept =
+      let os = drop 1 x.listed in
+      let y = obeys order (record x { listed = os }) in
+      let is : IsBehind x order os y = obeys_behind x order os in
+      let P : List Order → Type 0 = λ obeyed. Stands {D = D} s obeyed func in
+      still_stands s y (event_at s obey x) (record state { func = func; listed = listed; computed = computed })
+      (obey_is s x ∙ ap (λ (l : List Order). on_obey l x) (front_is x.listed order (ap (λ (l : List Order). slice_get l 0) (sym items_are) ∙ front)))
+      (record {
+        func = subst P (sym is.obeyed) (stands s x.obeyed h.func);
+        position = moved.position ∙ ap (position_by order) h.position ∙ sym is.position;
+        behind = h.behind;
+        place = is.place ∙ h.place;
+        time = h.time;
+        held = h.held ∙ sym is.held;
+        computed = kept ∙ ap (λ (o : Option Entry). if opens_epoch_of order then None else o) h.computed ∙ sym is.computed;
+        hand = h.hand ∙ sym is.hand;
+        entries = h.entries ∙ ap (λ (es : List Entry). buffer es s.ring) (sym is.entries);
+        listed = popped ∙ ap (λ (b : Buffer Order). buffer (drop 1 b.items) b.capacity) h.listed ∙ ap (λ (l : List Order). buffer l 64) (sym is.listed);
+        rounds = h.rounds;
+        steps = h.steps;
+        going = h.going;
+      })

@@ -1,0 +1,6 @@
+use Rattle.std.proofs.Common.{take}
+use Rattle.split_core.proofs.Playing.{Played}
+use Rattle.split_core.proofs.state.SplitState.play.Given as goal
+
+abbrev pub invariant-loop-event : goal.invariant-loop-event
+invariant-loop-event g l = Played (take l.event-index l.events) l.fn.self l.self

@@ -1,0 +1,24 @@
+ghost use Rattle.std.specs.Prelude.{◌≡◌, true};
+ghost use Rattle.mono_model.specs.Setup.{is_setup};
+ghost use Rattle.mono_model.specs.Demand.{step_bound};
+ghost use Rattle.mono_model.specs.Split.{boundary_rounds};
+
+use mono_model::Setup;
+
+/// A boundary is never further than so many rounds.
+#[tactic(auto, using(crate::proofs::Ranges::setup_ring, crate::proofs::Ranges::setup_fetch))]
+pub fn rounds_to_boundary(setup: &Setup) -> u32
+    requires sound { is_setup setup.now ≡ true }
+    ensures rounds { result ≡ boundary_rounds setup.now }
+{
+    (setup.ring + 128) * (setup.params.core_fetch + 8)
+}
+
+/// No run has more steps of the timing side.
+#[tactic(auto, using(crate::proofs::Ranges::setup_cycles, crate::proofs::Ranges::setup_fetch))]
+pub fn most_steps(setup: &Setup) -> u64
+    requires sound { is_setup setup.now ≡ true }
+    ensures steps { result ≡ step_bound setup.now }
+{
+    setup.cycles * (u64::from(setup.params.core_fetch) + 6) + 2
+}

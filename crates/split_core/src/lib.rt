@@ -1,0 +1,14 @@
+//! The functional and the timing side together on one thread, with the entries and orders under way between them: whatever
+//! order their events come in, at each boundary they stand where the monolithic machine stands.
+#![tactic(auto)]
+
+mod bounds;
+mod event;
+mod split;
+mod state;
+
+pub use event::Event;
+pub use split::SplitCore;
+
+#[cfg(test)]
+mod tests;

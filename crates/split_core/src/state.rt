@@ -1,0 +1,259 @@
+ghost use Rattle.std.specs.Prelude.{◌≡◌, ℕ, true, false, map, IfOk};
+ghost use Rattle.split_core.specs.Events.{order_told};
+
+use crate::bounds::{most_steps, rounds_to_boundary};
+use crate::event::Event;
+use circular_buffer::HeapCircularBuffer;
+use device_bus::Device;
+use fsim_base::NoMemory;
+use func_model::FuncSide;
+use mono_model::{Final, Setup};
+use rollback_cmds::Order;
+use std::alloc::Global;
+use time_model::{TimeSide, Turn};
+use trace_entry::Entry;
+
+/// How many orders have room between the sides.
+const ORDERS: usize = 64;
+
+/// Both sides, and what is under way between them.
+#[derive(Drop)]
+pub struct SplitState<D: Device> {
+    pub func: FuncSide<D>,
+    pub time: TimeSide,
+    /// Entries on their way to the timing side, the oldest first.
+    pub entries: HeapCircularBuffer<Entry>,
+    /// Orders on their way to the functional side, the oldest first.
+    pub listed: HeapCircularBuffer<Order>,
+    /// The entry that was computed and not pushed yet.
+    pub computed: Option<Entry>,
+    /// The order that was told and not sent yet.
+    pub hand: Option<Order>,
+    /// A boundary is never further than so many rounds.
+    pub rounds: u32,
+    /// No run has more steps of the timing side.
+    pub steps: u64,
+    /// Whether the functional side was stopped for the report.
+    pub is_over: bool,
+}
+
+impl<D: Device> SplitState<D> {
+    ghost use Rattle.std.specs.Prelude.{List, if◌then◌else◌};
+    ghost use Rattle.mono_model.specs.declared.setup.Setup.{Setup as RunSetup};
+    ghost use Rattle.device_bus.specs.Bus.{device_order};
+    ghost use Rattle.mono_model.specs.Setup.{is_setup};
+    ghost use Rattle.mono_model.specs.Cycle.{final, mono};
+    ghost use Rattle.mono_model.specs.Split.{Split, split_start, compute, push, obey, tick, take, send, event_at, played, round, to_boundary, is_boundary, is_place_boundary};
+    ghost use Rattle.machine_laws.specs.Reached.{IsReached};
+    ghost use Rattle.func_model.specs.Contents.{StandsFor as HoldsArch};
+    ghost use Rattle.split_core.specs.Events.{event_in};
+    ghost use Rattle.split_core.specs.Stands.{StandsFor, Leads, IsStanding, IsAtBoundary, IsEnded};
+
+    /// Both sides at the start of a run, with nothing under way. All memory of the run is taken here.
+    pub fn new(alloc: Global, setup: &Setup, devices: Vec<D>) -> Result<SplitState<D>, NoMemory>
+        requires sound { is_setup setup.now ≡ true }
+        requires order { map D.kind devices.items ≡ device_order }
+        ensures stands { IfOk result (λ state. StandsFor setup.now (split_start setup.now) state) }
+    {
+        let func = FuncSide::new(alloc, setup, devices)?;
+        let time = TimeSide::new(alloc, setup)?;
+        let Ok(entries) = HeapCircularBuffer::with_capacity(alloc, setup.ring as usize) else {
+            return Err(NoMemory);
+        };
+        let Ok(listed) = HeapCircularBuffer::with_capacity(alloc, ORDERS) else {
+            return Err(NoMemory);
+        };
+        Ok(SplitState {
+            func,
+            time,
+            entries,
+            listed,
+            computed: None,
+            hand: None,
+            rounds: rounds_to_boundary(setup),
+            steps: most_steps(setup),
+            is_over: false,
+        })
+    }
+
+    /// The functional side computes the entry at its position, if none is computed and it isn't at rest.
+    pub fn compute(&mut self)
+        requires standing { IsStanding self.old }
+        ensures computed { Leads (λ s. event_at s compute) self.old self.new }
+    {
+        if self.computed.is_none() {
+            self.computed = self.func.produce();
+        }
+    }
+
+    /// The computed entry goes to the end of the entries under way, if it has room there.
+    pub fn push(&mut self)
+        ensures pushed { Leads (λ s. event_at s push) self.old self.new }
+    {
+        if let Some(entry) = self.computed {
+            if self.entries.try_push_back(entry).is_ok() {
+                self.computed = None;
+            }
+        }
+    }
+
+    /// The functional side obeys the oldest order under way, if there is one. Where that opens an epoch, the computed entry
+    /// is of no use any more.
+    pub fn obey(&mut self)
+        requires standing { IsStanding self.old }
+        ensures obeyed { Leads (λ s. event_at s obey) self.old self.new }
+    {
+        if let Some(order) = self.listed.pop_front() {
+            self.func.obey(order);
+            if order.opens_epoch() {
+                self.computed = None;
+            }
+        }
+    }
+
+    /// The timing side makes a step, if no order is in hand.
+    pub fn tick(&mut self)
+        ensures ticked { Leads (λ s. event_at s tick) self.old self.new }
+    {
+        if self.hand.is_none() {
+            self.hand = order_told(self.time.step());
+        }
+    }
+
+    /// The timing side takes the oldest entry under way, if it wants one and there is one.
+    pub fn take(&mut self)
+        requires standing { IsStanding self.old }
+        ensures taken { Leads (λ s. event_at s take) self.old self.new }
+    {
+        if self.time.wants() {
+            if let Some(entry) = self.entries.pop_front() {
+                self.time.take(&entry);
+            }
+        }
+    }
+
+    /// The order in hand goes to the end of the orders under way, if it has room there.
+    pub fn send(&mut self)
+        ensures sent { Leads (λ s. event_at s send) self.old self.new }
+    {
+        if let Some(order) = self.hand {
+            if self.listed.try_push_back(order).is_ok() {
+                self.hand = None;
+            }
+        }
+    }
+
+    /// Plays an event.
+    fn play_event(&mut self, event: Event)
+        requires standing { IsStanding self.old }
+        ensures played { Leads (λ s. event_at s (event_in event)) self.old self.new }
+    {
+        match event {
+            Event::Compute => self.compute(),
+            Event::Push => self.push(),
+            Event::Obey => self.obey(),
+            Event::Tick => self.tick(),
+            Event::Take => self.take(),
+            Event::Send => self.send(),
+        }
+    }
+
+    /// Plays events, the first in front.
+    pub fn play(&mut self, events: &[Event])
+        requires standing { IsStanding self.old }
+        ensures played { Leads (λ s. played s (map event_in events.now)) self.old self.new }
+    {
+        for event in events {
+            self.play_event(*event);
+        }
+    }
+
+    /// Whether a cycle starts or the run is over, with no order in hand or under way.
+    pub fn at_boundary(&self) -> bool
+        ensures boundary { (s : RunSetup) (x : Split) → StandsFor s x self.now → result ≡ is_boundary x }
+    {
+        self.time.at_boundary() && self.hand.is_none() && self.listed.is_empty()
+    }
+
+    /// A round of events, which leaves out the step of the timing side where that stands at a boundary.
+    fn round(&mut self)
+        requires standing { IsStanding self.old }
+        ensures played { Leads round self.old self.new }
+    {
+        self.obey();
+        self.compute();
+        self.push();
+        self.take();
+        self.tick_within_cycle();
+        self.send();
+    }
+
+    /// The timing side makes a step, if it isn't at a boundary.
+    fn tick_within_cycle(&mut self)
+        ensures ticked { Leads (λ s x. if is_place_boundary x.place then x else event_at s tick x) self.old self.new }
+    {
+        if !self.time.at_boundary() {
+            self.tick();
+        }
+    }
+
+    /// Plays rounds until it is at a boundary.
+    pub fn to_boundary(&mut self)
+        requires standing { IsStanding self.old }
+        ensures stands { Leads to_boundary self.old self.new }
+    {
+        for _ in 0..self.rounds {
+            if self.at_boundary() {
+                return;
+            }
+            self.round();
+        }
+    }
+
+    /// Plays from boundary to boundary until the run is over, and the functional side has obeyed the last order.
+    pub fn to_end(&mut self)
+        requires standing { IsStanding self.old }
+        ensures ended { (s : RunSetup) (x : Split) → is_setup s ≡ true → IsReached s x → StandsFor s x self.old → IsEnded s self.new }
+    {
+        for _ in 0..self.steps {
+            self.to_boundary();
+            if self.func.stopped() {
+                return;
+            }
+            self.tick();
+        }
+        self.to_boundary();
+    }
+
+    /// What is reported at a boundary: the functional side goes back to what is committed, and stays there.
+    pub fn committed(&mut self) -> Final
+        requires boundary { IsAtBoundary self.old }
+        ensures reported { (s : RunSetup) (x : Split) → is_setup s ≡ true → IsReached s x → StandsFor s x self.old → is_boundary x ≡ true → result ≡ final s x.place.run.demand.machine.cycle }
+        ensures contents { (s : RunSetup) (x : Split) → is_setup s ≡ true → IsReached s x → StandsFor s x self.old → is_boundary x ≡ true → HoldsArch s (mono s x.place.run.demand.machine.cycle).arch self.new.func.contents }
+        ensures over { self.new.is_over ≡ true }
+    {
+        let number = self.func.committed();
+        self.func.obey(Order::Stop { n: number });
+        self.is_over = true;
+        let arch = self.func.arch();
+        let regs = arch.regs;
+        Final {
+            end: self.time.end(),
+            stats: self.time.stats(),
+            pc: arch.pc,
+            regs,
+            csrs: arch.csrs,
+            cmp: arch.cmp,
+        }
+    }
+}
+
+/// The order that a turn tells, if it tells one.
+fn order_told(turn: Turn) -> Option<Order>
+    ensures told { result ≡ order_told turn }
+{
+    match turn {
+        Turn::Ordered(order) => Some(order),
+        Turn::Moved | Turn::Want | Turn::CycleEnd | Turn::Halted => None,
+    }
+}

@@ -1,0 +1,10 @@
+pub mod Bool
+pub mod Owing
+pub mod Numbers
+pub mod Ranges
+pub mod Bounded
+pub mod Small
+pub mod Steps
+pub mod Sides
+pub mod Turns
+pub mod Trials

@@ -1,0 +1,184 @@
+-- What a timing side makes of a step, by what it wants and whether its run is over.
+use Rattle.std.proofs.Common.{◌≡◌, ℕ, suc, ◌==◌, ◌&&◌, if◌then◌else◌, is_none, IfSome, Bool, true, false, Option, Some, None, List, [], ◌∷◌, length, refl, ap, sym, ◌∙◌, subst, arith}
+use Rattle.std.proofs.lemmas.Bool.{and_parts, eqb-true}
+use Rattle.rollback_cmds.specs.declared.order.Order.{Order}
+use Rattle.trace_entry.specs.declared.Entry.{Entry}
+use Rattle.reorder_buffer.specs.declared.slot.Slot.{Slot}
+use Rattle.mono_model.specs.declared.setup.Setup.{Setup}
+use Rattle.mono_model.specs.Setup.{is_setup}
+use Rattle.mono_model.specs.Demand.{At, is_try, Place, place, needs_entry, needed_entry}
+use Rattle.mono_model.specs.Split.{has_appended, is_cycle_start, is_place_boundary}
+use Rattle.machine_laws.proofs.SplitEntries.{needs_on}
+use Rattle.timing_laws.specs.Timing.{Timing, timing_start}
+use Rattle.timing_laws.specs.Turn.{timing_turn}
+use Rattle.timing_laws.specs.Step.{TimingPlace, timing_place_start}
+use Rattle.timing_laws.specs.Seen.{seen, seen_at}
+use Rattle.timing_laws.proofs.Stepping.{starts}
+use Rattle.timing_core.specs.declared.orders.Orders.{Orders}
+use Rattle.timing_core.specs.declared.state.TimingCore.{TimingCore}
+use Rattle.timing_core.specs.Orders.{orders_in}
+use Rattle.timing_core.specs.Keeps.{Keeps}
+use Rattle.time_model.specs.declared.at.At.TheVariants as code
+use Rattle.time_model.specs.declared.state.TimeState.{TimeState}
+use Rattle.time_model.specs.declared.turn.Turn.{Turn}
+use Rattle.time_model.specs.declared.turn.Turn.TheVariants as turn
+use Rattle.time_model.specs.At.{at_in}
+use Rattle.time_model.specs.Stands.{StandsAt, IsStanding, owed_in, wants_in, is_over, IsMade, IsStep}
+use Rattle.time_model.specs.Turning.{MayTry, IsTurned, IsDue, over_in, held_by, due_by}
+use Rattle.time_model.proofs.Bool.{if_not}
+use Rattle.time_model.proofs.Owing.{stands_owed, stands_wants, stands_over}
+use Rattle.time_model.proofs.Numbers.{IsBehind, seen_room, seen_behind}
+use Rattle.time_model.proofs.Steps.{none_appended, due_timing}
+
+-- the start of a run
+pub start_stands : (s : Setup) (core : TimingCore) → Keeps s timing_start core →
+    StandsAt s 0 (record { core = core; at = code.Interrupting; owed = None; epoch = 0; held = None })
+unfolding place seen_at timing_place_start
+start_stands s core is = record {
+  core = subst (λ (p : TimingPlace). Keeps s p.timing core) (sym (starts s)) is;
+  at = refl;
+  owed = refl;
+  epoch = refl;
+  held = λ all. tt;
+}
+
+-- the boundaries
+pub stands_boundary : (s : Setup) (k : ℕ) (side : TimeState) → StandsAt s k side → (is_none side.owed && is_cycle_start (at_in side.at)) ≡ is_place_boundary (place s k)
+stands_boundary s k side h =
+    ap (λ (b : Bool). b && is_cycle_start (at_in side.at)) (stands_owed s k side h) ∙ ap (λ (at : At). ((place s k).owed == 0) && is_cycle_start at) h.at
+
+-- What a step says and leaves, where it waits, rests and goes on.
+module _ (s : Setup) (k : ℕ) (side : TimeState) (h : StandsAt s k side) where
+  needs_of : wants_in side ≡ true → needs_entry (place s k) ≡ true
+  needs_of wants = (and_parts (needs_entry (place s k)) (is_none side.held) (sym (stands_wants s k side h) ∙ wants)).0
+
+  not_over : needs_entry (place s k) ≡ true → is_over (place s k) ≡ false
+  not_over needs = ap (λ (b : Bool). b && (place s k).owed == 0) (needs_on (place s k) needs)
+
+  pub waiting_step : wants_in side ≡ true → IsStep s k side side turn.Want
+  waiting_step wants = record {
+    waits = λ needs none. (refl, refl);
+    rests = λ over. let on = not_over (needs_of wants) in cc;
+    goes = λ more on. let is = stands_wants s k side h in cc;
+  }
+
+  pub resting_step : wants_in side ≡ false → over_in side ≡ true → IsStep s k side side turn.Halted
+  resting_step free over = record {
+    waits = λ needs none. let on = not_over needs in let off = stands_over s k side h in cc;
+    rests = λ off. (refl, refl);
+    goes = λ more on. let off = stands_over s k side h in cc;
+  }
+
+  pub going_step : (new : TimeState) (what : Turn) → wants_in side ≡ false → over_in side ≡ false → (is_over (place s k) ≡ false → IsMade s k side new what) → IsStep s k side new what
+  going_step new what free on made = record {
+    waits = λ needs none. absurd (wanting needs none (sym (stands_wants s k side h) ∙ free));
+    rests = λ over. let off = stands_over s k side h in cc;
+    goes = λ more still. made still;
+  }
+    where
+      wanting : needs_entry (place s k) ≡ true → side.held ≡ None → (needs_entry (place s k) && is_none side.held) ≡ false → ⊥
+      wanting needs none free = let absent : is_none side.held ≡ true = ap (λ (o : Option Entry). is_none o) none in
+          let both : (needs_entry (place s k) && is_none side.held) ≡ true = (λ i. needs i && absent i) in cc
+
+-- a side stands behind each step
+pub stands_after : (old new : TimeState) (what : Turn) → IsStanding old → ((s : Setup) (k : ℕ) → is_setup s ≡ true → StandsAt s k old → IsStep s k old new what) → IsStanding new
+stands_after old new what is step = by_tests (needs_entry p) refl (is_none old.held) refl (is_over p) refl
+  where
+    s : Setup
+    s = is.setup
+
+    p : Place
+    p = place is.setup is.steps
+
+    made : IsStep is.setup is.steps old new what
+    made = step is.setup is.steps is.sound is.stands
+
+    same : new ≡ old → IsStanding new
+    same e = subst IsStanding (sym e) is
+
+    none_held : (h : Option Entry) → is_none h ≡ true → h ≡ None
+    none_held None e = refl
+    none_held (Some e) none = cc
+
+    by_tests : (a : Bool) → needs_entry (place is.setup is.steps) ≡ a → (b : Bool) → is_none old.held ≡ b → (c : Bool) → is_over (place is.setup is.steps) ≡ c → IsStanding new
+    by_tests a needs b none true over = same (made.rests over).1
+    by_tests true needs true none false on = same (made.waits needs (none_held old.held none)).1
+    by_tests true needs false none false on = record { setup = is.setup; sound = is.sound; steps = suc is.steps; stands = (made.goes (λ i. needs i && none i) on).stands }
+    by_tests false needs b none false on = record { setup = is.setup; sound = is.sound; steps = suc is.steps; stands = (made.goes (λ i. needs i && none i) on).stands }
+
+-- Where a try comes next, the entry that the place needs is held.
+holds_by : (needed : Entry) (held : Option Entry) → IfSome held (λ e. e ≡ needed) → is_none held ≡ false → held ≡ Some needed
+holds_by needed None right some = cc
+holds_by needed (Some e) right some = ap Some right
+
+pub try_holds : (s : Setup) (k : ℕ) (side : TimeState) → StandsAt s k side → side.owed ≡ None → wants_in side ≡ false → is_try (at_in side.at) ≡ true →
+    side.held ≡ Some (needed_entry s (place s k))
+unfolding wants_in
+try_holds s k side h none free try =
+    let all : (place s k).owed ≡ 0 = eqb-true (place s k).owed 0 (sym (stands_owed s k side h) ∙ ap (λ (o : Option Order). is_none o) none) in
+    let some : is_none side.held ≡ false = (λ i. is_none (sym none i) && sym try i && is_none side.held) ∙ free in
+    holds_by (needed_entry s (place s k)) side.held (h.held all) some
+
+pub may_try : (side : TimeState) → IsStanding side → side.owed ≡ None → wants_in side ≡ false → is_try (at_in side.at) ≡ true → MayTry side
+may_try side is none free try =
+    let s = is.setup in
+    let h = is.stands in
+    let room = seen_room s is.steps (ap is_try (sym h.at) ∙ try) in
+    record {
+      entry = needed_entry s (place s is.steps);
+      held = try_holds s is.steps side h none free try;
+      room = omega (arith, room, ap (λ (l : List Slot). length l) h.core.slots, h.core.room);
+      next = subst (IsBehind (needed_entry s (place s is.steps)).number) (sym h.core.slots) (seen_behind s is.steps);
+    }
+
+-- The orders that stand to be told: the owed one.
+pub owed_due : (s : Setup) (k : ℕ) (old : TimeState) (o : Order) (behind : Option Order) (told : Orders) → StandsAt s k old → over_in old ≡ false → old.owed ≡ Some o → orders_in told ≡ o ∷ [] →
+    IsDue s k old (record old { owed = behind }) told
+unfolding seen_at
+owed_due s k old o behind told h on some one =
+    let p = seen_at s (place s k) in
+    let e = needed_entry s (place s k) in
+    let is : p.owed ≡ o ∷ [] = sym h.owed ∙ ap owed_in some in
+    let owes : ((place s k).owed == 0) ≡ false = sym (stands_owed s k old h) ∙ ap (λ (x : Option Order). is_none x) some in
+    let free : needs_entry (place s k) ≡ false = ap (λ (b : Bool). if b then is_try (place s k).run.at else false) owes in
+    let still = none_appended s k (sym (stands_over s k old h) ∙ on) free in
+    record {
+      made = subst (λ (os : List Order). IsTurned s (due_by s e p os) (record old { owed = behind }) told) (sym is)
+          (record { core = h.core; at = h.at; orders = one });
+      held = ap (λ (b : Bool). if b then None else old.held) (sym still);
+    }
+
+-- or those of the turn that is made
+pub turned_due : (s : Setup) (k : ℕ) (old new : TimeState) (told : Orders) → StandsAt s k old → wants_in old ≡ false → over_in old ≡ false → old.owed ≡ None →
+    IsTurned s (timing_turn s (needed_entry s (place s k)) (at_in old.at) (seen_at s (place s k)).timing) new told →
+    (is_try (at_in old.at) ≡ true → new.held ≡ held_by (timing_turn s (needed_entry s (place s k)) (at_in old.at) (seen_at s (place s k)).timing).timing (seen_at s (place s k)).timing old.held) →
+    (is_try (at_in old.at) ≡ false → new.held ≡ old.held) →
+    IsDue s k old new told
+unfolding seen_at seen
+turned_due s k old new told h free on none turned tried keeps =
+    let p = seen_at s (place s k) in
+    let e = needed_entry s (place s k) in
+    let is : p.owed ≡ [] = sym h.owed ∙ ap owed_in none in
+    record {
+      made = subst (λ (os : List Order). IsTurned s (due_by s e p os) new told) (sym is)
+          (subst (λ (at : At). IsTurned s (timing_turn s e at p.timing) new told) h.at turned);
+      held = by_try (is_try (at_in old.at)) refl;
+    }
+  where
+    by_try : (b : Bool) → is_try (at_in old.at) ≡ b → new.held ≡ (if has_appended (place s k) (place s (suc k)) then None else old.held)
+    by_try false not_try =
+        let calm : needs_entry (place s k) ≡ false = needs_not ((place s k).owed == 0) (is_try (place s k).run.at) (ap is_try (sym h.at) ∙ not_try) in
+        let still = none_appended s k (sym (stands_over s k old h) ∙ on) calm in
+        keeps not_try ∙ ap (λ (b : Bool). if b then None else old.held) (sym still)
+      where
+        needs_not : (a b : Bool) → b ≡ false → (if a then b else false) ≡ false
+        needs_not true b e = e
+        needs_not false b e = refl
+    by_try true try =
+        let p = seen_at s (place s k) in
+        let e = needed_entry s (place s k) in
+        let is : p.owed ≡ [] = sym h.owed ∙ ap owed_in none in
+        let behind : (timing_turn s e (at_in old.at) p.timing).timing ≡ (seen_at s (place s (suc k))).timing =
+        ap (λ (at : At). (timing_turn s e at p.timing).timing) h.at ∙ ap (λ (os : List Order). (due_by s e p os).timing) (sym is) ∙ due_timing s k in
+        tried try ∙ ap (λ (t : Timing). held_by t p.timing old.held) behind
+        ∙ if_not ((place s (suc k)).run.demand.machine.counts.fetched == (place s k).run.demand.machine.counts.fetched) old.held None

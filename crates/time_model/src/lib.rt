@@ -1,0 +1,13 @@
+//! The timing side: it makes the steps of the demand run on the entries that it is handed, and tells the orders.
+#![tactic(auto)]
+
+mod at;
+mod side;
+mod state;
+mod turn;
+
+pub use side::{Taken, TimeSide};
+pub use turn::Turn;
+
+#[cfg(test)]
+mod tests;

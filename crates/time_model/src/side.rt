@@ -1,0 +1,124 @@
+ghost use Rattle.std.specs.Prelude.{◌≡◌, ◌↔◌, ◌&&◌, ℕ, true, Some, None, IfOk, is_none};
+
+use crate::state::TimeState;
+use crate::turn::Turn;
+use fsim_base::NoMemory;
+use mono_model::{End, Setup, Stats};
+use std::alloc::Global;
+use std::marker::Model;
+use trace_entry::Entry;
+
+/// What became of an entry that was handed over.
+#[derive(Clone, Copy, Debug, PartialEq, Eq)]
+pub enum Taken {
+    /// It is held for the next try.
+    Used,
+    /// It is of another epoch, and of no use.
+    Dropped,
+}
+
+/// The timing side. It stands for a setup and a number of steps of its demand run: it makes the steps, tells their orders,
+/// and is handed the entries that they need (Chiou et al., FPGA-Accelerated Simulation Technologies, MICRO 2007, the timing
+/// model).
+#[derive(Drop)]
+pub struct TimeSide {
+    state: TimeState,
+}
+
+impl Model for TimeSide {
+    ghost use Rattle.time_model.specs.declared.state.TimeState.{TimeState};
+    ghost use Rattle.time_model.specs.Stands.{IsStanding};
+
+    ghost Value = { TimeState };
+
+    ghost view = { λ side. side.state };
+
+    ghost invariant = { λ side. IsStanding side.state };
+}
+
+impl TimeSide {
+    ghost use Rattle.mono_model.specs.declared.setup.Setup.{Setup as RunSetup};
+    ghost use Rattle.mono_model.specs.Setup.{is_setup};
+    ghost use Rattle.mono_model.specs.Machine.{stats_of};
+    ghost use Rattle.mono_model.specs.Demand.{place, needs_entry, needed_entry};
+    ghost use Rattle.mono_model.specs.Split.{is_place_boundary};
+    ghost use Rattle.time_model.specs.Stands.{StandsAt, IsStep, IsRight, wants_in};
+
+    /// The timing side before the first step of a run. It takes all its memory here, and want of it is the one refusal.
+    pub fn new(alloc: Global, setup: &Setup) -> Result<TimeSide, NoMemory>
+        requires sound { is_setup setup.now ≡ true }
+        ensures stands { IfOk result (λ side. StandsAt setup.now 0 side) }
+        ensures empty { IfOk result (λ side. side.held ≡ None) }
+    {
+        let state = TimeState::new(alloc, setup)?;
+        Ok(TimeSide { state })
+    }
+
+    /// Makes one step of the demand run, and tells the one order of it, if it has one. It does nothing where the step needs an
+    /// entry that isn't held, and where the run is over.
+    pub fn step(&mut self) -> Turn
+        ensures made { (s : RunSetup) (k : ℕ) → is_setup s ≡ true → StandsAt s k self.old → IsStep s k self.old self.new result }
+    {
+        self.state.step()
+    }
+
+    /// Whether the next step needs the entry of the instruction to fetch next, and none is held.
+    pub fn wants(&self) -> bool
+        ensures wants { result ≡ wants_in self.now }
+        ensures needs { (s : RunSetup) (k : ℕ) → StandsAt s k self.now → result ≡ (needs_entry (place s k) && is_none self.now.held) }
+    {
+        self.state.wants()
+    }
+
+    /// Takes the entry that arrives next, where one is needed. An entry of the side's epoch is held for the next try; any other
+    /// is dropped.
+    pub fn take(&mut self, entry: &Entry) -> Taken
+        requires wants { wants_in self.old ≡ true }
+        requires right { IsRight entry.now self.old }
+        ensures stands { (s : RunSetup) (k : ℕ) → StandsAt s k self.old → (entry.now.epoch ≡ self.old.epoch → entry.now ≡ needed_entry s (place s k)) → StandsAt s k self.new }
+        ensures used { result ≡ Taken.Used → self.new ≡ record self.old { held = Some entry.now } }
+        ensures dropped { result ≡ Taken.Dropped → self.new ≡ self.old }
+        ensures by_epoch { (result ≡ Taken.Used) ↔ (entry.now.epoch ≡ self.old.epoch) }
+    {
+        if entry.epoch != self.state.epoch {
+            return Taken::Dropped;
+        }
+        self.state.held = Some(*entry);
+        Taken::Used
+    }
+
+    /// The number of the cycle, counted from 0.
+    pub fn cycle(&self) -> u64
+        ensures cycle { (s : RunSetup) (k : ℕ) → StandsAt s k self.now → result ≡ (place s k).run.demand.machine.cycle }
+    {
+        self.state.core.cycle()
+    }
+
+    /// The number of the next instruction to commit, counted from 0 along the path.
+    pub fn committed(&self) -> u64
+        ensures committed { (s : RunSetup) (k : ℕ) → StandsAt s k self.now → result ≡ (place s k).run.demand.done }
+    {
+        self.state.core.done()
+    }
+
+    /// How the run stands or ended.
+    pub fn end(&self) -> End
+        ensures end { (s : RunSetup) (k : ℕ) → StandsAt s k self.now → result ≡ (place s k).run.demand.machine.end }
+    {
+        self.state.core.end()
+    }
+
+    /// What was counted so far.
+    pub fn stats(&self) -> Stats
+        ensures stats { (s : RunSetup) (k : ℕ) → StandsAt s k self.now → result ≡ stats_of s (place s k).run.demand.machine }
+    {
+        self.state.core.stats()
+    }
+
+    /// Whether all orders are told where a cycle starts or the run has ended.
+    pub fn at_boundary(&self) -> bool
+        ensures boundary { (s : RunSetup) (k : ℕ) → StandsAt s k self.now → result ≡ is_place_boundary (place s k) }
+    {
+        self.state.at_boundary()
+    }
+}

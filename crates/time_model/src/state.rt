@@ -1,0 +1,232 @@
+ghost use Rattle.std.specs.Prelude.{◌≡◌, ◌&&◌, ℕ, true, false, if◌then◌else◌, Some, None, IfOk, is_none};
+
+use crate::at::At;
+use crate::turn::{Turn, turn_of};
+use fsim_base::NoMemory;
+use mono_model::Setup;
+use rollback_cmds::Order;
+use std::alloc::Global;
+use timing_core::{Orders, TimingCore};
+use trace_entry::Entry;
+
+/// The parts of a timing side.
+#[derive(Drop)]
+pub struct TimeState {
+    /// The pipeline, whose phases the turns are.
+    pub core: TimingCore,
+    /// The turn that comes next.
+    pub at: At,
+    /// The order of the last turn that was not told yet.
+    pub owed: Option<Order>,
+    /// How many orders that open an epoch were told.
+    pub epoch: u64,
+    /// The entry of the instruction to fetch next, once it has arrived.
+    pub held: Option<Entry>,
+}
+
+impl TimeState {
+    ghost use Rattle.mono_model.specs.declared.setup.Setup.{Setup as RunSetup};
+    ghost use Rattle.trace_entry.specs.declared.Entry.{Entry as SpecEntry};
+    ghost use Rattle.mono_model.specs.Setup.{is_setup};
+    ghost use Rattle.mono_model.specs.Demand.{is_try, trying, ending};
+    ghost use Rattle.mono_model.specs.Split.{is_cycle_start};
+    ghost use Rattle.timing_laws.specs.Timing.{Timing};
+    ghost use Rattle.timing_laws.specs.Turn.{timing_turn, try_or_end, at_after_commit, at_after_cycle};
+    ghost use Rattle.timing_core.specs.Keeps.{Keeps};
+    ghost use Rattle.timing_core.specs.Small.{IsSmall};
+    ghost use Rattle.timing_core.specs.Orders.{orders_in};
+    ghost use Rattle.time_model.specs.At.{at_in};
+    ghost use Rattle.time_model.specs.Stands.{StandsAt, IsStanding, IsStep, wants_in};
+    ghost use Rattle.time_model.specs.Turning.{MayTry, IsTurned, IsDue, over_in, held_by, owed_by, epoch_by, kept_by};
+
+    /// Before the first step of a run. All memory is taken here.
+    pub fn new(alloc: Global, setup: &Setup) -> Result<TimeState, NoMemory>
+        requires sound { is_setup setup.now ≡ true }
+        ensures stands { IfOk result (λ side. StandsAt setup.now 0 side) }
+        ensures empty { IfOk result (λ side. side.held ≡ None) }
+    {
+        let core = TimingCore::new(alloc, setup)?;
+        Ok(TimeState {
+            core,
+            at: At::Interrupting,
+            owed: None,
+            epoch: 0,
+            held: None,
+        })
+    }
+
+    /// Whether the step that comes next is a try whose entry is needed.
+    #[tactic(auto, unfolding(crate::specs::Stands::wants_in))]
+    pub fn wants(&self) -> bool
+        ensures wants { result ≡ wants_in self.now }
+    {
+        self.owed.is_none() && matches!(self.at, At::Trying(_)) && self.held.is_none()
+    }
+
+    /// Whether the run is over, and all is told.
+    fn is_over(&self) -> bool
+        ensures over { result ≡ over_in self.now }
+    {
+        self.owed.is_none() && matches!(self.at, At::Halted)
+    }
+
+    /// Whether a cycle starts here, or the run has ended, with all orders told.
+    pub fn at_boundary(&self) -> bool
+        ensures boundary { result ≡ (is_none self.now.owed && is_cycle_start (at_in self.now.at)) }
+    {
+        self.owed.is_none() && matches!(self.at, At::Interrupting | At::Stopping | At::Halted)
+    }
+
+    /// A try of fetch where one may be made and is allowed, else the end of the cycle.
+    fn try_or_end(&self, allowed: u32) -> At
+        ensures at { (s : RunSetup) (t : Timing) → Keeps s t self.now.core → at_in result ≡ try_or_end s allowed t }
+    {
+        if allowed > 0 && self.core.may_fetch() {
+            At::Trying(allowed - 1)
+        } else {
+            At::Ending
+        }
+    }
+
+    /// What comes behind a try: the next one, where it may follow, or the end of the cycle.
+    fn at_after_try(&self, goes_on: bool, allowed: u32) -> At
+        ensures at { (s : RunSetup) (t : Timing) → Keeps s t self.now.core → at_in result ≡ (if goes_on then try_or_end s allowed t else ending) }
+    {
+        if goes_on {
+            self.try_or_end(allowed)
+        } else {
+            At::Ending
+        }
+    }
+
+    /// What comes behind commit: where the run has ended the other phases are left out.
+    fn at_after_commit(&self) -> At
+        ensures at { (s : RunSetup) (t : Timing) → Keeps s t self.now.core → at_in result ≡ at_after_commit t }
+    {
+        if self.core.has_ended() {
+            At::Ending
+        } else {
+            At::Completing
+        }
+    }
+
+    /// What comes behind the end of a cycle: the next cycle, or the last order.
+    fn at_after_cycle(&self) -> At
+        ensures at { (s : RunSetup) (t : Timing) → Keeps s t self.now.core → at_in result ≡ at_after_cycle t }
+    {
+        if self.core.has_ended() {
+            At::Stopping
+        } else {
+            At::Interrupting
+        }
+    }
+
+    /// Tries to fetch the instruction of the held entry, with so many tries allowed behind it.
+    fn attempt(&mut self, allowed: u32) -> Orders
+        requires tries { MayTry self.old }
+        ensures made { (s : RunSetup) (t : Timing) (e : SpecEntry) → Keeps s t self.old.core → IsSmall t → self.old.held ≡ Some e →
+            IsTurned s (timing_turn s e (trying allowed) t) self.new result }
+        ensures held { (s : RunSetup) (t : Timing) (e : SpecEntry) → Keeps s t self.old.core → IsSmall t → self.old.held ≡ Some e →
+            self.new.held ≡ held_by (timing_turn s e (trying allowed) t).timing t self.old.held }
+        ensures others { self.new ≡ record self.old { core = self.new.core; at = self.new.at; held = self.new.held } }
+    {
+        let entry = self.held.unwrap();
+        let tried = self.core.fetch(&entry);
+        self.at = self.at_after_try(tried.goes_on, allowed);
+        if tried.appended {
+            self.held = None;
+        }
+        tried.orders
+    }
+
+    /// Makes the turn that comes next. A try needs that its entry is held.
+    fn turn(&mut self) -> Orders
+        requires tries { is_try (at_in self.old.at) ≡ true → MayTry self.old }
+        ensures made { (s : RunSetup) (t : Timing) (e : SpecEntry) → Keeps s t self.old.core → IsSmall t →
+            (is_try (at_in self.old.at) ≡ true → self.old.held ≡ Some e) → IsTurned s (timing_turn s e (at_in self.old.at) t) self.new result }
+        ensures held { (s : RunSetup) (t : Timing) (e : SpecEntry) → Keeps s t self.old.core → IsSmall t → is_try (at_in self.old.at) ≡ true → self.old.held ≡ Some e →
+            self.new.held ≡ held_by (timing_turn s e (at_in self.old.at) t).timing t self.old.held }
+        ensures keeps { is_try (at_in self.old.at) ≡ false → self.new.held ≡ self.old.held }
+        ensures others { self.new ≡ record self.old { core = self.new.core; at = self.new.at; held = self.new.held } }
+    {
+        match self.at {
+            At::Interrupting => {
+                self.at = At::Committing;
+                self.core.interrupt()
+            }
+            At::Committing => {
+                let orders = self.core.commit();
+                self.at = self.at_after_commit();
+                orders
+            }
+            At::Completing => {
+                self.at = At::Issuing;
+                self.core.complete()
+            }
+            At::Issuing => {
+                let orders = self.core.issue();
+                self.at = self.try_or_end(self.core.fetch_width());
+                orders
+            }
+            At::Trying(allowed) => self.attempt(allowed),
+            At::Ending => {
+                self.core.tick();
+                self.at = self.at_after_cycle();
+                Orders::none()
+            }
+            At::Stopping => {
+                self.at = At::Halted;
+                Orders::one(Order::Stop {
+                    n: self.core.done(),
+                })
+            }
+            At::Halted => Orders::none(),
+        }
+    }
+
+    /// The orders that stand to be told: the owed one, or else those of the turn that comes next, which is made.
+    fn due(&mut self) -> Orders
+        requires standing { IsStanding self.old }
+        requires holds { wants_in self.old ≡ false }
+        requires goes { over_in self.old ≡ false }
+        ensures due { (s : RunSetup) (k : ℕ) → is_setup s ≡ true → StandsAt s k self.old → IsDue s k self.old self.new result }
+        ensures others { self.new ≡ record self.old { core = self.new.core; at = self.new.at; owed = None; held = self.new.held } }
+    {
+        match self.owed.take() {
+            Some(order) => Orders::one(order),
+            None => self.turn(),
+        }
+    }
+
+    /// Tells the first of a turn's orders, and owes the second. Entries made before an order that opens an epoch are of no use
+    /// behind it, so the held one is dropped.
+    fn tell(&mut self, orders: Orders) -> Option<Order>
+        requires none { self.old.owed ≡ None }
+        ensures told { result ≡ orders.first }
+        ensures owed { self.new ≡ record self.old { owed = owed_by orders; epoch = epoch_by orders.first self.old.epoch; held = kept_by orders.first self.old.held } }
+    {
+        let order = orders.first?;
+        self.owed = orders.second;
+        if order.opens_epoch() {
+            self.epoch = self.epoch.saturating_add(1);
+            self.held = None;
+        }
+        Some(order)
+    }
+
+    /// Makes one step of the demand run, if the entry that it needs is held.
+    pub fn step(&mut self) -> Turn
+        requires standing { IsStanding self.old }
+        ensures made { (s : RunSetup) (k : ℕ) → is_setup s ≡ true → StandsAt s k self.old → IsStep s k self.old self.new result }
+    {
+        if self.wants() {
+            return Turn::Want;
+        }
+        if self.is_over() {
+            return Turn::Halted;
+        }
+        let at = self.at;
+        let orders = self.due();
+        turn_of(self.tell(orders), at)
+    }
+}

@@ -1,0 +1,160 @@
+-- A turn of the walk, on what the timing side keeps.
+use Rattle.std.proofs.Common.{◌≡◌, ℕ, suc, ◌+◌, ◌-◌, ◌<◌, ◌≤◌, ◌^◌, min, Bool, true, false, if◌then◌else◌, Some, List, [], length, inl, inr, refl, ap, sym, subst, ◌∙◌, arith}
+use Rattle.std.specs.Prelude.{slice_get, slice_set}
+use Rattle.std.proofs.lemmas.Option.{slice_get_cases}
+use Rattle.cache_timing.specs.declared.caches.Caches.{Caches}
+use Rattle.cache_timing.specs.Caches.{CachesState}
+use Rattle.cache_timing.specs.KeepsAll.{KeepsAll}
+use Rattle.reorder_buffer.specs.declared.slot.Slot.{Slot}
+use Rattle.reorder_buffer.specs.declared.slot.SlotState.TheVariants.{Until}
+use Rattle.reorder_buffer.specs.Window.{Contents}
+use Rattle.mono_model.specs.declared.params.Params.{Params}
+use Rattle.mono_model.specs.declared.setup.Setup.{Setup}
+use Rattle.mono_model.specs.Setup.{caches_params}
+use Rattle.mono_model.specs.Issue.{Used, none_used, latency_of, cached}
+use Rattle.rollback_cmds.specs.declared.order.Order.TheVariants.{Time}
+use Rattle.timing_laws.specs.Timing.{Timing, quiet, ordering}
+use Rattle.timing_laws.specs.Issue.{busy_divisions, may_begin, Turned, turn_of, Walked, walk, wants_time, replayed, issued, timing_issue}
+use Rattle.in_flight.specs.Flight.{older_at, may_start_at}
+use Rattle.timing_core.specs.declared.state.TimingCore.{TimingCore}
+use Rattle.timing_core.specs.Keeps.{Keeps}
+use Rattle.timing_core.proofs.Sums.{risen}
+use Rattle.timing_core.proofs.Keeping.{keeps_slots, keeps_caches}
+use Rattle.timing_core.proofs.Walks.{turn_begins, turn_rests, same_slot, walk_from, walk_starts, walk_ends, walk_turns, passes_all}
+
+-- other slots and caches, and all else as it was
+kept_with : (s : Setup) (t : Timing) (core : TimingCore) → Keeps s t core →
+    (flight : Contents) (slots : List Slot) (it : Caches) (caches : CachesState) →
+    flight.cap ≡ core.flight.cap → flight.slots ≡ slots → KeepsAll it (caches_params s.params) caches →
+    Keeps s (record t { slots = slots; caches = caches }) (record core { flight = flight; caches = it })
+kept_with s t core k flight slots it caches room same served =
+    keeps_caches s (record t { slots = slots }) (record core { flight = flight }) (keeps_slots s t core k flight slots room same) it caches served
+
+-- the core's own slots are those kept
+kept_as : (s : Setup) (t : Timing) (core : TimingCore) (slots : List Slot) (caches : CachesState) →
+    (k : Keeps s (record t { slots = slots; caches = caches }) core) → Keeps s (record t { slots = core.flight.slots; caches = caches }) core
+kept_as s t core slots caches k =
+    kept_with s (record t { slots = slots; caches = caches }) core k core.flight core.flight.slots core.caches caches refl refl k.caches
+
+-- one list has one slot at a place
+pub same_found : (held slots : List Slot) (place : ℕ) (found slot : Slot) → held ≡ slots →
+    slice_get held place ≡ Some found → slice_get slots place ≡ Some slot → found ≡ slot
+same_found held slots place found slot same there at = cc
+
+module _ (s : Setup) (t : Timing) (core : TimingCore) (place busy : ℕ) (used : Used) where
+  -- the slot's turn in the state that is kept
+  abbrev pub turn_at : Slot → Turned
+  turn_at slot = turn_of s t.cycle busy (older_at t.slots place) slot used t.caches
+
+  -- what is kept behind it
+  abbrev pub IsTurned : TimingCore → Slot → Type 0
+  IsTurned new slot = Keeps s (record t { slots = slice_set t.slots place (turn_at slot).turned; caches = (turn_at slot).caches }) new
+
+  -- whether it begins, told by the core's fields
+  pub same_test : Keeps s t core → (slot : Slot) →
+      may_begin s.params t.cycle busy (older_at t.slots place) slot used
+      ≡ may_begin core.params core.cycle busy (older_at core.flight.slots place) slot used
+  same_test k slot =
+      ap (λ (p : Params). may_begin p t.cycle busy (older_at t.slots place) slot used) (sym k.params)
+      ∙ ap (λ (cycle : ℕ). may_begin core.params cycle busy (older_at t.slots place) slot used) (sym k.cycle)
+      ∙ ap (λ (slots : List Slot). may_begin core.params core.cycle busy (older_at slots place) slot used) (sym k.slots)
+
+  pub rests : Keeps s t core → (slot : Slot) → slice_get t.slots place ≡ Some slot →
+      may_begin s.params t.cycle busy (older_at t.slots place) slot used ≡ false → IsTurned core slot
+  rests k slot at not =
+      let same = turn_rests s t.cycle busy (older_at t.slots place) slot used t.caches not in
+      let P : Turned → Type 0 = λ turned. Keeps s (record t { slots = slice_set t.slots place turned.turned; caches = turned.caches }) core in
+      subst P (sym same) (kept_with s t core k core.flight _ core.caches t.caches refl (k.slots ∙ sym (same_slot s t.cycle busy t.slots place slot at)) k.caches)
+
+  pub begins : Keeps s t core → (slot : Slot) → may_begin s.params t.cycle busy (older_at t.slots place) slot used ≡ true →
+      (flight : Contents) (it : Caches) (until : ℕ) →
+      flight ≡ record core.flight { slots = slice_set core.flight.slots place (record slot { state = Until until }) } →
+      until ≡ t.cycle + latency_of s.params slot.class + (cached s slot.cause slot.access t.caches).cycles →
+      KeepsAll it (caches_params s.params) (cached s slot.cause slot.access t.caches).state →
+      IsTurned (record core { flight = flight; caches = it }) slot
+  begins k slot is flight it until begun ends served =
+      let d = cached s slot.cause slot.access t.caches in
+      let same = turn_begins s t.cycle busy (older_at t.slots place) slot used t.caches is in
+      let P : Turned → Type 0 = λ turned. Keeps s (record t { slots = slice_set t.slots place turned.turned; caches = turned.caches }) (record core { flight = flight; caches = it }) in
+      let slots : flight.slots ≡ slice_set t.slots place (record slot { state = Until (t.cycle + latency_of s.params slot.class + d.cycles) }) =
+      ap (λ (f : Contents). f.slots) begun
+      ∙ ap (λ (held : List Slot). slice_set held place (record slot { state = Until until })) k.slots
+      ∙ ap (λ (n : ℕ). slice_set t.slots place (record slot { state = Until n })) ends in
+      subst P (sym same) (kept_with s t core k flight _ it d.state (ap (λ (f : Contents). f.cap) begun) slots served)
+
+-- the cycle in which a slot ends, by sums that stand still at their largest value
+pub end_cycle : (r middle n cycle latency added : ℕ) → middle ≡ min (n + latency) (2 ^ 64 - 1) → r ≡ min (middle + added) (2 ^ 64 - 1) →
+    n ≡ cycle → cycle < 2 ^ 63 → latency < 2 ^ 32 → added < 2 ^ 32 → r ≡ cycle + latency + added
+end_cycle r middle n cycle latency added first second same small short few =
+    risen r middle (cycle + latency) added second (risen middle n cycle latency first same (omega arith) (omega arith)) (omega arith) (omega arith)
+
+-- What the walk keeps when it has gone as far as a place: the slots are those of the core, with some caches, and from here
+-- on it comes to what the whole walk comes to.
+pub record HasWalked (s : Setup) (t : Timing) (busy : ℕ) (core : TimingCore) (place : ℕ) (used : Used) : Type 0 where
+  pub caches : CachesState
+  pub kept : Keeps s (record t { slots = core.flight.slots; caches = caches }) core
+  pub whole : walk s t.cycle busy t.slots [] none_used t.caches ≡ walk_from s t.cycle busy core.flight.slots place used caches
+
+pub walks_from_start : (s : Setup) (t : Timing) (busy : ℕ) (core : TimingCore) (used : Used) → Keeps s t core → used ≡ none_used →
+    HasWalked s t busy core 0 used
+walks_from_start s t busy core used k none = record {
+  caches = t.caches;
+  kept = kept_with s t core k core.flight core.flight.slots core.caches t.caches refl refl k.caches;
+  whole = walk_starts s t.cycle busy t.slots none_used t.caches
+      ∙ ap (λ (slots : List Slot). walk_from s t.cycle busy slots 0 none_used t.caches) (sym k.slots)
+      ∙ ap (λ (u : Used). walk_from s t.cycle busy core.flight.slots 0 u t.caches) (sym none);
+}
+
+-- on to a slot that can start, past slots that can't
+pub walks_to : (s : Setup) (t : Timing) (busy : ℕ) (core : TimingCore) (from place : ℕ) (used : Used) → HasWalked s t busy core from used → from ≤ place →
+    ((k : ℕ) → from ≤ k → k < place → may_start_at core.flight.slots k ≡ false) → HasWalked s t busy core place used
+walks_to s t busy core from place used h before not =
+    let e : from + (place - from) ≡ place = omega arith in
+    record {
+      caches = h.caches;
+      kept = h.kept;
+      whole = h.whole
+          ∙ passes_all s t.cycle busy (place - from) core.flight.slots from used h.caches (λ k above below. not k above (omega arith))
+          ∙ ap (λ (n : ℕ). walk_from s t.cycle busy core.flight.slots n used h.caches) e;
+    }
+
+-- and a turn further
+pub walks_on : (s : Setup) (t : Timing) (busy : ℕ) (core new : TimingCore) (place : ℕ) (used after : Used) (slot : Slot) → (h : HasWalked s t busy core place used) →
+    slice_get core.flight.slots place ≡ Some slot →
+    IsTurned s (record t { slots = core.flight.slots; caches = h.caches }) core place busy used new slot →
+    after ≡ (turn_at s (record t { slots = core.flight.slots; caches = h.caches }) core place busy used slot).used →
+    HasWalked s t busy new (place + 1) after
+walks_on s t busy core new place used after slot h at turned units =
+    let now = record t { slots = core.flight.slots; caches = h.caches } in
+    let made = turn_at s now core place busy used slot in
+    let e : suc place ≡ place + 1 = omega arith in
+    record {
+      caches = made.caches;
+      kept = kept_as s t new (slice_set core.flight.slots place made.turned) made.caches turned;
+      whole = h.whole
+          ∙ walk_turns s t.cycle busy core.flight.slots place slot used h.caches at
+          ∙ ap (λ (slots : List Slot). walk_from s t.cycle busy slots (suc place) made.used made.caches) (sym turned.slots)
+          ∙ ap (λ (u : Used). walk_from s t.cycle busy new.flight.slots (suc place) u made.caches) (sym units)
+          ∙ ap (λ (n : ℕ). walk_from s t.cycle busy new.flight.slots n after made.caches) e;
+    }
+
+-- behind the last slot
+pub walks_to_end : (s : Setup) (t : Timing) (core : TimingCore) (place : ℕ) (used : Used) → HasWalked s t (busy_divisions t.slots) core place used →
+    length core.flight.slots ≤ place → Keeps s (issued s t) core
+walks_to_end s t core place used h over =
+    let w = h.whole ∙ walk_ends s t.cycle (busy_divisions t.slots) core.flight.slots place used h.caches over in
+    let P : Walked → Type 0 = λ walked. Keeps s (record t { slots = walked.slots; caches = walked.caches }) core in
+    subst P (sym w) h.kept
+
+-- where one can start there is a slot
+pub starts_there : (slots : List Slot) (place : ℕ) → may_start_at slots place ≡ true → (slot : Slot) × (place < length slots) × (slice_get slots place ≡ Some slot)
+starts_there slots place can = elim (slice_get_cases slots place).1 [
+  | inl there ↦ (there.0, there.1, there.2)
+  | inr over ↦ let none = over.1 in let e = rw none at can in cc
+]
+
+-- the phase by its test
+pub issues : (s : Setup) (t : Timing) (b : Bool) → wants_time s t ≡ b →
+    timing_issue s t ≡ (if b then ordering (Time t.done t.cycle) (replayed t) else quiet (issued s t))
+unfolding timing_issue
+issues s t b is = ap (λ (x : Bool). if x then ordering (Time t.done t.cycle) (replayed t) else quiet (issued s t)) is

@@ -1,0 +1,103 @@
+-- A write to some fields of the core is that write to the state.
+use Rattle.std.proofs.Common.{◌≡◌, ℕ, Bool, List, ◌∙◌}
+use Rattle.cache_timing.specs.Caches.{CachesState}
+use Rattle.cache_timing.specs.KeepsAll.{KeepsAll}
+use Rattle.cache_timing.specs.declared.caches.Caches.{Caches}
+use Rattle.reorder_buffer.specs.declared.slot.Slot.{Slot}
+use Rattle.reorder_buffer.specs.Window.{Contents}
+use Rattle.mono_model.specs.declared.setup.Setup.{Setup}
+use Rattle.mono_model.specs.Machine as machine
+use Rattle.mono_model.specs.Setup.{caches_params}
+use Rattle.timing_laws.specs.Timing.{Timing}
+use Rattle.timing_core.specs.declared.counts.Counts.{Counts}
+use Rattle.timing_core.specs.declared.state.TimingCore.{TimingCore}
+use Rattle.timing_core.specs.Counts.{counts_in}
+use Rattle.timing_core.specs.Keeps.{Keeps}
+
+module _ (s : Setup) (t : Timing) (core : TimingCore) (k : Keeps s t core) where
+  pub keeps_counts : (x : Counts) (y : machine.Counts) → counts_in x ≡ y → Keeps s (record t { counts = y }) (record core { counts = x })
+  keeps_counts x y is = record {
+    params = k.params;
+    cycle_limit = k.cycle_limit;
+    output_limit = k.output_limit;
+    room = k.room;
+    slots = k.slots;
+    predictor = k.predictor;
+    caches = k.caches;
+    cycle = k.cycle;
+    done = k.done;
+    resume = k.resume;
+    paid = k.paid;
+    counts = is;
+    retired = k.retired;
+    output = k.output;
+    irq_on = k.irq_on;
+    cmp = k.cmp;
+    end = k.end;
+  }
+
+  pub keeps_slots : (x : Contents) (y : List Slot) → x.cap ≡ core.flight.cap → x.slots ≡ y →
+      Keeps s (record t { slots = y }) (record core { flight = x })
+  keeps_slots x y room is = record {
+    params = k.params;
+    cycle_limit = k.cycle_limit;
+    output_limit = k.output_limit;
+    room = room ∙ k.room;
+    slots = is;
+    predictor = k.predictor;
+    caches = k.caches;
+    cycle = k.cycle;
+    done = k.done;
+    resume = k.resume;
+    paid = k.paid;
+    counts = k.counts;
+    retired = k.retired;
+    output = k.output;
+    irq_on = k.irq_on;
+    cmp = k.cmp;
+    end = k.end;
+  }
+
+  pub keeps_caches : (x : Caches) (y : CachesState) → KeepsAll x (caches_params s.params) y →
+      Keeps s (record t { caches = y }) (record core { caches = x })
+  keeps_caches x y is = record {
+    params = k.params;
+    cycle_limit = k.cycle_limit;
+    output_limit = k.output_limit;
+    room = k.room;
+    slots = k.slots;
+    predictor = k.predictor;
+    caches = is;
+    cycle = k.cycle;
+    done = k.done;
+    resume = k.resume;
+    paid = k.paid;
+    counts = k.counts;
+    retired = k.retired;
+    output = k.output;
+    irq_on = k.irq_on;
+    cmp = k.cmp;
+    end = k.end;
+  }
+
+  pub keeps_irq : (on on' : Bool) (cmp cmp' : ℕ) → on ≡ on' → cmp ≡ cmp' →
+      Keeps s (record t { irq_on = on'; cmp = cmp' }) (record core { irq = record { on = on; cmp = cmp } })
+  keeps_irq on on' cmp cmp' same_on same_cmp = record {
+    params = k.params;
+    cycle_limit = k.cycle_limit;
+    output_limit = k.output_limit;
+    room = k.room;
+    slots = k.slots;
+    predictor = k.predictor;
+    caches = k.caches;
+    cycle = k.cycle;
+    done = k.done;
+    resume = k.resume;
+    paid = k.paid;
+    counts = k.counts;
+    retired = k.retired;
+    output = k.output;
+    irq_on = same_on;
+    cmp = same_cmp;
+    end = k.end;
+  }

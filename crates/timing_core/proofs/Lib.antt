@@ -1,0 +1,9 @@
+pub mod Sums
+pub mod Setups
+pub mod Keeping
+pub mod Phases
+pub mod Leaving
+pub mod Finishing
+pub mod Fetching
+pub mod Walks
+pub mod Issuing

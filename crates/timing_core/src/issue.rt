@@ -1,0 +1,136 @@
+ghost use Rattle.std.specs.Prelude.{◌≡◌};
+
+use crate::loads::load_cycles;
+use crate::orders::Orders;
+use crate::state::TimingCore;
+use crate::units::{Used, latency_of};
+use fsim_base::{Access, Class, Spot};
+use reorder_buffer::{Slot, SlotState};
+use rollback_cmds::Order;
+
+impl TimingCore {
+    ghost use Rattle.std.specs.Prelude.{ℕ, ◌-◌, ◌<◌, ◌^◌, true, Some, length, slice_get, slice_set};
+    ghost use Rattle.reorder_buffer.specs.declared.slot.Slot.{Slot as HeldSlot};
+    ghost use Rattle.mono_model.specs.declared.setup.Setup.{Setup};
+    ghost use Rattle.timing_laws.specs.Timing.{Timing};
+    ghost use Rattle.timing_laws.specs.Issue.{is_past_front, class_allows, may_begin, turn_of, wants_time, issued, timing_issue};
+    ghost use Rattle.in_flight.specs.Flight.{older_at, may_start_at};
+    ghost use Rattle.timing_core.specs.Small.{IsSmall};
+    ghost use Rattle.timing_core.specs.Orders.{orders_in};
+    ghost use Rattle.timing_core.specs.Keeps.{Keeps};
+    ghost use Rattle.timing_core.specs.Units.{used_in, kind_count};
+
+    /// The fourth phase of a cycle: slots whose operands are there and that have a unit begin to execute, from the oldest
+    /// to the youngest. But where the oldest reads the time and was given none, it is sent back to fetch for it.
+    pub fn issue(&mut self) -> Orders
+        ensures kept { (s : Setup) (t : Timing) → Keeps s t self.old → IsSmall t → Keeps s (timing_issue s t).timing self.new }
+        ensures orders { (s : Setup) (t : Timing) → Keeps s t self.old → IsSmall t → orders_in result ≡ (timing_issue s t).orders }
+    {
+        if self.wants_time() {
+            self.flush(0);
+            self.counts.replays = self.counts.replays.saturating_add(1);
+            return Orders::one(Order::Time {
+                n: self.done,
+                v: self.cycle,
+            });
+        }
+        self.issue_all();
+        Orders::none()
+    }
+
+    /// Whether the oldest slot has passed the front, and reads the time and was given none.
+    fn wants_time(&self) -> bool
+        ensures wanted { (s : Setup) (t : Timing) → Keeps s t self.now → result ≡ wants_time s t }
+    {
+        match self.flight.oldest() {
+            Some(slot) => self.is_past_front(slot) && slot.unserved,
+            None => false,
+        }
+    }
+
+    /// Whether a slot waits and has passed the front of the pipeline.
+    fn is_past_front(&self, slot: &Slot) -> bool
+        ensures passed { result ≡ is_past_front self.now.params self.now.cycle slot.now }
+    {
+        let front = u64::from(self.params.core_front);
+        match self.cycle.checked_sub(front) {
+            Some(latest) => slot.state == SlotState::Waiting && slot.fetched <= latest,
+            None => false,
+        }
+    }
+
+    /// Whether the class of the slot at a place allows it to begin: device loads and serial instructions only as the
+    /// oldest, other loads only when all older stores are done.
+    fn class_allows(&self, place: u32, slot: &Slot) -> bool
+        requires within { place < length self.now.flight.slots }
+        ensures allowed { result ≡ class_allows slot.now.class slot.now.access (older_at self.now.flight.slots place) }
+    {
+        let from_device = matches!(
+            slot.access,
+            Access::Load {
+                spot: Spot::Device,
+                ..
+            }
+        );
+        match slot.class {
+            Class::Alu | Class::Mul | Class::Div | Class::Store => true,
+            Class::Load if !from_device => self.flight.stores_done(place),
+            Class::Load | Class::Serial => place == 0,
+        }
+    }
+
+    /// Whether the slot at a place, which waits and has its operands, begins in this cycle.
+    fn may_begin(&self, place: u32, slot: &Slot, busy: u32, used: Used) -> bool
+        requires there { slice_get self.now.flight.slots place ≡ Some slot.now }
+        requires ready { may_start_at self.now.flight.slots place ≡ true }
+        ensures begins { result ≡ may_begin self.now.params self.now.cycle busy (older_at self.now.flight.slots place) slot.now (used_in used) }
+        ensures countable { result ≡ true → kind_count slot.now.class used < 2 ^ 32 - 1 }
+    {
+        self.is_past_front(slot)
+            && self.class_allows(place, slot)
+            && used.has_unit(&self.params, busy, slot.class)
+    }
+
+    /// The slot at a place, which waits and has its operands, begins where it may. The result is the units used then.
+    fn turn(&mut self, place: u32, busy: u32, used: Used) -> Used
+        requires ready { may_start_at self.old.flight.slots place ≡ true }
+        ensures kept { (s : Setup) (t : Timing) (slot : HeldSlot) → Keeps s t self.old → t.cycle < 2 ^ 63 →
+            slice_get t.slots place ≡ Some slot →
+            let turned = turn_of s t.cycle busy (older_at t.slots place) slot (used_in used) t.caches in
+            Keeps s (record t { slots = slice_set t.slots place turned.turned; caches = turned.caches }) self.new }
+        ensures used { (s : Setup) (t : Timing) (slot : HeldSlot) → Keeps s t self.old → t.cycle < 2 ^ 63 →
+            slice_get t.slots place ≡ Some slot →
+            used_in result ≡ (turn_of s t.cycle busy (older_at t.slots place) slot (used_in used) t.caches).used }
+        ensures size { length self.new.flight.slots ≡ length self.old.flight.slots }
+    {
+        let slot = *self.flight.at(place);
+        if !self.may_begin(place, &slot, busy, used) {
+            return used;
+        }
+        let added = load_cycles(&mut self.caches, &slot);
+        let latency = u64::from(latency_of(&self.params, slot.class));
+        let until = self
+            .cycle
+            .saturating_add(latency)
+            .saturating_add(u64::from(added));
+        self.flight.begin(place, until);
+        used.with(slot.class)
+    }
+
+    /// Slots begin, from the oldest to the youngest.
+    fn issue_all(&mut self)
+        ensures kept { (s : Setup) (t : Timing) → Keeps s t self.old → IsSmall t → Keeps s (issued s t) self.new }
+    {
+        let busy = self.flight.dividing();
+        let len = self.flight.len();
+        let mut used = Used::none();
+        let mut from = 0;
+        while from < len {
+            let Some(place) = self.flight.choose(from) else {
+                return;
+            };
+            used = self.turn(place, busy, used);
+            from = place + 1;
+        }
+    }
+}

@@ -1,0 +1,23 @@
+//! The phases of a cycle on the timing side, each exact against its definition.
+#![tactic(auto)]
+
+mod commit;
+mod complete;
+mod counts;
+mod fetch;
+mod interrupt;
+mod issue;
+mod loads;
+mod orders;
+mod retire;
+mod sizes;
+mod state;
+mod tick;
+mod units;
+
+pub use fetch::Tried;
+pub use orders::Orders;
+pub use state::TimingCore;
+
+#[cfg(test)]
+mod tests;

@@ -1,0 +1,102 @@
+ghost use Rattle.std.specs.Prelude.{◌≡◌, if◌then◌else◌};
+ghost use Rattle.rv_decode.specs.Decode.{decode_of};
+ghost use Rattle.cache_timing.specs.Caches.{CachesState};
+ghost use Rattle.cache_timing.specs.KeepsAll.{KeepsAll};
+ghost use Rattle.cache_timing.specs.declared.params.AllCaches.{AllCaches};
+ghost use Rattle.mono_model.specs.Found.{found_word, flow_in};
+ghost use Rattle.mono_model.specs.Commit.{branch_count, caches_after};
+
+use crate::state::TimingCore;
+use cache_timing::Caches;
+use fsim_base::{Access, Flow, Spot};
+use reorder_buffer::Slot;
+use rv_decode::decode;
+use timer_irq::IrqView;
+
+/// What a predictor may learn from the instruction of a word. A word that is none is plain.
+fn flow_of(word: u32) -> Flow
+    ensures flow { result ≡ flow_in (found_word word (decode_of word)) }
+{
+    match decode(word) {
+        Some(insn) => insn.flow(),
+        None => Flow::Plain,
+    }
+}
+
+/// How many branches, jumps included, an instruction of this flow counts as.
+fn branch_count(flow: Flow) -> u64
+    ensures count { result ≡ branch_count flow }
+{
+    match flow {
+        Flow::Plain => 0,
+        Flow::Branch | Flow::Jump => 1,
+    }
+}
+
+/// How many bytes an instruction sends.
+fn bytes_of(sends: bool) -> u64
+    ensures count { result ≡ (if sends then 1 else 0) }
+{
+    u64::from(sends)
+}
+
+/// A store to RAM accesses the data cache.
+fn store(caches: &mut Caches, slot: &Slot)
+    ensures kept { (p : AllCaches) (c : CachesState) → KeepsAll caches.old p c → KeepsAll caches.new p (caches_after p slot.now.access c) }
+{
+    if let Access::Store {
+        addr,
+        spot: Spot::Ram,
+        ..
+    } = slot.access
+    {
+        caches.store(addr);
+    }
+}
+
+impl TimingCore {
+    ghost use Rattle.std.specs.Prelude.{ℕ, ◌+◌, ◌<◌, ◌^◌, Some, drop, slice_get};
+    ghost use Rattle.mono_model.specs.declared.setup.Setup.{Setup};
+    ghost use Rattle.timing_laws.specs.Timing.{Timing};
+    ghost use Rattle.timing_laws.specs.Commit.{committed, faulted};
+    ghost use Rattle.timing_core.specs.Small.{IsAlmostSmall};
+    ghost use Rattle.timing_core.specs.Keeps.{Keeps};
+
+    /// The oldest slot leaves by its trap.
+    pub(crate) fn fault(&mut self, slot: &Slot)
+        requires oldest { slice_get self.old.flight.slots 0 ≡ Some slot.now }
+        ensures kept { (s : Setup) (t : Timing) → Keeps s t self.old → IsAlmostSmall t → Keeps s (faulted slot.now (drop 1 t.slots) t) self.new }
+    {
+        self.flight.leave();
+        self.flush(0);
+        self.pass(slot);
+        self.counts.exceptions = self.counts.exceptions.saturating_add(1);
+    }
+
+    /// The oldest slot, which has no cause, leaves.
+    pub(crate) fn retire(&mut self, slot: &Slot)
+        requires oldest { slice_get self.old.flight.slots 0 ≡ Some slot.now }
+        ensures kept { (s : Setup) (t : Timing) → Keeps s t self.old → IsAlmostSmall t → Keeps s (committed s slot.now (drop 1 t.slots) t) self.new }
+    {
+        self.flight.leave();
+        let flow = flow_of(slot.word);
+        self.predictor.train(slot.addr, flow, slot.next);
+        store(&mut self.caches, slot);
+        self.counts.branches = self.counts.branches.saturating_add(branch_count(flow));
+        self.retired = self.retired.saturating_add(1);
+        self.output = self.output.saturating_add(bytes_of(slot.sends));
+        self.pass(slot);
+    }
+
+    /// The number of the next instruction to commit, and the timer interrupt as that meets it.
+    fn pass(&mut self, slot: &Slot)
+        ensures kept { (s : Setup) (t : Timing) → Keeps s t self.old → t.done < 2 ^ 63 + 2 ^ 32 →
+            Keeps s (record t { done = t.done + 1; irq_on = slot.now.irq_on; cmp = slot.now.cmp }) self.new }
+    {
+        self.done = self.done.saturating_add(1);
+        self.irq = IrqView {
+            on: slot.irq_on,
+            cmp: slot.cmp,
+        };
+    }
+}
