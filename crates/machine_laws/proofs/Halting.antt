@@ -20,7 +20,7 @@ ticked_at_limit s m here =
     cond_both (has_ended m.end) m.end (if m.cycle + 1 == s.cycles then Limit else m.end) (λ e. has_ended e ≡ true) (λ e. e)
     (λ e. ap has_ended (cond-true (m.cycle + 1 == s.cycles) Limit m.end (eq-eqb (m.cycle + 1) s.cycles here)))
 
-cycled_on : (s : Setup) (m : Machine) → has_ended m.end ≡ false → cycled s m ≡ ticked s (phases s m)
+pub cycled_on : (s : Setup) (m : Machine) → has_ended m.end ≡ false → cycled s m ≡ ticked s (phases s m)
 unfolding cycled
 cycled_on s m on = cond-false (has_ended m.end) m (ticked s (phases s m)) on
 

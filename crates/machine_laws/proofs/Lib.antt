@@ -1,7 +1,9 @@
 mod Always
 mod DemandRun
 mod Epochs
+mod FirstEnd
 mod Making
+mod Onward
 mod Phases
 mod Reaching
 mod Room
@@ -14,11 +16,12 @@ mod SplitLists
 mod SplitNames
 mod SplitOrders
 mod SplitOutput
+mod SplitRising
 mod SplitRounds
 mod SplitRun
 mod SplitStale
 mod Staying
-mod Whole
+pub mod Whole
 pub mod Bounds
 pub mod Changes
 pub mod Commit
@@ -29,9 +32,13 @@ pub mod Fetch
 pub mod Halting
 pub mod Interrupt
 pub mod Issue
+pub mod LastOrder
+pub mod NextOrder
 pub mod Numbering
 pub mod Operands
+pub mod OrderSteps
 pub mod OutputRoom
+pub mod Owing
 pub mod Path
 pub mod Places
 pub mod RamAbove
@@ -45,6 +52,7 @@ pub mod SplitRanges
 pub mod SplitReached
 pub mod SplitSteps
 pub mod SplitTurns
+pub mod Stopping
 pub mod Telling
 pub mod TimeReads
 pub mod Tracks

@@ -4,7 +4,7 @@ use Rattle.std.proofs.lemmas.Bool.{and_parts, leb-true}
 use Rattle.mono_model.specs.declared.params.Params.{Params}
 use Rattle.mono_model.specs.declared.setup.Setup.{Setup}
 use Rattle.mono_model.specs.Ranges.{is_between, is_ram}
-use Rattle.mono_model.specs.Setup.{ram_range, is_setup, are_params, are_core, are_units, is_predictor, are_caches}
+use Rattle.mono_model.specs.Setup.{ram_range, is_setup, are_params, is_version, are_core, are_units, is_predictor, are_caches}
 
 left_true : (a b : Bool) → (a && b) ≡ true → a ≡ true
 left_true a b both = (and_parts a b both).0
@@ -24,8 +24,8 @@ ram_in_range base size is =
 params_ram : (p : Params) → are_params p ≡ true → 0x20000000 ≤ p.ram_base
 unfolding are_params
 params_ram p in_range =
-    let front : Bool = nat_le p.version 2 && is_ram p.ram_base p.ram_size in
-    ram_in_range p.ram_base p.ram_size (right_true (nat_le p.version 2) (is_ram p.ram_base p.ram_size)
+    let front : Bool = is_version p && is_ram p.ram_base p.ram_size in
+    ram_in_range p.ram_base p.ram_size (right_true (is_version p) (is_ram p.ram_base p.ram_size)
     (left_true front (are_core p)
     (left_true (front && are_core p) (are_units p)
     (left_true (front && are_core p && are_units p) (is_predictor p)

@@ -1,21 +1,22 @@
 -- What the orders told commit has room in the output.
-use Rattle.std.proofs.Common.{◌≡◌, ℕ, zero, suc, ◌≤◌, ◌<◌, Bool, true, false, Option, Some, None, List, [], ◌∷◌, ◌++◌, length, drop, refl, ap, sym, ◌∙◌, subst, arith, ⊎_elim}
+use Rattle.std.proofs.Common.{◌≡◌, ℕ, zero, suc, ◌≤◌, ◌<◌, Option, Some, None, List, [], ◌∷◌, ◌++◌, length, drop, refl, ap, sym, ◌∙◌, subst, arith, ⊎_elim}
 use Rattle.std.proofs.lemmas.Bool.{cases_order}
 use Rattle.rollback_cmds.specs.declared.order.Order.{Order}
 use Rattle.rollback_cmds.specs.declared.order.Order.TheVariants.{Set, Commit, Interrupt, Time, Stop, Sync}
 use Rattle.mono_model.specs.declared.setup.Setup.{Setup}
 use Rattle.mono_model.specs.Arch.{Arch, trapped, synced}
 use Rattle.mono_model.specs.Path.{path, path-commit, path-stop}
-use Rattle.mono_model.specs.Demand.{At, interrupting, committing, completing, issuing, trying, ending, stopping, halted, Run, turn_at, turn, step_by, step, Place, place, told, number_of}
-use Rattle.mono_model.specs.Split.{told_by, is_halted}
+use Rattle.mono_model.specs.Demand.{Place, place, told, number_of}
+use Rattle.mono_model.specs.Split.{told_by}
 use Rattle.machine_laws.specs.Numbers.{last_commit, IsAtCommit}
 use Rattle.machine_laws.specs.Telling.{with_order}
 use Rattle.machine_laws.specs.Output.{IsInRoom}
 use Rattle.machine_laws.proofs.OutputRoom.{output_within}
 use Rattle.mono_model.proofs.Path.{path_below, path_at_set, path_at_interrupt, path_at_time, path_at_sync}
 use Rattle.machine_laws.proofs.Places.{place_related}
+use Rattle.machine_laws.proofs.Owing.{place_owes}
 use Rattle.machine_laws.proofs.Staying.{done_told}
-use Rattle.machine_laws.proofs.SplitSteps.{Owes, owes_none, owes_one, step_stepped}
+use Rattle.machine_laws.proofs.SplitSteps.{Owes, owes_none, owes_one}
 use Rattle.machine_laws.proofs.Telling.{step_told}
 
 -- at its number or before it an order leaves the output
@@ -37,37 +38,6 @@ output_kept s o os n most = ⊎_elim here (λ other. ⊎_elim below (λ above. a
     below : n < number_of o → (path s (o ∷ os) n).output ≡ (path s os n).output
     below under = ap (λ (a : Arch). a.output) (path_below s o os n under)
 
--- at each place at most the opening behind a Commit isn't told yet
-halted_is : (at : At) → is_halted at ≡ true → at ≡ halted
-halted_is interrupting e = cc
-halted_is committing e = cc
-halted_is completing e = cc
-halted_is issuing e = cc
-halted_is (trying more) e = cc
-halted_is ending e = cc
-halted_is stopping e = cc
-halted_is halted e = refl
-
-by_halted : (s : Setup) (owed : ℕ) (r : Run) → is_halted r.at ≡ true → Owes (record { run = r; owed = owed }) → Owes (step_by s owed r)
-unfolding turn
-by_halted s zero r off owes =
-    owes_none (omega (arith, ap (λ (at : At). length (turn_at s at r.demand).demand.orders) (halted_is r.at off)))
-by_halted s (suc owed) r off (owes_none all) = absurd (omega arith)
-by_halted s (suc owed) r off (owes_one all m o os is opening on) = cc
-
-step_owes : (s : Setup) (p : Place) → Owes p → Owes (step s p)
-unfolding step
-step_owes s p owes = by_test (is_halted p.run.at) refl
-  where
-    by_test : (b : Bool) → is_halted p.run.at ≡ b → Owes (step s p)
-    by_test true off = by_halted s p.owed p.run off owes
-    by_test false on = (step_stepped s p on owes).owes
-
-place_owes : (s : Setup) (k : ℕ) → Owes (place s k)
-unfolding place
-place_owes s zero = owes_none refl
-place_owes s (suc k) = step_owes s (place s k) (place_owes s k)
-
 told_kept : (s : Setup) (p : Place) → Owes p → (path s p.run.demand.orders p.run.demand.done).output ≡ (path s (told p) p.run.demand.done).output
 told_kept s p (owes_none all) = ap (λ (k : ℕ). (path s (drop k p.run.demand.orders) p.run.demand.done).output) (sym all)
 told_kept s p (owes_one all m o os is opening on) =
@@ -76,7 +46,7 @@ told_kept s p (owes_one all m o os is opening on) =
     ap (λ (l : List Order). (path s l d.done).output) is ∙ output_kept s o (Commit m ∷ os) d.done (omega (arith, opening.number)) ∙ ap (λ (l : List Order). (path s l d.done).output) (sym rest)
 
 -- what is committed under the orders told has room
-told_output : (s : Setup) (k : ℕ) → length (path s (told (place s k)) (place s k).run.demand.done).output ≤ s.output
+pub told_output : (s : Setup) (k : ℕ) → length (path s (told (place s k)) (place s k).run.demand.done).output ≤ s.output
 told_output s k =
     let p = place s k in
     let d = p.run.demand in

@@ -3,7 +3,7 @@ use Rattle.std.proofs.Common.{◌≡◌, ℕ, ◌+◌, ◌*◌, ◌≤◌, ◌&&
 use Rattle.std.proofs.lemmas.Bool.{and_parts, leb-true}
 use Rattle.elf_image.specs.Sound.{is_sound}
 use Rattle.mono_model.specs.Ranges.{is_between, is_ram}
-use Rattle.mono_model.specs.Setup.{ram_range, are_core, are_units, is_predictor, are_caches, are_params, is_setup}
+use Rattle.mono_model.specs.Setup.{ram_range, is_version, are_core, are_units, is_predictor, are_caches, are_params, is_setup}
 use Rattle.mono_model.specs.declared.params.Params.{Params}
 use Rattle.mono_model.specs.declared.setup.Setup.{Setup}
 use Rattle.mono_model.specs.Split.{Split, Event, run}
@@ -24,7 +24,7 @@ pub record InRange (s : Setup) : Type 0 where
 core_is : (p : Params) → are_params p ≡ true → are_core p ≡ true
 unfolding are_params
 core_is p is =
-    let ram : Bool = nat_le p.version 2 && is_ram p.ram_base p.ram_size in
+    let ram : Bool = is_version p && is_ram p.ram_base p.ram_size in
     (and_parts ram (are_core p)
     (and_parts (ram && are_core p) (are_units p)
     (and_parts (ram && are_core p && are_units p) (is_predictor p)

@@ -11,15 +11,15 @@ use Rattle.machine_laws.proofs.Halting.{run_halts}
 use Rattle.machine_laws.proofs.Telling.{step_told}
 
 -- later places have told more
-record Grows (p q : Place) : Type 0 where
-  later : List Order
-  orders : told q ≡ later ++ told p
+pub record Grows (p q : Place) : Type 0 where
+  pub later : List Order
+  pub orders : told q ≡ later ++ told p
 
 with_order_append : (o : Option Order) (xs ys : List Order) → with_order o (xs ++ ys) ≡ with_order o xs ++ ys
 with_order_append None xs ys = refl
 with_order_append (Some o) xs ys = refl
 
-grows_on : (s : Setup) (k j : ℕ) → Grows (place s k) (place s (j + k))
+pub grows_on : (s : Setup) (k j : ℕ) → Grows (place s k) (place s (j + k))
 grows_on s k zero = let e : k ≡ zero + k = omega arith in subst (λ (n : ℕ). Grows (place s k) (place s n)) e (record { later = []; orders = refl })
 grows_on s k (suc j) =
     let e : suc (j + k) ≡ suc j + k = omega arith in
@@ -36,7 +36,7 @@ pub record Begins (s : Setup) (p : Place) : Type 0 where
   pub rest : List Order
   pub orders : orders s ≡ reverse (told p) ++ rest
 
-orders_are : (s : Setup) → orders s ≡ reverse (told (place s (step_bound s)))
+pub orders_are : (s : Setup) → orders s ≡ reverse (told (place s (step_bound s)))
 unfolding orders
 orders_are s = refl
 

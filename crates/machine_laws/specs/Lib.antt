@@ -1,6 +1,8 @@
 pub mod Relation
 pub mod Served
 pub mod Runs
+pub mod FirstEnd
+pub mod Onward
 pub mod Numbers
 pub mod Stays
 pub mod Telling
@@ -8,3 +10,6 @@ pub mod Counts
 pub mod Output
 pub mod Reached
 pub mod SplitLaw
+pub mod Told
+pub mod NextOrder
+pub mod LastOrder

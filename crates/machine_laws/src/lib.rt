@@ -5,14 +5,21 @@
 #![tactic(auto)]
 
 mod counts;
+mod end;
+mod going_on;
+mod last_order;
 mod numbers;
 mod on_path;
 mod orders;
 mod runs;
 mod split_run;
 mod stays;
+mod told;
 
 pub use counts::counts_of_a_run_agree;
+pub use end::run_ends_once;
+pub use going_on::path_goes_on_by_execution;
+pub use last_order::{list_of_orders_ends_in_stop, stop_is_told_last};
 pub use numbers::{
     numbers_of_a_run_are_bounded, orders_are_numbered_within_the_window,
     window_stays_within_its_size,
@@ -25,6 +32,14 @@ pub use runs::{
     demand_run_halts, each_cycle_is_reached, machines_of_the_demand_run_are_the_monolithic_ones,
 };
 pub use split_run::{
-    boundaries_are_reached, split_core_runs_as_the_machine, split_states_are_reached,
+    boundaries_are_reached, committed_number_never_falls, split_core_runs_as_the_machine,
+    split_states_are_reached,
 };
-pub use stays::{committed_stays, output_stays_within_its_limit, what_orders_commit_has_room};
+pub use stays::{
+    committed_stays, output_stays_within_its_limit, output_told_stays_within_its_limit,
+    what_orders_commit_has_room,
+};
+pub use told::{
+    each_order_is_told_by_a_step, needed_entry_goes_by_epoch_and_number, next_order_may_be_obeyed,
+    orders_obeyed_are_those_told,
+};

@@ -24,6 +24,13 @@ pub fn split_states_are_reached()
     ensures run { (s : Setup) (x : Split) → IsReached s x → IsRun s x }
 {}
 
+/// No event lowers the number of the first instruction that isn't committed.
+#[tactic(auto, using(crate::proofs::SplitRising::event_rises))]
+pub fn committed_number_never_falls()
+    ensures rises { (s : Setup) (e : Event) (x : Split) → IsReached s x
+        → x.committed_number ≤ (event_at s e x).committed_number }
+{}
+
 /// Every state that events lead to is brought to a boundary by the rounds that are allowed for it.
 #[tactic(auto, using(crate::proofs::SplitArriving::comes_to_boundary))]
 pub fn boundaries_are_reached()

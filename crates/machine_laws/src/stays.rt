@@ -3,6 +3,7 @@
 
 ghost use Rattle.std.specs.Prelude.{◌≡◌, ℕ, ◌≤◌, length};
 ghost use Rattle.mono_model.specs.declared.setup.Setup.{Setup};
+ghost use Rattle.mono_model.specs.Path.{path};
 ghost use Rattle.mono_model.specs.Demand.{place, told};
 ghost use Rattle.machine_laws.specs.Output.{AreInRoom};
 ghost use Rattle.machine_laws.specs.Stays.{StaysBelow, StaysAt};
@@ -19,6 +20,13 @@ pub fn committed_stays()
 #[tactic(auto, using(crate::proofs::OutputRoom::output_within))]
 pub fn output_stays_within_its_limit()
     ensures within { (s : Setup) (k : ℕ) → length (place s k).run.demand.machine.arch.output ≤ s.output }
+{}
+
+/// So has the committed output under the orders told.
+#[tactic(auto, using(crate::proofs::SplitOutput::told_output))]
+pub fn output_told_stays_within_its_limit()
+    ensures within { (s : Setup) (k : ℕ) →
+        length (path s (told (place s k)) (place s k).run.demand.done).output ≤ s.output }
 {}
 
 /// What each order commits has room in the output: the path before its number has at most the limit's bytes.

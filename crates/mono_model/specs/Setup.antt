@@ -1,5 +1,5 @@
 -- What a run depends on, and which of its values a run may have.
-use Rattle.std.specs.Prelude.{◌==◌, ◌&&◌, ◌||◌, nat_le, Bool, length}
+use Rattle.std.specs.Prelude.{◌==◌, ◌&&◌, ◌||◌, not, nat_le, Bool, length}
 use Rattle.fsim_base.specs.declared.access.RamRange.{RamRange}
 use Rattle.branch_predictor.specs.declared.params.PredParams.{PredParams}
 use Rattle.cache_timing.specs.declared.params.CacheParams.{CacheParams}
@@ -30,6 +30,14 @@ l2_params p = record { line = p.l2_line; sets = p.l2_sets; ways = p.l2_ways; mis
 abbrev pub caches_params : Params → AllCaches
 caches_params p = record { icache = icache_params p; dcache = dcache_params p; back = p.dcache_back; l2 = l2_params p; l2_hit = p.l2_hit }
 
+-- a machine of version 1 has no second level of caches, and writes each store through
+abbrev pub is_of_version_1 : Params → Bool
+is_of_version_1 p = p.version == 1 && p.l2_ways == 0 && not p.dcache_back
+
+-- the version is 1 or 2, and version 1 has nothing that came with version 2
+abbrev pub is_version : Params → Bool
+is_version p = is_of_version_1 p || p.version == 2
+
 -- the parameters are in the ranges of a machine file, key by key
 abbrev pub are_core : Params → Bool
 are_core p =
@@ -54,7 +62,8 @@ are_caches p =
 
 unfoldable pub are_params : Params → Bool
 are_params p =
-    nat_le p.version 2 && is_ram p.ram_base p.ram_size && are_core p && are_units p && is_predictor p && are_caches p
+    is_version p && is_ram p.ram_base p.ram_size && are_core p && are_units p
+    && is_predictor p && are_caches p
 
 -- a run may have this setup
 unfoldable pub is_setup : Setup → Bool

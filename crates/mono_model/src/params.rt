@@ -45,6 +45,7 @@ fn is_cache(most_sets: u32, line: u32, sets: u32, ways: u32, miss: u32) -> bool
 /// `docs/MACHINE.md` has the meaning, range and default of each.
 #[derive(Clone, Copy, Debug, PartialEq, Eq)]
 pub struct Params {
+    /// The version of the machine file, 1 or 2. Version 1 has no second level of caches and writes nothing back.
     pub version: u32,
     pub ram_base: u32,
     pub ram_size: u32,
@@ -73,29 +74,39 @@ pub struct Params {
     pub dcache_sets: u32,
     pub dcache_ways: u32,
     pub dcache_miss: u32,
-    /// The policy of the data cache: write back, or else write through.
+    /// The policy of the data cache: write back, or else write through, as under version 1.
     pub dcache_back: bool,
     pub l2_line: u32,
     pub l2_sets: u32,
+    /// The ways of the second level of caches; 0 where there is none, as under version 1.
     pub l2_ways: u32,
     pub l2_hit: u32,
     pub l2_miss: u32,
 }
 
 impl Params {
-    ghost use Rattle.mono_model.specs.Setup.{are_core, are_units, is_predictor, are_caches, are_params};
+    ghost use Rattle.mono_model.specs.Setup.{are_core, are_units, is_predictor, are_caches, is_version, are_params};
 
     /// Whether each parameter is in the range of its key in a machine file.
     #[tactic(auto, unfolding(crate::specs::Setup::are_params))]
     pub fn in_range(&self) -> bool
         ensures in_range { result ≡ are_params self.now }
     {
-        self.version <= 2
+        self.is_version_in_range()
             && is_ram(self.ram_base, self.ram_size)
             && self.is_core_in_range()
             && self.are_units_in_range()
             && self.is_predictor_in_range()
             && self.are_caches_in_range()
+    }
+
+    fn is_version_in_range(&self) -> bool
+        ensures version { result ≡ is_version self.now }
+    {
+        match self.version {
+            1 => self.l2_ways == 0 && !self.dcache_back,
+            version => version == 2,
+        }
     }
 
     fn is_core_in_range(&self) -> bool

@@ -1,0 +1,61 @@
+-- At each place at most the opening behind a Commit isn't told yet; where the run has halted nothing is, and it stands still.
+use Rattle.std.proofs.Common.{◌≡◌, ℕ, zero, suc, ◌+◌, ◌-◌, ◌≤◌, Bool, true, false, length, refl, ap, sym, ◌∙◌, subst, arith}
+use Rattle.mono_model.specs.declared.setup.Setup.{Setup}
+use Rattle.mono_model.specs.Demand.{Demand, At, interrupting, committing, completing, issuing, trying, ending, stopping, halted, run_at, turn, Place, step, place, place-suc, step_bound}
+use Rattle.mono_model.specs.Split.{is_halted}
+use Rattle.machine_laws.proofs.Halting.{run_halts}
+use Rattle.machine_laws.proofs.SplitSteps.{Owes, owes_none, owes_one, step_stepped}
+
+halted_is : (at : At) → is_halted at ≡ true → at ≡ halted
+halted_is interrupting over = cc
+halted_is committing over = cc
+halted_is completing over = cc
+halted_is issuing over = cc
+halted_is (trying more) over = cc
+halted_is ending over = cc
+halted_is stopping over = cc
+halted_is halted over = refl
+
+place_with : Demand → At → ℕ → Place
+place_with d at owed = record { run = run_at d at; owed = owed }
+
+pub still_step : (s : Setup) (p : Place) → is_halted p.run.at ≡ true → p.owed ≡ 0 → step s p ≡ p
+unfolding step turn place_with
+still_step s p over all =
+    let d : Demand = p.run.demand in
+    let here : p ≡ place_with d halted 0 = ap (λ (at : At). place_with d at p.owed) (halted_is p.run.at over) ∙ ap (place_with d halted) all in
+    let none : length d.orders - length d.orders - 1 ≡ 0 = omega arith in
+    ap (step s) here ∙ ap (place_with d halted) none ∙ sym here
+
+halted_owes : (p : Place) → is_halted p.run.at ≡ true → Owes p → p.owed ≡ 0
+halted_owes p over (owes_none all) = all
+halted_owes p over (owes_one all m o os is opening on) = cc
+
+step_owes : (s : Setup) (p : Place) → Owes p → Owes (step s p)
+step_owes s p owes = by_test (is_halted p.run.at) refl
+  where
+    by_test : (b : Bool) → is_halted p.run.at ≡ b → Owes (step s p)
+    by_test true over = subst Owes (sym (still_step s p over (halted_owes p over owes))) owes
+    by_test false on = (step_stepped s p on owes).owes
+
+pub place_owes : (s : Setup) (k : ℕ) → Owes (place s k)
+unfolding place
+place_owes s zero = owes_none refl
+place_owes s (suc k) = step_owes s (place s k) (place_owes s k)
+
+-- where it has halted all is told
+pub halted_told : (s : Setup) (k : ℕ) → is_halted (place s k).run.at ≡ true → (place s k).owed ≡ 0
+halted_told s k over = halted_owes (place s k) over (place_owes s k)
+
+pub halted_stays : (s : Setup) (k : ℕ) → is_halted (place s k).run.at ≡ true → place s (suc k) ≡ place s k
+halted_stays s k over = place-suc s k ∙ still_step s (place s k) over (halted_told s k over)
+
+still_places : (s : Setup) (k d : ℕ) → is_halted (place s k).run.at ≡ true → place s (d + k) ≡ place s k
+still_places s k zero over = ap (place s) (omega arith)
+still_places s k (suc d) over =
+    let e : suc d + k ≡ suc (d + k) = omega arith in
+    ap (place s) e ∙ place-suc s (d + k) ∙ ap (step s) (still_places s k d over) ∙ still_step s (place s k) over (halted_told s k over)
+
+-- and it is where the run ends
+pub halted_last : (s : Setup) (k : ℕ) → 1 ≤ s.cycles → is_halted (place s k).run.at ≡ true → place s k ≡ place s (step_bound s)
+halted_last s k limited over = sym (still_places s k (step_bound s) over) ∙ (run_halts s limited).still (step_bound s + k) (omega arith)

@@ -1,0 +1,4 @@
+pub mod Committed
+pub mod Goes
+pub mod Obeying
+pub mod Reporting
