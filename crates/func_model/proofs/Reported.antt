@@ -8,7 +8,7 @@ use Rattle.elf_image.proofs.Ordered.{IsSound-from_test}
 use Rattle.mono_model.specs.declared.final_state.End.{End}
 use Rattle.mono_model.specs.declared.final_state.Final.{Final}
 use Rattle.mono_model.specs.declared.setup.Setup.{Setup}
-use Rattle.mono_model.specs.Setup.{is_setup, are_params, are_core, are_units, is_predictor, are_caches, ram_range}
+use Rattle.mono_model.specs.Setup.{is_setup, are_params, is_version, are_core, are_units, is_predictor, are_caches, ram_range}
 use Rattle.mono_model.specs.Ranges.{is_between, is_ram}
 use Rattle.mono_model.specs.declared.params.Params.{Params}
 use Rattle.mono_model.specs.Arch.{Arch}
@@ -94,10 +94,10 @@ setup_ring s sound = le_true s.ring 65536 (right_true _ _ (right_true _ _ sound)
 core_window : (p : Params) → are_params p ≡ true → p.core_window ≤ 256
 unfolding are_params
 core_window p in_range =
-    let core : are_core p ≡ true = right_true (nat_le p.version 2 && is_ram p.ram_base p.ram_size) (are_core p)
-    (left_true (nat_le p.version 2 && is_ram p.ram_base p.ram_size && are_core p) (are_units p)
-    (left_true (nat_le p.version 2 && is_ram p.ram_base p.ram_size && are_core p && are_units p) (is_predictor p)
-    (left_true (nat_le p.version 2 && is_ram p.ram_base p.ram_size && are_core p && are_units p && is_predictor p) (are_caches p) in_range))) in
+    let core : are_core p ≡ true = right_true (is_version p && is_ram p.ram_base p.ram_size) (are_core p)
+    (left_true (is_version p && is_ram p.ram_base p.ram_size && are_core p) (are_units p)
+    (left_true (is_version p && is_ram p.ram_base p.ram_size && are_core p && are_units p) (is_predictor p)
+    (left_true (is_version p && is_ram p.ram_base p.ram_size && are_core p && are_units p && is_predictor p) (are_caches p) in_range))) in
     let first : Bool = is_between 1 8 p.core_fetch && is_between 1 8 p.core_commit && is_between 1 32 p.core_front in
     let window : is_between 1 256 p.core_window ≡ true = right_true first (is_between 1 256 p.core_window) (left_true (first && is_between 1 256 p.core_window) (is_between 1 256 p.core_stations) core) in
     le_true p.core_window 256 (right_true (nat_le 1 p.core_window) (nat_le p.core_window 256) window)

@@ -259,6 +259,7 @@ impl<D: Device> Walk<D> {
         requires within { HasRoom order self.old self.old.limit }
         ensures stands { (s : RunSetup) (os : List SpecOrder) → Stands s os self.old → Stands s (order ∷ os) self.new }
         ensures moved { IsObeyed order self.old self.new }
+        ensures committed_never_falls { self.old.committed ≤ self.new.committed }
     {
         match order {
             Order::Set { n, addr } => self.set(n, addr),

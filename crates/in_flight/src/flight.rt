@@ -101,8 +101,7 @@ impl InFlight {
         requires within { place < length self.now.slots }
         ensures slot { slice_get self.now.slots place ≡ Some result.now }
     {
-        let (_, slot) = self.window.at(place);
-        slot
+        self.window.slot(place)
     }
 
     /// Adds an instruction that waits, behind the others. There is room, and its number is the one behind the

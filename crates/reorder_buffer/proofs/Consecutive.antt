@@ -1,14 +1,14 @@
 -- Slots whose numbers follow one another: their indices, one slot more, and those below a number.
-use Rattle.std.proofs.Common.{◌≡◌, ℕ, zero, suc, ◌+◌, ◌-◌, ◌/◌, ◌<◌, ◌≤◌, min, nat_lt, nat_le, List, [], ◌∷◌, ◌++◌, length, get_or, take, refl, ap, ◌∙◌, arith, Option, Some, None, IfSome, IsNone, ◌↔◌, Bor, slice_get, All, inl, inr, length-append, length-take}
-use Rattle.std.proofs.Math.Nat.{div-add-mod, mul-le-mul_left, mul-suc}
+use Rattle.std.proofs.Common.{◌≡◌, ℕ, zero, suc, ◌+◌, ◌-◌, ◌/◌, ◌%◌, sym, ◌<◌, ◌≤◌, min, nat_lt, nat_le, List, [], ◌∷◌, ◌++◌, length, get_or, take, drop, subst, refl, ap, ◌∙◌, arith, Option, Some, None, IfSome, IsNone, ◌↔◌, Bor, ◌⊎◌, slice_get, All, inl, inr, length-append, length-take}
+use Rattle.std.proofs.Math.Nat.{div-add-mod, mul-le-mul_left, mul-suc, mod-eq_of_lt, mod-add-mod, add-mod_right}
 use Rattle.std.proofs.lemmas.Bool.{cases_lt}
 use Rattle.std.proofs.lemmas.List.{get_or_append_left, get_or_push, take_min}
 use Rattle.std.proofs.lemmas.List.Filters.{length-filter_both}
 use Rattle.std.proofs.lemmas.List.Sums.{length-filter}
-use Rattle.std.proofs.lemmas.Option.{slice_get-get_or}
+use Rattle.std.proofs.lemmas.Option.{slice_get-get_or, slice_get_within, get_or_from_slice_get}
 use Rattle.std.specs.Option.{option_copied}
 use Rattle.reorder_buffer.specs.declared.slot.Slot.{Slot}
-use Rattle.reorder_buffer.specs.Window.{IsConsecutive, HasOwnIndices, youngest, index_of, below_number, count_from}
+use Rattle.reorder_buffer.specs.Window.{IsConsecutive, IsFirst, HasOwnIndices, youngest, index_of, below_number, count_from}
 
 -- k places on, the number is k higher
 number_on : (slots : List Slot) → IsConsecutive slots → (i k : ℕ) (d : Slot) → i + k < length slots → (get_or slots (i + k) d).number ≡ (get_or slots i d).number + k
@@ -36,7 +36,7 @@ own_indices cap slots consecutive within = λ i j d before inside same.
     other_index cap (get_or slots i d).number (j - i) (omega arith) (omega arith) (rw (← on) same)
 
 -- a slot with the next number
-one_more : (slots : List Slot) (s : Slot) → IsConsecutive slots → IfSome (youngest slots) (λ last. s.number ≡ last.number + 1) → IsConsecutive (slots ++ s ∷ [])
+pub one_more : (slots : List Slot) (s : Slot) → IsConsecutive slots → IfSome (youngest slots) (λ last. s.number ≡ last.number + 1) → IsConsecutive (slots ++ s ∷ [])
 one_more slots s consecutive next = λ k d within.
     let long = length-append slots (s ∷ []) in
     elim (cases_lt (k + 1) (length slots)) [
@@ -104,3 +104,70 @@ oldest_none [] None same = (λ none. refl, λ empty. refl)
 oldest_none [] (Some s) same = grind arith
 oldest_none (s ∷ slots) None same = grind arith
 oldest_none (s ∷ slots) (Some t) same = (λ none. grind arith, λ empty. grind arith)
+
+-- so many places on, the index goes on, and back to 0 at the end
+pub index_on : (cap index places number : ℕ) → index < cap → places < cap - index → index ≡ index_of cap number → index + places ≡ index_of cap (number + places)
+index_on cap index places number within before is =
+    let below : index + places < cap = omega arith in
+    sym (mod-eq_of_lt below) ∙ ap (λ k. (k + places) % cap) is ∙ mod-add-mod number cap places
+
+pub index_around : (cap index places number : ℕ) → index < cap → places ≤ cap → cap - index ≤ places → index ≡ index_of cap number → places - (cap - index) ≡ index_of cap (number + places)
+index_around cap index places number within most behind is =
+    let over : index + places ≡ places - (cap - index) + cap = omega arith in
+    let below : places - (cap - index) < cap = omega arith in
+    sym (mod-eq_of_lt below) ∙ sym (add-mod_right (places - (cap - index)) cap) ∙ ap (λ k. k % cap) (sym over)
+    ∙ ap (λ k. (k + places) % cap) is ∙ mod-add-mod number cap places
+
+-- the number of a slot is that of the oldest and its place
+pub number_at : (slots : List Slot) (place : ℕ) (oldest slot : Slot) → IsConsecutive slots → slice_get slots 0 ≡ Some oldest → slice_get slots place ≡ Some slot → slot.number ≡ oldest.number + place
+number_at slots place oldest slot consecutive first there =
+    let within : place < length slots = slice_get_within slots place slot there in
+    let mine : get_or slots place slot ≡ slot = get_or_from_slice_get slots place slot slot there in
+    let theirs : get_or slots 0 slot ≡ oldest = get_or_from_slice_get slots 0 oldest slot first in
+    let on : (get_or slots place slot).number ≡ (get_or slots 0 slot).number + place = let e : 0 + place ≡ place = omega arith in rw e at (number_on slots consecutive 0 place slot (omega (arith, within))) in
+    sym (ap (λ (s : Slot). s.number) mine) ∙ on ∙ ap (λ (s : Slot). s.number + place) theirs
+
+-- What is behind the index of the oldest slot: that of a slot at a place, of the next slot, and of the oldest but one.
+abbrev pub IsBehind : ℕ → ℕ → ℕ → ℕ → Type 0
+IsBehind cap first places result = (number : ℕ) → first ≡ index_of cap number → result ≡ index_of cap (number + places)
+
+module _ (cap room first result : ℕ) (same : cap ≡ room) where
+  behind_is : (places number : ℕ) → IsBehind cap first places result → first ≡ index_of room number → result ≡ index_of room (number + places)
+  behind_is places number behind is = behind number (is ∙ ap (λ c. index_of c number) (sym same)) ∙ ap (λ c. index_of c (number + places)) same
+
+  pub place_index : (slots : List Slot) (place : ℕ) (slot : Slot) → IsConsecutive slots → IsFirst slots room first → IsBehind cap first place result →
+      slice_get slots place ≡ Some slot → result ≡ index_of room slot.number
+  place_index [] place slot consecutive is behind there = let within = slice_get_within [] place slot there in absurd (omega (arith, within))
+  place_index (s ∷ slots) place slot consecutive is behind there =
+      behind_is place s.number behind is ∙ ap (index_of room) (sym (number_at (s ∷ slots) place s slot consecutive refl there))
+
+  pub next_index : (slots : List Slot) (number : ℕ) → IsConsecutive slots → IsFirst slots room first → IsBehind cap first (length slots) result →
+      IfSome (youngest slots) (λ last. number ≡ last.number + 1) → 1 ≤ length slots → result ≡ index_of room number
+  next_index [] number consecutive is behind next some = absurd (omega (arith, some))
+  next_index (s ∷ slots) number consecutive is behind next some =
+      let last = get_or (s ∷ slots) (length slots) s in
+      let newest : slice_get (s ∷ slots) (length slots) ≡ Some last = slice_get-get_or (s ∷ slots) (length slots) s (omega arith) in
+      let at : length (s ∷ slots) - 1 ≡ length slots = omega arith in
+      let one : number ≡ last.number + 1 = rw newest at (subst (λ k. IfSome (slice_get (s ∷ slots) k) (λ l. number ≡ l.number + 1)) at next) in
+      let on : last.number ≡ s.number + length slots = number_at (s ∷ slots) (length slots) s last consecutive refl newest in
+      let e : s.number + length (s ∷ slots) ≡ number = omega (arith, one, on) in
+      behind_is (length (s ∷ slots)) s.number behind is ∙ ap (index_of room) e
+
+  pub second_index : (slots : List Slot) → IsConsecutive slots → IsFirst slots room first → IsBehind cap first 1 result → IsFirst (drop 1 slots) room result
+  second_index [] consecutive is behind = tt
+  second_index (s ∷ []) consecutive is behind = tt
+  second_index (s ∷ t ∷ slots) consecutive is behind =
+      let next : t.number ≡ s.number + 1 = consecutive 0 s (omega arith) in
+      behind_is 1 s.number behind is ∙ ap (index_of room) (sym next)
+
+pub rest_of : (slots : List Slot) → IsConsecutive slots → IsConsecutive (drop 1 slots)
+rest_of [] consecutive = consecutive
+rest_of (s ∷ slots) consecutive = rest_follows s slots consecutive
+
+-- the index of the oldest slot behind a further one
+pub first_with : (slots : List Slot) (s : Slot) (room first now : ℕ) → IsFirst slots room first →
+    ((length slots ≡ 0) × (now ≡ index_of room s.number)) ⊎ ((1 ≤ length slots) × (now ≡ first)) → IsFirst (slots ++ s ∷ []) room now
+first_with [] s room first now is (inl empty) = empty.1
+first_with [] s room first now is (inr some) = absurd (let least = some.0 in omega arith)
+first_with (t ∷ slots) s room first now is (inl empty) = absurd (let none = empty.0 in omega arith)
+first_with (t ∷ slots) s room first now is (inr some) = some.1 ∙ is

@@ -1,5 +1,5 @@
 -- The instructions in the window (Hennessy and Patterson, Computer Architecture, section 3.6, the reorder buffer).
-use Rattle.std.specs.Prelude.{◌≡◌, ◌≢◌, ℕ, ◌+◌, ◌-◌, ◌%◌, List, Option, nat_lt, nat_le, length, filter, count_by, AllPairs, slice_get}
+use Rattle.std.specs.Prelude.{◌≡◌, ◌≢◌, ℕ, ◌+◌, ◌-◌, ◌%◌, List, Option, IfSome, nat_lt, nat_le, length, filter, count_by, AllPairs, slice_get}
 use Rattle.std.specs.List.{AllAdjacentBelow}
 use Rattle.reorder_buffer.specs.declared.slot.Slot.{Slot}
 
@@ -19,6 +19,10 @@ youngest slots = slice_get slots (length slots - 1)
 -- the index of an instruction's slot: the numbers in the window follow one another and are at most cap, so each has its own
 abbrev pub index_of : ℕ → ℕ → ℕ
 index_of cap number = number % cap
+
+-- the index of the oldest slot, where there is one
+abbrev pub IsFirst : List Slot → ℕ → ℕ → Type 0
+IsFirst slots cap first = IfSome (slice_get slots 0) (λ oldest. first ≡ index_of cap oldest.number)
 
 -- no two slots have one index
 abbrev pub HasOwnIndices : ℕ → List Slot → Type 0

@@ -1,4 +1,4 @@
-ghost use Rattle.std.specs.Prelude.{◌≡◌, ◌<◌, ◌^◌};
+ghost use Rattle.std.specs.Prelude.{◌≡◌, ℕ, ◌+◌, ◌<◌, ◌≤◌, ◌^◌};
 ghost use Rattle.reorder_buffer.specs.Window.{index_of};
 
 use crate::slot::{Slot, SlotState};
@@ -12,17 +12,21 @@ use std::marker::Model;
 #[derive(Debug, Drop)]
 pub struct Window {
     slots: HeapCircularBuffer<Slot>,
+    /// The index of the oldest slot, where there is one.
+    first: u32,
 }
 
 impl Model for Window {
     ghost use Rattle.std.specs.Prelude.{◌<◌, ◌^◌};
-    ghost use Rattle.reorder_buffer.specs.Window.{Contents, IsConsecutive};
+    ghost use Rattle.reorder_buffer.specs.Window.{Contents, IsConsecutive, IsFirst};
 
     ghost Value = { Contents };
 
     ghost view = { λ w. record { cap = w.slots.capacity; slots = w.slots.items } };
 
-    ghost invariant = { λ w. (w.slots.capacity < 2 ^ 32) × IsConsecutive w.slots.items };
+    ghost invariant = { λ w. ((w.slots.capacity < 2 ^ 32)
+        × IsFirst w.slots.items w.slots.capacity w.first)
+        × IsConsecutive w.slots.items };
 }
 
 impl Window {
@@ -35,7 +39,7 @@ impl Window {
         ensures opening { IfOk result (λ w. w ≡ record { cap = cap; slots = [] }) }
     {
         match HeapCircularBuffer::with_capacity(alloc, cap as usize) {
-            Ok(slots) => Ok(Window { slots }),
+            Ok(slots) => Ok(Window { slots, first: 0 }),
             Err(_) => Err(NoMemory),
         }
     }
@@ -69,10 +73,28 @@ impl Window {
         ensures below { result < self.old.cap }
         ensures free { All (λ held. index_of self.old.cap held.number ≢ result) self.old.slots }
     {
-        let index = index_in(self.slots.capacity(), s.number);
+        let index = self.next_index(s.number);
+        if self.slots.is_empty() {
+            self.first = index;
+        }
         // There is room, so this is Ok.
         let _ = self.slots.try_push_back(s);
         index
+    }
+
+    /// The index of a further slot of this number.
+    fn next_index(&self, number: u64) -> u32
+        requires room { length self.now.slots < self.now.cap }
+        requires next { IfSome (youngest self.now.slots) (λ last. number ≡ last.number + 1) }
+        ensures index { result ≡ index_of self.now.cap number }
+        ensures below { result < self.now.cap }
+    {
+        let cap = self.slots.capacity();
+        let held = self.slots.len();
+        if held == 0 {
+            return index_in(cap, number);
+        }
+        index_behind(cap as u32, self.first, held as u32)
     }
 
     /// The index and the slot at a place, counted from the oldest at 0.
@@ -83,7 +105,16 @@ impl Window {
         ensures below { result.0 < self.now.cap }
     {
         let slot = self.slots.get(place as usize).unwrap();
-        (index_in(self.slots.capacity(), slot.number), slot)
+        let cap = self.slots.capacity() as u32;
+        (index_behind(cap, self.first, place), slot)
+    }
+
+    /// The slot at a place, counted from the oldest at 0.
+    pub fn slot(&self, place: u32) -> &Slot
+        requires { place < length self.now.slots }
+        ensures slot { slice_get self.now.slots place ≡ Some result.now }
+    {
+        self.slots.get(place as usize).unwrap()
     }
 
     /// Sets the state of the slot at a place, counted from the oldest at 0, and nothing else.
@@ -111,6 +142,7 @@ impl Window {
         requires { 0 < length self.old.slots }
         ensures popped { self.new ≡ record self.old { slots = drop 1 self.old.slots } }
     {
+        self.first = index_behind(self.slots.capacity() as u32, self.first, 1);
         let _ = self.slots.pop_front();
     }
 
@@ -147,4 +179,20 @@ fn index_in(cap: usize, number: u64) -> u32
     ensures below { result < cap }
 {
     (number % cap as u64) as u32
+}
+
+/// The index so many places behind one, in a window of this room.
+fn index_behind(cap: u32, index: u32, places: u32) -> u32
+    requires index { index < cap }
+    requires places { places ≤ cap }
+    ensures behind { (number : ℕ) → index ≡ index_of cap number
+        → result ≡ index_of cap (number + places) }
+    ensures below { result < cap }
+{
+    let to_end = cap - index;
+    if places < to_end {
+        index + places
+    } else {
+        places - to_end
+    }
 }

@@ -7,3 +7,5 @@ pub mod Kept
 pub mod Reading
 pub mod Leaving
 pub mod Entering
+pub mod Lowest
+pub mod Noted

@@ -2,3 +2,4 @@ pub mod Readiness
 pub mod Mask
 pub mod Keeps
 pub mod Changes
+pub mod Covers

@@ -1,5 +1,7 @@
 //! A set of slots in four words.
-ghost use Rattle.std.specs.Prelude.{◌≡◌, ◌↔◌, ◌<◌, ◌==◌, ◌&&◌, ◌||◌, not, ℕ, IsTrue, false};
+ghost use Rattle.std.specs.Prelude.{◌≡◌, ◌↔◌, ◌<◌, ◌≤◌, ◌==◌, ◌&&◌, ◌||◌, not, ℕ, IsTrue, false};
+ghost use Rattle.std.specs.Prelude.{IfSome, IfNone};
+ghost use Rattle.std.specs.Int.{bit_at};
 ghost use Rattle.std.specs.Option.{ForSome};
 ghost use Rattle.reservation_stations.specs.Mask.{holds, is_slot};
 
@@ -40,6 +42,25 @@ impl Mask {
         self.words[(slot / 64) as usize] &= !(1 << (slot % 64));
     }
 
+    /// The first slot in the set from one on.
+    pub fn next(&self, from: u32) -> Option<u32>
+        ensures behind { IfSome result (λ slot. (from ≤ slot) × (slot < 256)) }
+        ensures found { IfSome result (λ slot. IsTrue (holds self.now slot)) }
+        ensures first { IfSome result (λ slot. (k : ℕ) → from ≤ k → k < slot →
+            holds self.now k ≡ false) }
+        ensures none { IfNone result ((k : ℕ) → from ≤ k → k < 256 → holds self.now k ≡ false) }
+    {
+        let mut at = from;
+        while at < 256 {
+            let word = at / 64;
+            match lowest(self.words[word as usize], at % 64) {
+                Some(bit) => return Some(word * 64 + bit),
+                None => at = word * 64 + 64,
+            }
+        }
+        None
+    }
+
     /// Whether no slot is in the set.
     pub fn is_empty(&self) -> bool
         ensures empty { IsTrue result ↔ ((slot : ℕ) → holds self.now slot ≡ false) }
@@ -47,4 +68,18 @@ impl Mask {
         let [first, second, third, fourth] = self.words;
         first | second | third | fourth == 0
     }
+}
+
+/// The lowest 1 of a word from a bit on.
+fn lowest(word: u64, from: u32) -> Option<u32>
+    requires within { from < 64 }
+    ensures found { IfSome result (λ bit. (from ≤ bit) × (bit < 64) × (bit_at word bit ≡ 1)) }
+    ensures first { IfSome result (λ bit. (k : ℕ) → from ≤ k → k < bit → bit_at word k ≡ 0) }
+    ensures none { IfNone result ((k : ℕ) → from ≤ k → bit_at word k ≡ 0) }
+{
+    let rest = word >> from;
+    if rest == 0 {
+        return None;
+    }
+    Some(from + rest.trailing_zeros())
 }

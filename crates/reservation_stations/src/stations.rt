@@ -1,7 +1,7 @@
 use crate::entry::Entry;
 use crate::mask::Mask;
 use crate::station::Mark;
-use crate::tables::{drop_producer, forget, release, set_producer, uncounted};
+use crate::tables::{drop_producer, forget, note, release, set_producer, uncounted};
 use circular_buffer::HeapCircularBuffer;
 use fsim_base::NoMemory;
 use std::alloc::Global;
@@ -17,6 +17,8 @@ pub struct Stations {
     order: HeapCircularBuffer<u32>,
     /// What each slot keeps of the record that holds it.
     entries: Vec<Entry>,
+    /// For each slot, at least those whose records wait for its record or displaced it.
+    dependents: Vec<Mask>,
     /// The slot of each register's producer, where it has one.
     producers: Vec<Option<u32>>,
     /// How many records wait.
@@ -26,12 +28,15 @@ pub struct Stations {
 impl Model for Stations {
     ghost use Rattle.reservation_stations.specs.Readiness.{Window};
     ghost use Rattle.reservation_stations.specs.Keeps.{Keeps, stations_at, entry_at};
+    ghost use Rattle.reservation_stations.specs.Covers.{AreCovered};
 
     ghost Value = { Window };
 
     ghost view = { λ s. record { window = s.order.capacity; stations = stations_at (entry_at s.entries.items) s.order.items } };
 
-    ghost invariant = { λ s. Keeps s.order.capacity s.order.items s.entries.items s.producers.items s.waiting };
+    ghost invariant = { λ s.
+        Keeps s.order.capacity s.order.items s.entries.items s.producers.items s.waiting
+        × AreCovered s.entries.items s.dependents.items };
 }
 
 impl Stations {
@@ -51,12 +56,16 @@ impl Stations {
         let Ok(entries) = vec![in alloc; Entry::free(); window as usize] else {
             return Err(NoMemory);
         };
+        let Ok(dependents) = vec![in alloc; Mask::none(); window as usize] else {
+            return Err(NoMemory);
+        };
         let Ok(producers) = vec![in alloc; None; 256] else {
             return Err(NoMemory);
         };
         Ok(Stations {
             order,
             entries,
+            dependents,
             producers,
             waiting: 0,
         })
@@ -110,16 +119,18 @@ impl Stations {
           stations = self.old.stations ++ entered slot sources.0 sources.1 destination ∷ [];
         } }
     {
-        let waits = Mask::none()
-            .with(self.awaited(sources.0))
-            .with(self.awaited(sources.1));
+        let first = self.awaited(sources.0);
+        let second = self.awaited(sources.1);
         let displaced = self.producer(destination);
+        note(&mut self.dependents, first, slot);
+        note(&mut self.dependents, second, slot);
+        note(&mut self.dependents, displaced, slot);
         self.entries[slot as usize] = Entry {
             first: sources.0,
             second: sources.1,
             destination,
             mark: Mark::Waiting,
-            waits,
+            waits: Mask::none().with(first).with(second),
             displaced,
         };
         set_producer(&mut self.producers, destination, Some(slot));
@@ -161,7 +172,7 @@ impl Stations {
             self.entries[slot as usize].mark = Mark::Faulted;
         } else {
             self.entries[slot as usize].mark = Mark::Done;
-            release(&mut self.entries, slot);
+            release(&mut self.entries, &self.dependents, slot);
         }
     }
 
@@ -176,7 +187,8 @@ impl Stations {
             ..
         } = self.entries[slot as usize];
         let _ = self.order.pop_front();
-        forget(&mut self.entries, slot);
+        forget(&mut self.entries, &self.dependents, slot);
+        self.dependents[slot as usize] = Mask::none();
         drop_producer(&mut self.producers, destination, slot);
         self.waiting = uncounted(self.waiting, mark);
     }

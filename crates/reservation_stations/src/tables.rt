@@ -1,28 +1,59 @@
 //! What changes at many entries at once, and at the producer of a register.
 ghost use Rattle.std.specs.Prelude.{◌≡◌, ◌<◌, ◌≤◌, ◌+◌, vec_len, if◌then◌else◌};
+ghost use Rattle.std.specs.Option.{ForSome};
 ghost use Rattle.reservation_stations.specs.Readiness.{is_waiting};
 ghost use Rattle.reservation_stations.specs.Changes.{Releases, Forgets, EachChanges, without, with_producer, producer_at};
+ghost use Rattle.reservation_stations.specs.Covers.{AreCovered, Notes};
 
 use crate::entry::Entry;
+use crate::mask::Mask;
 use crate::station::Mark;
 
-/// Lets every entry wait no longer for a slot.
-pub fn release(entries: &mut Vec<Entry>, slot: u32)
+/// Notes a slot among those that depend on another one, if one is given.
+pub fn note(dependents: &mut Vec<Mask>, on: Option<u32>, slot: u32)
     requires within { slot < 256 }
-    ensures released { EachChanges (Releases slot) entries.old.items entries.new.items }
+    requires inside { ForSome on (λ other. other < vec_len dependents.old) }
+    ensures noted { Notes slot on dependents.old.items dependents.new.items }
 {
-    for entry in entries.iter_mut() {
-        entry.release(slot);
+    if let Some(on) = on {
+        dependents[on as usize] = dependents[on as usize].with(Some(slot));
     }
 }
 
-/// Lets every entry forget a slot whose record leaves the window.
-pub fn forget(entries: &mut Vec<Entry>, slot: u32)
-    requires within { slot < 256 }
+/// Lets every entry wait no longer for a slot. Those that depend on it are the only ones that may.
+pub fn release(entries: &mut Vec<Entry>, dependents: &Vec<Mask>, slot: u32)
+    requires within { slot < vec_len entries.old }
+    requires limit { vec_len entries.old ≤ 256 }
+    requires covered { AreCovered entries.old.items dependents.now.items }
+    ensures released { EachChanges (Releases slot) entries.old.items entries.new.items }
+{
+    let waiting = dependents[slot as usize];
+    let mut from = 0;
+    while from < 256 {
+        let Some(place) = waiting.next(from) else {
+            return;
+        };
+        entries[place as usize].release(slot);
+        from = place + 1;
+    }
+}
+
+/// Lets every entry forget a slot whose record leaves the window. Those that depend on it are the only
+/// ones that know it.
+pub fn forget(entries: &mut Vec<Entry>, dependents: &Vec<Mask>, slot: u32)
+    requires within { slot < vec_len entries.old }
+    requires limit { vec_len entries.old ≤ 256 }
+    requires covered { AreCovered entries.old.items dependents.now.items }
     ensures forgotten { EachChanges (Forgets slot) entries.old.items entries.new.items }
 {
-    for entry in entries.iter_mut() {
-        entry.forget(slot);
+    let knowing = dependents[slot as usize];
+    let mut from = 0;
+    while from < 256 {
+        let Some(place) = knowing.next(from) else {
+            return;
+        };
+        entries[place as usize].forget(slot);
+        from = place + 1;
     }
 }
 

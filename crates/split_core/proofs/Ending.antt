@@ -1,15 +1,13 @@
 -- The way to the end of the run.
-use Rattle.std.proofs.Common.{◌≡◌, ◌⊎◌, ◌≤◌, ◌+◌, ◌-◌, ◌==◌, ◌&&◌, not, ℕ, zero, suc, Bool, true, false, is_none, if◌then◌else◌, Option, Some, None, List, [], ◌∷◌, length, drop, nat_lt, refl, ap, sym, ◌∙◌, subst, arith, inl, inr}
+use Rattle.std.proofs.Common.{◌≡◌, ◌⊎◌, ◌≤◌, ◌+◌, ◌==◌, ◌&&◌, not, ℕ, zero, suc, Bool, true, false, is_none, if◌then◌else◌, Option, Some, None, List, [], ◌∷◌, length, nat_lt, refl, ap, sym, ◌∙◌, subst, arith, inl, inr}
 use Rattle.std.proofs.lemmas.Bool.{cond-true, cond_both, and_parts, eqb-true}
 use Rattle.rollback_cmds.specs.declared.order.Order.{Order}
 use Rattle.rollback_cmds.specs.declared.order.Order.TheVariants.{Set, Commit, Interrupt, Time, Stop, Sync}
 use Rattle.trace_entry.specs.declared.Entry.{Entry}
 use Rattle.mono_model.specs.declared.setup.Setup.{Setup}
 use Rattle.mono_model.specs.Setup.{is_setup}
-use Rattle.mono_model.specs.Final.{has_ended}
-use Rattle.mono_model.specs.Fetch.{Try, misses, appends, turns, may_fetch, fetch_try}
 use Rattle.mono_model.specs.Path.{has_stop}
-use Rattle.mono_model.specs.Demand.{Demand, At, interrupting, committing, completing, issuing, trying, ending, stopping, halted, Run, run_at, try_or_end, tried_turn, turn_at, turn, Place, step_by, step, place, place-suc, told, step_bound, needs_entry, is_try}
+use Rattle.mono_model.specs.Demand.{At, interrupting, committing, completing, issuing, trying, ending, stopping, halted, Place, step, place, place-suc, told, step_bound, needs_entry, is_try}
 use Rattle.mono_model.specs.Split.{Split, Event, compute, push, obey, tick, take, send, event_at, may_compute, may_tick, pushed, on_obey, obeys, may_take, on_take, sent, ticked_to, is_halted, is_cycle_start, is_place_boundary, is_boundary, round, rounds_to_boundary, to_boundary, boundary_rounds}
 use Rattle.machine_laws.specs.Runs.{Halts}
 use Rattle.machine_laws.specs.Reached.{IsReached}
@@ -17,85 +15,12 @@ use Rattle.machine_laws.specs.SplitLaw.{IsRun, IsLevel}
 use Rattle.machine_laws.proofs.Halting.{run_halts}
 use Rattle.machine_laws.proofs.SplitReached.{event_reached, boundary_reached, reached_run}
 use Rattle.machine_laws.proofs.SplitArriving.{comes_to_boundary}
-use Rattle.machine_laws.proofs.SplitEntries.{Holds, run_holds}
-use Rattle.machine_laws.proofs.SplitCounts.{none_stops}
+use Rattle.machine_laws.proofs.Stopping.{stop_told, halted_last}
 use Rattle.split_core.specs.declared.state.SplitState.{SplitState}
 use Rattle.split_core.specs.Stands.{StandsFor, Leads, IsStanding, IsEnded}
 use Rattle.split_core.proofs.Standing.{Agrees, agrees, after_event, none_is}
 use Rattle.split_core.proofs.Ranges.{setup_ring_some, setup_cycles_some}
 use Rattle.split_core.proofs.Playing.{after_rounds}
-
--- A run that has halted has told its last order.
-abbrev HasStopped : Run → Type 0
-HasStopped r = is_halted r.at ≡ true → has_stop r.demand.orders ≡ true
-
-by_test : (b : Bool) (p q : At) → is_halted p ≡ false → is_halted q ≡ false → is_halted (if b then p else q) ≡ false
-by_test true p q off other = off
-by_test false p q off other = other
-
-on_try : (s : Setup) (n : ℕ) (d : Demand) → is_halted (try_or_end s n d) ≡ false
-on_try s zero d = refl
-on_try s (suc more) d = by_test (may_fetch s d.machine) (trying more) ending refl refl
-
-runs_on : (b c : Bool) → b ≡ false → b ≡ true → c ≡ true
-runs_on b c off on = let e : false ≡ true = sym off ∙ on in cc
-
-tried_stops : (s : Setup) (t : Try) (more : ℕ) (d : Demand) → is_halted (tried_turn s t more d).at ≡ false
-tried_stops s (misses behind) more d = refl
-tried_stops s (appends behind) more d = on_try s more _
-tried_stops s (turns behind) more d = refl
-
-turn_stops : (s : Setup) (at : At) (d : Demand) → HasStopped (run_at d at) → HasStopped (turn_at s at d)
-turn_stops s interrupting d is = λ over. cc
-turn_stops s committing d is = λ over. runs_on _ _ (by_test (has_ended (turn_at s committing d).demand.machine.end) ending completing refl refl) over
-turn_stops s completing d is = λ over. cc
-turn_stops s issuing d is = λ over. runs_on _ _ (on_try s s.params.core_fetch (turn_at s issuing d).demand) over
-turn_stops s (trying more) d is = λ over. runs_on _ _ (tried_stops s (fetch_try s d.machine) more d) over
-turn_stops s ending d is = λ over. runs_on _ _ (by_test (has_ended (turn_at s ending d).demand.machine.end) stopping interrupting refl refl) over
-turn_stops s stopping d is = λ over. refl
-turn_stops s halted d is = is
-
-step_stops : (s : Setup) (owed : ℕ) (r : Run) → HasStopped r → HasStopped (step_by s owed r).run
-unfolding turn
-step_stops s zero r is = turn_stops s r.at r.demand is
-step_stops s (suc owed) r is = is
-
-place_stops : (s : Setup) (k : ℕ) → HasStopped (place s k).run
-unfolding place step
-place_stops s zero = λ over. cc
-place_stops s (suc k) = step_stops s (place s k).owed (place s k).run (place_stops s k)
-
--- It stands still there.
-halted_is : (at : At) → is_halted at ≡ true → at ≡ halted
-halted_is interrupting over = cc
-halted_is committing over = cc
-halted_is completing over = cc
-halted_is issuing over = cc
-halted_is (trying more) over = cc
-halted_is ending over = cc
-halted_is stopping over = cc
-halted_is halted over = refl
-
-place_with : Demand → At → ℕ → Place
-place_with d at owed = record { run = run_at d at; owed = owed }
-
-still_step : (s : Setup) (p : Place) → is_halted p.run.at ≡ true → p.owed ≡ 0 → step s p ≡ p
-unfolding step turn place_with
-still_step s p over all =
-    let d : Demand = p.run.demand in
-    let here : p ≡ place_with d halted 0 = ap (λ (at : At). place_with d at p.owed) (halted_is p.run.at over) ∙ ap (place_with d halted) all in
-    let none : length d.orders - length d.orders - 1 ≡ 0 = omega arith in
-    ap (step s) here ∙ ap (place_with d halted) none ∙ sym here
-
-still_places : (s : Setup) (k d : ℕ) → is_halted (place s k).run.at ≡ true → (place s k).owed ≡ 0 → place s (d + k) ≡ place s k
-still_places s k zero over all = ap (place s) (omega arith)
-still_places s k (suc d) over all =
-    let e : suc d + k ≡ suc (d + k) = omega arith in
-    ap (place s) e ∙ place-suc s (d + k) ∙ ap (step s) (still_places s k d over all) ∙ still_step s (place s k) over all
-
-last_place : (s : Setup) (k : ℕ) → 1 ≤ s.cycles → is_halted (place s k).run.at ≡ true → (place s k).owed ≡ 0 → place s k ≡ place s (step_bound s)
-last_place s k limited over all =
-    sym (still_places s k (step_bound s) over all) ∙ (run_halts s limited).still (step_bound s + k) (omega arith)
 
 -- An event leaves the timing side at its place, or makes its step.
 obeys_place : (o : Order) (x : Split) → (obeys o x).place ≡ x.place
@@ -186,26 +111,15 @@ boundary_is s x reached at =
       stopped = run.counted.stopped ∙ ap has_stop level.obeyed;
     }
 
-not_over : (s : Setup) (x : Split) → IsReached s x → is_halted x.place.run.at ≡ false → has_stop (told x.place) ≡ false
-not_over s x reached off =
-    let is : Holds s x = subst (Holds s) (sym reached.is) (run_holds s reached.events) in
-    none_stops (told x.place) (is.ahead.going off)
-
-over_by : (s : Setup) (x : Split) → IsReached s x → has_stop (told x.place) ≡ true → (b : Bool) → is_halted x.place.run.at ≡ b → is_halted x.place.run.at ≡ true
-over_by s x reached stopped true is = is
-over_by s x reached stopped false is = let e : false ≡ true = sym (not_over s x reached is) ∙ stopped in cc
-
-stops_over : (s : Setup) (k : ℕ) (p : Place) → p ≡ place s k → is_halted p.run.at ≡ true → p.owed ≡ 0 → has_stop (told p) ≡ true
-stops_over s k p is over all =
-    ap (λ (n : ℕ). has_stop (drop n p.run.demand.orders)) all
-    ∙ ap (λ (q : Place). has_stop q.run.demand.orders) is
-    ∙ place_stops s k (ap (λ (q : Place). is_halted q.run.at) (sym is) ∙ over)
+-- the timing side has told its last order exactly where it has halted
+stop_at : (s : Setup) (k : ℕ) (p : Place) → p ≡ place s k → has_stop (told p) ≡ is_halted p.run.at
+stop_at s k p is = subst (λ (q : Place). has_stop (told q) ≡ is_halted q.run.at) (sym is) (stop_told s k)
 
 ended_at : {D : Type 0} (s : Setup) (x : Split) (state : SplitState D) → 1 ≤ s.cycles → IsReached s x → StandsFor s x state → is_boundary x ≡ true → is_halted x.place.run.at ≡ true → IsEnded s state
 ended_at s x state limited reached h at over =
     let here : AtBoundary s x = boundary_is s x reached at in
     let last : x.place ≡ place s (step_bound s) =
-    h.place ∙ last_place s h.behind limited (ap (λ (p : Place). is_halted p.run.at) (sym h.place) ∙ over) (ap (λ (p : Place). p.owed) (sym h.place) ∙ here.all) in
+    h.place ∙ halted_last s h.behind limited (ap (λ (p : Place). is_halted p.run.at) (sym h.place) ∙ over) in
     record {
       split = x;
       reached = reached;
@@ -213,7 +127,7 @@ ended_at s x state limited reached h at over =
       place = last;
       machine = ap (λ (p : Place). p.run.demand.machine) last ∙ (run_halts s limited).machine;
       boundary = at;
-      stopped = here.stopped ∙ stops_over s h.behind x.place h.place over here.all;
+      stopped = here.stopped ∙ stop_at s h.behind x.place h.place ∙ over;
     }
 
 -- a step is made at a boundary, until the run is over
@@ -283,7 +197,7 @@ module _ {D : Type 0} (passed : ℕ) (old state there : SplitState D) (is : Goin
       let here : AtBoundary s gone.split = boundary_is s gone.split gone.reached at in
       let same : Agrees gone.split there = agrees s gone.split there gone.reached gone.stands in
       ended_at s gone.split there (setup_cycles_some s sound) gone.reached gone.stands at
-      (over_by s gone.split gone.reached (sym here.stopped ∙ sym same.stopped ∙ stopped) (is_halted gone.split.place.run.at) refl)
+      (sym (stop_at s gone.stands.behind gone.split.place gone.stands.place) ∙ sym here.stopped ∙ sym same.stopped ∙ stopped)
 
   pub going_on : (new : SplitState D) → there.func.is_stopped ≡ false → Leads (λ s x. event_at s tick x) there new → Going (passed + 1) old new
   going_on new running ticked = record {
@@ -293,7 +207,7 @@ module _ {D : Type 0} (passed : ℕ) (old state there : SplitState D) (is : Goin
         let at : is_boundary gone.split ≡ true = at_boundary s x sound reached h in
         let here : AtBoundary s gone.split = boundary_is s gone.split gone.reached at in
         let same : Agrees gone.split there = agrees s gone.split there gone.reached gone.stands in
-        let off : is_halted gone.split.place.run.at ≡ false = on_by s gone.split gone.stands here (sym same.stopped ∙ running) (is_halted gone.split.place.run.at) refl in
+        let off : is_halted gone.split.place.run.at ≡ false = sym (stop_at s gone.stands.behind gone.split.place gone.stands.place) ∙ sym here.stopped ∙ sym same.stopped ∙ running in
         let least = gone.from.least in
         record {
           split = event_at s tick gone.split;
@@ -306,10 +220,6 @@ module _ {D : Type 0} (passed : ℕ) (old state there : SplitState D) (is : Goin
           };
         };
   }
-    where
-      on_by : (s : Setup) (y : Split) → StandsFor s y there → AtBoundary s y → y.is_stopped ≡ false → (b : Bool) → is_halted y.place.run.at ≡ b → is_halted y.place.run.at ≡ false
-      on_by s y h here running false is = is
-      on_by s y h here running true is = let e : true ≡ false = sym (stops_over s h.behind y.place h.place is here.all) ∙ sym here.stopped ∙ running in cc
 
   pub all_passed_ends : ((s : Setup) (x : Split) → StandsFor s x old → step_bound s ≤ passed) → (s : Setup) (x : Split) → is_setup s ≡ true → IsReached s x → StandsFor s x old → IsEnded s there
   all_passed_ends all = λ s x sound reached h.

@@ -9,3 +9,4 @@ pub mod Playing
 pub mod Ending
 pub mod Reporting
 pub mod Opening
+pub mod OnDemand

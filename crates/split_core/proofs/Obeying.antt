@@ -1,46 +1,25 @@
 -- The functional side obeys an order.
-use Rattle.std.proofs.Common.{◌≡◌, ◌<◌, ◌≤◌, ◌+◌, ◌^◌, ℕ, true, if◌then◌else◌, length, Option, Some, None, List, [], ◌∷◌, drop, slice_get, refl, ap, sym, ◌∙◌, subst, arith}
+use Rattle.std.proofs.Common.{◌≡◌, ◌≤◌, if◌then◌else◌, Option, Some, None, List, [], ◌∷◌, drop, slice_get, refl, ap, sym, ◌∙◌, subst, arith}
 use Rattle.circular_buffer.specs.Buffer.{Buffer, buffer}
 use Rattle.rollback_cmds.specs.declared.order.Order.{Order}
 use Rattle.rollback_cmds.specs.declared.order.Order.TheVariants.{Set, Commit, Interrupt, Time, Stop, Sync}
 use Rattle.rollback_cmds.specs.Order.{opens_epoch_of}
 use Rattle.trace_entry.specs.declared.Entry.{Entry}
 use Rattle.mono_model.specs.declared.setup.Setup.{Setup}
-use Rattle.mono_model.specs.Path.{path}
 use Rattle.mono_model.specs.Demand.{number_of}
 use Rattle.mono_model.specs.Split.{Split, obey, obeys, on_obey, event_at}
-use Rattle.machine_laws.specs.Output.{IsInRoom}
-use Rattle.machine_laws.specs.SplitLaw.{IsRun, MayObey, IsRanged}
+use Rattle.machine_laws.specs.SplitLaw.{IsRun, IsRanged, MayObey as MayObeyListed}
 use Rattle.machine_laws.proofs.SplitReached.{reached_run}
 use Rattle.func_model.specs.declared.walk.Walk.{Walk}
-use Rattle.func_model.specs.Walk.{Stands, IsObeyed, HasRoom, position_by, bytes_before}
-use Rattle.func_model.proofs.Outputs.{bytes_before_is}
+use Rattle.func_model.specs.Walk.{Stands, IsObeyed, position_by}
+use Rattle.side_laws.specs.Along.{MayObey}
+use Rattle.side_laws.proofs.Obeying.{has_room}
 use Rattle.split_core.specs.declared.state.SplitState.{SplitState}
 use Rattle.split_core.specs.Stands.{StandsFor, IsStanding}
-use Rattle.split_core.proofs.Standing.{Agrees, agrees, ranged, still_stands, front_is, no_front}
+use Rattle.split_core.proofs.Standing.{Agrees, agrees, ranged, position_small, epoch_small, still_stands, front_is, no_front}
 
--- what it needs of the oldest order that is listed
-pub record CanObey {D : Type 0} (order : Order) (func : Walk D) : Type 0 where
-  pub reach : func.is_stopped ≡ true → number_of order ≤ func.position
-  pub from : func.committed ≤ number_of order
-  pub room : number_of order ≤ func.committed + func.journal.room
-  pub number : number_of order < 2 ^ 62
-  pub within : HasRoom order func func.limit
-
-module _ {D : Type 0} (s : Setup) (os : List Order) (func : Walk D) (stands : Stands s os func) where
-  fits : (n : ℕ) → func.committed ≤ n → n ≤ func.position → length (path s os n).output ≤ s.output → bytes_before func n ≤ func.limit
-  fits n from most within =
-      omega (arith, bytes_before_is s os func stands n (λ beyond. absurd (omega arith)) from, stands.holds.limit, within)
-
-  has_room : (order : Order) → func.committed ≤ number_of order → number_of order ≤ func.position → IsInRoom s os order → HasRoom order func func.limit
-  has_room (Set m addr) from most within = tt
-  has_room (Commit m) from most within = fits m from most within
-  has_room (Interrupt m) from most within = fits m from most within
-  has_room (Time m v) from most within = tt
-  has_room (Stop m) from most within = tt
-  has_room (Sync m) from most within = fits m from most within
-
-pub can_obey : {D : Type 0} (state : SplitState D) (order : Order) → IsStanding state → slice_get state.listed.items 0 ≡ Some order → CanObey order state.func
+-- the oldest order that is listed may be obeyed
+pub can_obey : {D : Type 0} (state : SplitState D) (order : Order) → IsStanding state → slice_get state.listed.items 0 ≡ Some order → MayObey order state.func
 can_obey state order st front =
     let s = st.setup in
     let x = st.split in
@@ -48,7 +27,7 @@ can_obey state order st front =
     let run : IsRun s x = reached_run s x st.reached in
     let same : Agrees x state = agrees s x state st.reached h in
     let items : state.listed.items ≡ x.listed = ap (λ (b : Buffer Order). b.items) h.listed in
-    let may : MayObey s x order = run.obeys order (drop 1 x.listed) (front_is x.listed order (ap (λ (os : List Order). slice_get os 0) (sym items) ∙ front)) in
+    let may : MayObeyListed s x order = run.obeys order (drop 1 x.listed) (front_is x.listed order (ap (λ (os : List Order). slice_get os 0) (sym items) ∙ front)) in
     let small : IsRanged x = ranged s x st.sound st.reached in
     let from : state.func.committed ≤ number_of order = omega (arith, same.committed, may.least) in
     let most : number_of order ≤ state.func.position = omega (arith, h.position, may.most) in
@@ -57,7 +36,9 @@ can_obey state order st front =
       from = from;
       room = omega (arith, same.committed, may.window, h.func.holds.capacity);
       number = omega (arith, may.most, small.position);
-      within = has_room s x.obeyed state.func h.func order from most may.output;
+      position = position_small state st;
+      epoch = epoch_small state st;
+      within = has_room s x.obeyed state.func h.func order (λ beyond. absurd (omega arith)) from may.output;
     }
 
 -- what an order makes of the split state, as far as the core holds it

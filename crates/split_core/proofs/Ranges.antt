@@ -4,7 +4,7 @@ use Rattle.std.proofs.lemmas.Grind.{common_steps}
 use Rattle.mono_model.specs.declared.setup.Setup.{Setup}
 use Rattle.mono_model.specs.declared.params.Params.{Params}
 use Rattle.mono_model.specs.Ranges.{is_ram}
-use Rattle.mono_model.specs.Setup.{is_setup, are_params, are_core, are_units, is_predictor, are_caches}
+use Rattle.mono_model.specs.Setup.{is_setup, are_params, is_version, are_core, are_units, is_predictor, are_caches}
 
 left_true : (a b : Bool) → (a && b) ≡ true → a ≡ true
 left_true true b both = refl
@@ -36,10 +36,10 @@ setup_cycles_some s sound = le_true 1 s.cycles (left_true _ _ (right_true _ _ (l
 core_fetch : (p : Params) → are_params p ≡ true → p.core_fetch ≤ 8
 unfolding are_params
 core_fetch p in_range =
-    let core : are_core p ≡ true = right_true (nat_le p.version 2 && is_ram p.ram_base p.ram_size) (are_core p)
-    (left_true (nat_le p.version 2 && is_ram p.ram_base p.ram_size && are_core p) (are_units p)
-    (left_true (nat_le p.version 2 && is_ram p.ram_base p.ram_size && are_core p && are_units p) (is_predictor p)
-    (left_true (nat_le p.version 2 && is_ram p.ram_base p.ram_size && are_core p && are_units p && is_predictor p) (are_caches p) in_range))) in
+    let core : are_core p ≡ true = right_true (is_version p && is_ram p.ram_base p.ram_size) (are_core p)
+    (left_true (is_version p && is_ram p.ram_base p.ram_size && are_core p) (are_units p)
+    (left_true (is_version p && is_ram p.ram_base p.ram_size && are_core p && are_units p) (is_predictor p)
+    (left_true (is_version p && is_ram p.ram_base p.ram_size && are_core p && are_units p && is_predictor p) (are_caches p) in_range))) in
     le_true p.core_fetch 8 (right_true (nat_le 1 p.core_fetch) (nat_le p.core_fetch 8)
     (left_true _ _ (left_true _ _ (left_true _ _ (left_true _ _ core)))))
 

@@ -1,6 +1,6 @@
 -- What is reported at a boundary.
 use Rattle.std.proofs.lemmas.Bool.{and_parts}
-use Rattle.std.proofs.Common.{◌≡◌, ◌≤◌, ◌==◌, ◌&&◌, is_none, ℕ, true, List, ◌∷◌, length, ap, sym, ◌∙◌, subst, arith}
+use Rattle.std.proofs.Common.{◌≡◌, ◌≤◌, ◌==◌, ◌&&◌, is_none, ℕ, true, List, ◌∷◌, length, ap, ◌∙◌, subst, arith}
 use Rattle.rollback_cmds.specs.declared.order.Order.{Order}
 use Rattle.rollback_cmds.specs.declared.order.Order.TheVariants.{Stop}
 use Rattle.mono_model.specs.declared.setup.Setup.{Setup}
@@ -8,8 +8,7 @@ use Rattle.mono_model.specs.declared.final_state.End.{End}
 use Rattle.mono_model.specs.declared.final_state.Stats.{Stats}
 use Rattle.mono_model.specs.declared.final_state.Final.{Final}
 use Rattle.mono_model.specs.Arch.{Arch}
-use Rattle.mono_model.specs.Final.{final_of}
-use Rattle.mono_model.specs.Machine.{Machine, machine_final, stats_of}
+use Rattle.mono_model.specs.Machine.{Machine, stats_of}
 use Rattle.mono_model.specs.Cycle.{mono, final}
 use Rattle.mono_model.specs.Path.{path, path-stop}
 use Rattle.mono_model.specs.Split.{Split, is_boundary, is_place_boundary}
@@ -17,18 +16,17 @@ use Rattle.machine_laws.specs.Reached.{IsReached}
 use Rattle.machine_laws.specs.SplitLaw.{IsRun, IsLevel, IsRanged}
 use Rattle.machine_laws.proofs.SplitReached.{reached_run}
 use Rattle.func_model.specs.declared.walk.Walk.{Walk}
-use Rattle.func_model.specs.Hart.{arch_of}
 use Rattle.func_model.specs.Contents.{StandsFor as HoldsArch}
 use Rattle.func_model.specs.Side.{arch_in}
 use Rattle.func_model.specs.Walk.{Stands, IsObeyed}
-use Rattle.func_model.proofs.Reported.{registers_are}
+use Rattle.side_laws.specs.Along.{MayObey}
+use Rattle.side_laws.proofs.Reporting.{reports as machine_reported}
 use Rattle.split_core.specs.declared.state.SplitState.{SplitState}
 use Rattle.split_core.specs.Stands.{StandsFor, IsStanding}
-use Rattle.split_core.proofs.Standing.{Agrees, agrees, ranged}
-use Rattle.split_core.proofs.Obeying.{CanObey}
+use Rattle.split_core.proofs.Standing.{Agrees, agrees, ranged, position_small, epoch_small}
 
 -- the functional side may be stopped at what is committed
-pub can_stop : {D : Type 0} (state : SplitState D) → IsStanding state → CanObey (Stop state.func.committed) state.func
+pub can_stop : {D : Type 0} (state : SplitState D) → IsStanding state → MayObey (Stop state.func.committed) state.func
 can_stop state st =
     let run : IsRun st.setup st.split = reached_run st.setup st.split st.reached in
     let same : Agrees st.split state = agrees st.setup st.split state st.reached st.stands in
@@ -39,6 +37,8 @@ can_stop state st =
       from = omega arith;
       room = omega arith;
       number = omega (arith, same.committed, small.committed);
+      position = position_small state st;
+      epoch = epoch_small state st;
       within = tt;
     }
 
@@ -53,33 +53,15 @@ holds_committed {D} s x state func n reached h at is stands moved =
     let P : Arch → Type 0 = λ a. HoldsArch {D = D} s a func.contents in
     subst P there (stands s x.obeyed h.func).holds.contents
 
--- the registers of a side that holds a state, with an end and counts
-registers_reported : {D : Type 0} (end : End) (stats : Stats) (walk : Walk D) → length walk.contents.hart.regs ≡ 32 →
-    (let it : Final = record { end = end; stats = stats; pc = (arch_in walk).pc; regs = (arch_in walk).regs; csrs = (arch_in walk).csrs; cmp = (arch_in walk).cmp } in it)
-    ≡ final_of end stats (arch_of walk.contents.hart walk.contents.bus)
-unfolding arch_of
-registers_reported end stats walk whole = λ i. record {
-  end = end;
-  stats = stats;
-  pc = (arch_in walk).pc;
-  regs = sym (registers_are walk.contents.hart.regs whole) i;
-  csrs = (arch_in walk).csrs;
-  cmp = (arch_in walk).cmp;
-}
-
 pub reports : {D : Type 0} (s : Setup) (x : Split) (walk : Walk D) (end : End) (stats : Stats) → IsReached s x → is_boundary x ≡ true →
     HoldsArch s (mono s x.place.run.demand.machine.cycle).arch walk.contents → length walk.contents.hart.regs ≡ 32 →
     end ≡ x.place.run.demand.machine.end → stats ≡ stats_of s x.place.run.demand.machine →
     (let it : Final = record { end = end; stats = stats; pc = (arch_in walk).pc; regs = (arch_in walk).regs; csrs = (arch_in walk).csrs; cmp = (arch_in walk).cmp } in it)
     ≡ final s x.place.run.demand.machine.cycle
-unfolding machine_final
 reports s x walk end stats reached at holds whole end_is stats_is =
-    let m : Machine = mono s x.place.run.demand.machine.cycle in
     let run : IsRun s x = reached_run s x reached in
     let both = and_parts (is_place_boundary x.place && is_none x.hand) (length x.listed == 0) at in
     let sides = and_parts (is_place_boundary x.place) (is_none x.hand) both.0 in
-    let same : x.place.run.demand.machine ≡ m = (run.machine sides.0).machine in
-    registers_reported end stats walk whole
-    ∙ ap (final_of end stats) holds.arch
-    ∙ ap (λ (e : End). final_of e stats m.arch) (end_is ∙ ap (λ (n : Machine). n.end) same)
-    ∙ ap (λ (t : Stats). final_of m.end t m.arch) (stats_is ∙ ap (stats_of s) same)
+    let same : x.place.run.demand.machine ≡ mono s x.place.run.demand.machine.cycle = (run.machine sides.0).machine in
+    machine_reported s (mono s x.place.run.demand.machine.cycle) walk end stats holds whole
+    (end_is ∙ ap (λ (n : Machine). n.end) same) (stats_is ∙ ap (stats_of s) same)

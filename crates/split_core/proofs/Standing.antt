@@ -1,28 +1,15 @@
 -- What is known of a core from the split state that it stands for.
 use Rattle.std.proofs.Common.{◌≡◌, ◌<◌, ◌^◌, true, is_none, Option, Some, None, List, [], ◌∷◌, drop, slice_get, refl, sym, ◌∙◌, subst, arith}
-use Rattle.rollback_cmds.specs.declared.order.Order.{Order}
-use Rattle.rollback_cmds.specs.declared.order.Order.TheVariants.{Set, Commit, Interrupt, Time, Stop, Sync}
 use Rattle.mono_model.specs.declared.setup.Setup.{Setup}
 use Rattle.mono_model.specs.Setup.{is_setup}
 use Rattle.mono_model.specs.Split.{Split, Event, event_at}
-use Rattle.machine_laws.specs.Numbers.{last_commit, AreAtCommit}
 use Rattle.machine_laws.specs.Reached.{IsReached}
 use Rattle.machine_laws.specs.SplitLaw.{IsRun, IsRanged}
 use Rattle.machine_laws.proofs.SplitReached.{reached_run, event_reached}
 use Rattle.machine_laws.proofs.SplitRanges.{run_ranged}
-use Rattle.func_model.specs.Walk.{committed_of}
+use Rattle.side_laws.proofs.Committed.{committed_is}
 use Rattle.split_core.specs.declared.state.SplitState.{SplitState}
 use Rattle.split_core.specs.Stands.{StandsFor, IsStanding}
-
--- the last Commit has the number that is committed
-committed_is : (os : List Order) → AreAtCommit os → committed_of os ≡ last_commit os
-committed_is [] at = refl
-committed_is (Set m addr ∷ os) at = committed_is os at.1
-committed_is (Commit m ∷ os) at = refl
-committed_is (Interrupt m ∷ os) at = at.0
-committed_is (Time m v ∷ os) at = committed_is os at.1
-committed_is (Stop m ∷ os) at = committed_is os at.1
-committed_is (Sync m ∷ os) at = at.0
 
 -- the functional side's numbers are those of the split state
 pub record Agrees {D : Type 0} (x : Split) (state : SplitState D) : Type 0 where

@@ -3,6 +3,7 @@
 #![tactic(auto)]
 
 mod bounds;
+mod demand;
 mod event;
 mod split;
 mod state;

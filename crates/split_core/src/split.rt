@@ -78,11 +78,13 @@ impl<D: Device> SplitCore<D> {
     }
 
     /// Plays events until the run is over: the timing side has told its last order, and the functional side has obeyed it.
+    /// Entries are computed on demand; whatever state that leaves, the rounds behind it come to the end.
     pub fn to_end(&mut self)
         requires going { self.old.is_over ≡ false }
         ensures ended { (s : RunSetup) (x : Split) → is_setup s ≡ true → IsReached s x → StandsFor s x self.old → IsEnded s self.new }
         ensures boundary { IsAtBoundary self.new }
     {
+        self.state.play_on_demand();
         self.state.to_end();
     }
 

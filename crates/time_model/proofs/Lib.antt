@@ -8,3 +8,4 @@ pub mod Steps
 pub mod Sides
 pub mod Turns
 pub mod Trials
+pub mod NextNumber

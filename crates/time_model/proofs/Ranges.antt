@@ -3,14 +3,14 @@ use Rattle.std.proofs.Common.{◌≡◌, ◌≤◌, ℕ, ◌&&◌, nat_le, Bool,
 use Rattle.std.proofs.lemmas.Bool.{and_parts, leb-true}
 use Rattle.elf_image.specs.Sound.{is_sound}
 use Rattle.mono_model.specs.Ranges.{is_between, is_power_between, is_ram, is_cache}
-use Rattle.mono_model.specs.Setup.{ram_range, are_core, are_units, is_predictor, are_caches, are_params, is_setup}
+use Rattle.mono_model.specs.Setup.{ram_range, is_version, are_core, are_units, is_predictor, are_caches, are_params, is_setup}
 use Rattle.mono_model.specs.declared.params.Params.{Params}
 use Rattle.mono_model.specs.declared.setup.Setup.{Setup}
 
 caches_are : (p : Params) → are_params p ≡ true → are_caches p ≡ true
 unfolding are_params
 caches_are p is =
-    let ram : Bool = nat_le p.version 2 && is_ram p.ram_base p.ram_size in
+    let ram : Bool = is_version p && is_ram p.ram_base p.ram_size in
     (and_parts (ram && are_core p && are_units p && is_predictor p) (are_caches p) is).1
 
 cache_miss : (most : ℕ) (line sets ways miss : ℕ) → is_cache most line sets ways miss ≡ true → miss ≤ 1000

@@ -30,7 +30,7 @@ use Rattle.time_model.specs.At.{at_in}
 use Rattle.time_model.specs.Turns.{turn_told}
 use Rattle.time_model.specs.Stands.{StandsAt, owed_in, is_over, IsMade}
 use Rattle.time_model.specs.Turning.{IsTurned, IsDue, due_by, due_at, behind_first, owed_by, epoch_by, kept_by}
-use Rattle.time_model.proofs.Owing.{owes_at}
+use Rattle.machine_laws.proofs.Owing.{place_owes}
 use Rattle.time_model.proofs.Small.{epoch_small}
 
 -- a run that isn't over goes on
@@ -45,7 +45,7 @@ goes_on p owes on = by_test (is_halted p.run.at) refl owes
 -- what the next step makes
 pub next_stepped : (s : Setup) (k : ℕ) → is_over (place s k) ≡ false → Stepped (place s k) (place s (suc k))
 next_stepped s k on =
-    subst (λ (q : Place). Stepped (place s k) q) (sym (place-suc s k)) (step_stepped s (place s k) (goes_on (place s k) (owes_at s k) on) (owes_at s k))
+    subst (λ (q : Place). Stepped (place s k) q) (sym (place-suc s k)) (step_stepped s (place s k) (goes_on (place s k) (place_owes s k) on) (place_owes s k))
 
 -- only a try appends
 pub none_appended : (s : Setup) (k : ℕ) → is_over (place s k) ≡ false → needs_entry (place s k) ≡ false → has_appended (place s k) (place s (suc k)) ≡ false

@@ -40,7 +40,7 @@ impl TimeSide {
     ghost use Rattle.mono_model.specs.declared.setup.Setup.{Setup as RunSetup};
     ghost use Rattle.mono_model.specs.Setup.{is_setup};
     ghost use Rattle.mono_model.specs.Machine.{stats_of};
-    ghost use Rattle.mono_model.specs.Demand.{place, needs_entry, needed_entry};
+    ghost use Rattle.mono_model.specs.Demand.{place, next, needs_entry, needed_entry};
     ghost use Rattle.mono_model.specs.Split.{is_place_boundary};
     ghost use Rattle.time_model.specs.Stands.{StandsAt, IsStep, IsRight, wants_in};
 
@@ -99,6 +99,14 @@ impl TimeSide {
         ensures committed { (s : RunSetup) (k : ℕ) → StandsAt s k self.now → result ≡ (place s k).run.demand.done }
     {
         self.state.core.done()
+    }
+
+    /// The number of the next instruction to fetch, whose entry a try needs.
+    pub fn next_number(&self) -> u64
+        ensures number { (s : RunSetup) (k : ℕ) → StandsAt s k self.now
+            → result ≡ next (place s k).run.demand }
+    {
+        self.state.core.next_number()
     }
 
     /// How the run stands or ended.

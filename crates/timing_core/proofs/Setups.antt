@@ -7,7 +7,7 @@ use Rattle.branch_predictor.specs.Params as predictor
 use Rattle.cache_timing.specs.Params as caches
 use Rattle.cache_timing.specs.declared.params.CacheParams.{CacheParams}
 use Rattle.mono_model.specs.Ranges.{is_between, is_power_between, is_ram, is_cache}
-use Rattle.mono_model.specs.Setup.{ram_range, predictor_params, icache_params, dcache_params, l2_params, caches_params, are_core, are_units, is_predictor, are_caches, are_params, is_setup}
+use Rattle.mono_model.specs.Setup.{ram_range, predictor_params, icache_params, dcache_params, l2_params, caches_params, is_version, are_core, are_units, is_predictor, are_caches, are_params, is_setup}
 use Rattle.mono_model.specs.declared.params.Params.{Params}
 use Rattle.mono_model.specs.declared.setup.Setup.{Setup}
 
@@ -36,7 +36,7 @@ record Parts (p : Params) : Type 0 where
 parts_in : (p : Params) → are_params p ≡ true → Parts p
 unfolding are_params
 parts_in p is =
-    let ram : Bool = nat_le p.version 2 && is_ram p.ram_base p.ram_size in
+    let ram : Bool = is_version p && is_ram p.ram_base p.ram_size in
     let caches = and_parts (ram && are_core p && are_units p && is_predictor p) (are_caches p) is in
     let predictor = and_parts (ram && are_core p && are_units p) (is_predictor p) caches.0 in
     let core = and_parts ram (are_core p) (and_parts (ram && are_core p) (are_units p) predictor.0).0 in

@@ -43,13 +43,15 @@ fn finish_due(flight: &mut InFlight, cycle: u64) -> Option<Redirect>
     ensures first { IfSome result (λ r. completes cycle flight.old.slots ≡ record { slots = take r.kept flight.new.slots; redirect = Some r.addr }) }
 {
     for place in 0..flight.len() {
-        let slot = *flight.at(place);
+        let slot = flight.at(place);
         if is_due(slot.state, cycle) {
+            let wrong = is_mispredicted(slot);
+            let addr = slot.next;
             flight.finish(place);
-            if is_mispredicted(&slot) {
+            if wrong {
                 return Some(Redirect {
                     kept: place + 1,
-                    addr: slot.next,
+                    addr,
                 });
             }
         }

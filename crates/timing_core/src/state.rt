@@ -40,7 +40,7 @@ pub struct TimingCore {
 }
 
 impl TimingCore {
-    ghost use Rattle.std.specs.Prelude.{ℕ, ◌+◌, ◌<◌, ◌^◌, true, take, IfOk};
+    ghost use Rattle.std.specs.Prelude.{ℕ, ◌+◌, ◌<◌, ◌^◌, true, take, length, IfOk};
     ghost use Rattle.mono_model.specs.declared.setup.Setup.{Setup as RunSetup};
     ghost use Rattle.mono_model.specs.Setup.{is_setup};
     ghost use Rattle.mono_model.specs.Final.{has_ended};
@@ -87,6 +87,15 @@ impl TimingCore {
         ensures done { (s : RunSetup) (t : Timing) → Keeps s t self.now → result ≡ t.done }
     {
         self.done
+    }
+
+    /// The number of the next instruction to fetch.
+    pub fn next_number(&self) -> u64
+        requires small { self.now.done < 2 ^ 63 }
+        ensures next { (s : RunSetup) (t : Timing) → Keeps s t self.now
+            → result ≡ t.done + length t.slots }
+    {
+        self.done + u64::from(self.flight.len())
     }
 
     /// How many bytes were sent.

@@ -4,7 +4,7 @@ use Rattle.reorder_buffer.specs.Window.{Contents}
 use Rattle.timing_laws.specs.Complete.{Completed, finished, completes}
 use Rattle.timing_core.proofs.Finishing.{completed_from, passes, finishes, redirects, completed_all}
 use Rattle.timing_core.proofs.complete.finish_due.Goals as goal
-use Rattle.timing_core.proofs.complete.finish_due.Goals.{then-is_due+else-is_mispredicted, else-is_due}
+use Rattle.timing_core.proofs.complete.finish_due.Goals.{then-is_due+else-wrong, else-is_due}
 
 -- what is said of `place + 1` and of the slots behind a write
 moved : (cycle place : ℕ) (after : List Slot) (behind : Contents) (before : Completed) → behind.slots ≡ after →
@@ -12,33 +12,33 @@ moved : (cycle place : ℕ) (after : List Slot) (behind : Contents) (before : Co
 moved cycle place after behind before is same =
     same ∙ ap (λ (n : ℕ). completed_from cycle n after) (sym (add-one place)) ∙ ap (λ (l : List Slot). completed_from cycle (place + 1) l) (sym is)
 
-pub returns-then-is_mispredicted-clause-first : goal.returns-then-is_mispredicted-clause-first
-returns-then-is_mispredicted-clause-first c =
-    let slot : Slot = c.at.result.now in
+pub returns-then-wrong-clause-first : goal.returns-then-wrong-clause-first
+returns-then-wrong-clause-first c =
+    let slot : Slot = c.at-slot.result.now in
     let place : ℕ = c.loop-place.place in
     let slots : List Slot = c.loop-place.flight.slots in
-    let done = rw c.at.ensures.slot at c.finish.ensures.finished in
+    let done = rw c.at-slot.ensures.slot at c.finish.ensures.finished in
     c.loop-place.invariant.whole
-    ∙ redirects c.args.cycle place slots slot c.at.ensures.slot (sym c.is_due.ensures.due ∙ c.if-is_due.true) (sym c.is_mispredicted.ensures.mispredicted ∙ c.if-is_mispredicted.true)
+    ∙ redirects c.args.cycle place slots slot c.at-slot.ensures.slot (sym c.is_due.ensures.due ∙ c.if-is_due.true) (sym c.is_mispredicted-wrong.ensures.mispredicted ∙ c.if-wrong.true)
     ∙ ap (λ (n : ℕ). record { slots = take n (slice_set slots place (finished slot)); redirect = Some slot.next }) (sym (add-one place))
     ∙ ap (λ (f : Contents). record { slots = take (place + 1) f.slots; redirect = Some slot.next }) (sym done)
 
 pub loop-place-preserved : goal.loop-place-preserved
 loop-place-preserved c =
-    let slot : Slot = c.at.result.now in
+    let slot : Slot = c.at-slot.result.now in
     let place : ℕ = c.loop-place.place in
     let slots : List Slot = c.loop-place.flight.slots in
     elim c.if-is_due.branch [
-      | then-is_due+else-is_mispredicted w ↦
+      | then-is_due+else-wrong w ↦
           let done : c.if-is_due.flight ≡ record c.loop-place.flight { slots = slice_set slots place (finished slot) } =
-          w.flight-is ∙ (rw c.at.ensures.slot at w.finish.ensures.finished) in
+          w.flight-is ∙ (rw c.at-slot.ensures.slot at w.finish.ensures.finished) in
           record {
             room = ap (λ (f : Contents). f.cap) done ∙ c.loop-place.invariant.room;
             count = ap (λ (f : Contents). length f.slots) done ∙ length-set slots place (finished slot) ∙ c.loop-place.invariant.count;
             whole =
                 moved c.args.cycle place (slice_set slots place (finished slot)) c.if-is_due.flight (completes c.args.cycle c.args.flight.now.slots) (ap (λ (f : Contents). f.slots) done)
                 (c.loop-place.invariant.whole
-                ∙ finishes c.args.cycle place slots slot c.at.ensures.slot (sym c.is_due.ensures.due ∙ w.if-is_due.true) (sym w.is_mispredicted.ensures.mispredicted ∙ w.if-is_mispredicted.false));
+                ∙ finishes c.args.cycle place slots slot c.at-slot.ensures.slot (sym c.is_due.ensures.due ∙ w.if-is_due.true) (sym w.is_mispredicted-wrong.ensures.mispredicted ∙ w.if-wrong.false));
           }
       | else-is_due w ↦
           record {
@@ -46,7 +46,7 @@ loop-place-preserved c =
             count = ap (λ (f : Contents). length f.slots) w.flight-is ∙ c.loop-place.invariant.count;
             whole =
                 moved c.args.cycle place slots c.if-is_due.flight (completes c.args.cycle c.args.flight.now.slots) (ap (λ (f : Contents). f.slots) w.flight-is)
-                (c.loop-place.invariant.whole ∙ passes c.args.cycle place slots slot c.at.ensures.slot (sym c.is_due.ensures.due ∙ w.if-is_due.false));
+                (c.loop-place.invariant.whole ∙ passes c.args.cycle place slots slot c.at-slot.ensures.slot (sym c.is_due.ensures.due ∙ w.if-is_due.false));
           }
     ]
 

@@ -9,10 +9,10 @@ returns-in_err-slot-clause-awaited c =
 
 pub returns-then-is_done-clause-awaited : goal.returns-then-is_done-clause-awaited
 returns-then-is_done-clause-awaited c =
-    awaited_by c.self.invariant c.self.view_is c.args.source c.in_ok-slot.slot c.index.result.now true (sym c.producer.ensures.producer ∙ c.in_ok-slot.was)
+    awaited_by c.self.invariant.0 c.self.view_is c.args.source c.in_ok-slot.slot c.index.result.now true (sym c.producer.ensures.producer ∙ c.in_ok-slot.was)
     c.index.ensures c.in_ok-slot.ensures.within (sym c.is_done.ensures ∙ c.if-is_done.true)
 
 pub returns-else-is_done-clause-awaited : goal.returns-else-is_done-clause-awaited
 returns-else-is_done-clause-awaited c =
-    awaited_by c.self.invariant c.self.view_is c.args.source c.in_ok-slot.slot c.index.result.now false (sym c.producer.ensures.producer ∙ c.in_ok-slot.was)
+    awaited_by c.self.invariant.0 c.self.view_is c.args.source c.in_ok-slot.slot c.index.result.now false (sym c.producer.ensures.producer ∙ c.in_ok-slot.was)
     c.index.ensures c.in_ok-slot.ensures.within (sym c.is_done.ensures ∙ c.if-is_done.false)

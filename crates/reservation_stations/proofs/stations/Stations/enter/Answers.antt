@@ -1,23 +1,33 @@
 use Rattle.std.proofs.Common.{arith, refl, ◌∙◌, ap, ◌||◌}
 use Rattle.reservation_stations.specs.Mask.{is_slot}
 use Rattle.reservation_stations.proofs.Entering.{waiting_fits, Keeps-entered, seen-entered}
+use Rattle.reservation_stations.proofs.Noted.{covered_entered}
+use Rattle.reservation_stations.specs.Readiness.{Window}
 use Rattle.reservation_stations.proofs.stations.Stations.enter.Goals as goal
 
 pub overflow_add-self : goal.overflow_add-self
-overflow_add-self c = omega (arith, waiting_fits c.self.invariant c.self.view_is c.args.slot c.requires.within c.requires.free)
+overflow_add-self c = omega (arith, waiting_fits c.self.invariant.0 c.self.view_is c.args.slot c.requires.within c.requires.free)
 
 pub invariant_of-self : goal.invariant_of-self
-invariant_of-self c =
-    Keeps-entered c.self.invariant c.self.view_is c.args.slot c.requires.within c.requires.free _ c.try_push_back.new.self c.try_push_back.result
-    c.try_push_back.ensures.variant c.try_push_back.ensures.ok c.set_producer.new.producers.items
-    (λ k.
-    c.with-waits.ensures.with k
-    ∙ ap (λ b. b || is_slot k c.awaited-2.result) (c.with.ensures.with k ∙ ap (λ b. b || is_slot k c.awaited.result) (c.none.ensures.none k))
-    ∙ (λ i. is_slot k (c.awaited.ensures.awaited i) || is_slot k (c.awaited-2.ensures.awaited i)))
-    c.producer-displaced.ensures.producer refl c.set_producer.ensures.set
+invariant_of-self c = (
+  Keeps-entered c.self.invariant.0 c.self.view_is c.args.slot c.requires.within c.requires.free _ c.try_push_back.new.self c.try_push_back.result
+      c.try_push_back.ensures.variant c.try_push_back.ensures.ok c.set_producer.new.producers.items
+      (λ k.
+      c.with-2.ensures.with k
+      ∙ ap (λ b. b || is_slot k c.awaited-second.result) (c.with.ensures.with k ∙ ap (λ b. b || is_slot k c.awaited-first.result) (c.none.ensures.none k))
+      ∙ (λ i. is_slot k (c.awaited-first.ensures.awaited i) || is_slot k (c.awaited-second.ensures.awaited i)))
+      c.producer-displaced.ensures.producer refl c.set_producer.ensures.set,
+  covered_entered c.self.inside.entries.items c.self.inside.dependents.items c.note.new.dependents.items c.note-2.new.dependents.items c.note-3.new.dependents.items c.args.slot
+      c.awaited-first.result c.awaited-second.result c.producer-displaced.result _ c.self.invariant.1 c.note.ensures.noted c.note-2.ensures.noted c.note-3.ensures.noted
+      (omega (arith, c.requires.within, c.self.invariant.0.every_slot, ap (λ (w : Window). w.window) c.self.view_is))
+      (λ k.
+      c.with-2.ensures.with k
+      ∙ ap (λ b. b || is_slot k c.awaited-second.result) (c.with.ensures.with k ∙ ap (λ b. b || is_slot k c.awaited-first.result) (c.none.ensures.none k)))
+      refl,
+)
 
 pub returns : goal.returns
 returns c = record {
-  entered = seen-entered c.self.invariant c.self.view_is c.args.slot c.requires.within c.requires.free _ c.try_push_back.new.self c.try_push_back.result
+  entered = seen-entered c.self.invariant.0 c.self.view_is c.args.slot c.requires.within c.requires.free _ c.try_push_back.new.self c.try_push_back.result
       c.try_push_back.ensures.variant c.try_push_back.ensures.ok;
 }

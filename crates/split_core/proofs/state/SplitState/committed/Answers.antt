@@ -3,24 +3,23 @@ use Rattle.mono_model.specs.declared.final_state.Final.{Final}
 use Rattle.mono_model.specs.Machine.{stats_of}
 use Rattle.mono_model.specs.Demand.{Place}
 use Rattle.func_model.specs.declared.side.Arch.{Arch}
-use Rattle.split_core.proofs.Standing.{position_small, epoch_small}
+use Rattle.side_laws.specs.Along.{MayObey}
 use Rattle.split_core.proofs.Reporting.{can_stop, holds_committed, reports}
-use Rattle.split_core.proofs.Obeying.{CanObey}
 use Rattle.rollback_cmds.specs.declared.order.Order.TheVariants.{Stop}
 use Rattle.split_core.proofs.state.SplitState.committed.Goals as goal
 
 pub obey-requires : goal.obey-requires
 obey-requires g c =
     let func = c.args.self.now.func in
-    let can : CanObey (Stop c.committed-number.result) func =
+    let can : MayObey (Stop c.committed-number.result) func =
     rw c.committed-number.ensures.number (can_stop c.args.self.now c.requires.boundary.standing) in
     record {
       reach = can.reach;
       from = can.from;
       room = can.room;
       number = can.number;
-      position = position_small c.args.self.now c.requires.boundary.standing;
-      epoch = epoch_small c.args.self.now c.requires.boundary.standing;
+      position = can.position;
+      epoch = can.epoch;
       within = can.within;
     }
 

@@ -1,20 +1,20 @@
 use Rattle.std.proofs.Common.{sym, ◌∙◌, None}
 use Rattle.std.proofs.lemmas.Bool.{cond-true, cond-false}
 use Rattle.rollback_cmds.specs.Order.{opens_epoch_of}
-use Rattle.split_core.proofs.Standing.{position_small, epoch_small}
-use Rattle.split_core.proofs.Obeying.{CanObey, can_obey, nothing_obeyed, order_obeyed}
+use Rattle.side_laws.specs.Along.{MayObey}
+use Rattle.split_core.proofs.Obeying.{can_obey, nothing_obeyed, order_obeyed}
 use Rattle.split_core.proofs.state.SplitState.obey.Goals as goal
 
 pub obey-requires : goal.obey-requires
 obey-requires g c =
-    let can : CanObey c.in-Some.order c.args.self.now.func = can_obey c.args.self.now c.in-Some.order c.requires.standing (sym c.pop_front.ensures.value ∙ c.in-Some.is) in
+    let can : MayObey c.in-Some.order c.args.self.now.func = can_obey c.args.self.now c.in-Some.order c.requires.standing (sym c.pop_front.ensures.value ∙ c.in-Some.is) in
     record {
       reach = can.reach;
       from = can.from;
       room = can.room;
       number = can.number;
-      position = position_small c.args.self.now c.requires.standing;
-      epoch = epoch_small c.args.self.now c.requires.standing;
+      position = can.position;
+      epoch = can.epoch;
       within = can.within;
     }
 
