@@ -143,9 +143,9 @@ run_rules : AreRulesOf run_form (rules_of run_form)
 run_rules = record {
   long = λ name. long_options name run_form.options [] refl;
   short = λ x. refl;
-  known = (refl, (refl, (refl, (refl, tt))));
+  known = (refl, (refl, (refl, (refl, (refl, tt)))));
   places = (refl, refl, (refl, refl, refl));
-  defaults = (refl, (refl, (refl, (refl, (refl, (refl, tt))))));
+  defaults = (refl, (refl, (refl, (refl, (refl, (refl, (refl, tt)))))));
   needs = λ rows. needs_two (is_given (codes "IMAGE") rows) (is_given (codes "MACHINE") rows);
 }
 

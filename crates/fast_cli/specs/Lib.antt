@@ -6,3 +6,4 @@ pub mod Values
 pub mod Line
 pub mod Ranges
 pub mod Examples
+pub mod Given

@@ -1,5 +1,5 @@
 -- The line of the words, or none: a command, and behind it names and options.
-use Rattle.std.specs.Prelude.{List, [], ◌∷◌, Option, Some, None, codes, find}
+use Rattle.std.specs.Prelude.{List, [], ◌∷◌, Option, Some, None, IsSome, codes, find}
 use Rattle.std.specs.Str.{bytes_eq}
 use Rattle.fast_cli.specs.Words.{◌>>=◌, Form, Text, Values, values_in}
 use Rattle.fast_cli.specs.Values.{given_number_at, name_at, names_at, number_at, options_at}
@@ -44,15 +44,16 @@ run_form = record {
   word = codes "run";
   names = codes "IMAGE" ∷ codes "MACHINE" ∷ [];
   rest = None;
-  options = codes "ring" ∷ limits;
+  options = codes "threads" ∷ codes "ring" ∷ limits;
 }
 
 unfoldable pub run_at : Values → Option Line
 run_at values = do
   image ← name_at (codes "IMAGE") values
   machine ← name_at (codes "MACHINE") values
+  threads ← number_at (codes "threads") 1 2 2 values
   options ← options_at values
-  Some (Run image machine options)
+  Some (Run image machine threads options)
 
 abbrev pub run_command : Command
 run_command = record { form = run_form; read = run_at }
@@ -155,9 +156,18 @@ sweep_command = record { form = sweep_form; read = sweep_at }
 abbrev pub commands : List Command
 commands = func_command ∷ run_command ∷ sched_command ∷ soak_command ∷ back_command ∷ inorder_command ∷ sweep_command ∷ []
 
+-- the command that a word names
+abbrev pub named_command : Text → Option Command
+named_command word = find (λ command. bytes_eq word command.form.word) commands
+
 -- the line of the words, or none; the first of them is the command's
 unfoldable pub line : List Text → Option Line
 line [] = None
 line (word ∷ words) = do
-  command ← find (λ command. bytes_eq word command.form.word) commands
+  command ← named_command word
   line_by command words
+
+-- the first of the words names a command
+abbrev pub NamesCommand : List Text → Type 0
+NamesCommand [] = ⊥
+NamesCommand (word ∷ words) = IsSome (named_command word)

@@ -14,7 +14,7 @@ pub record HasRanges (options : Options) : Type 0 where
 
 abbrev pub IsInRange : Line → Type 0
 IsInRange (Func image options) = HasRanges options
-IsInRange (Run image machine options) = HasRanges options
+IsInRange (Run image machine threads options) = IsFrom 1 2 threads × HasRanges options
 IsInRange (Sched image machine plan options) = HasRanges options
 IsInRange (Soak seed) = seed ≤ 18446744073709551615
 IsInRange (Back image script history options) = IsFrom 1 1048576 history × HasRanges options

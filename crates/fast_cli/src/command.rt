@@ -1,5 +1,6 @@
 //! The commands as `clap` builds and parses them.
-ghost use Rattle.std.specs.Prelude.{◌≡◌, IfOk, [], map, true, Some, None, Err};
+ghost use Rattle.std.specs.Prelude.{◌≡◌, ◌≢◌, ◌↔◌, IfOk, [], map, true, Some, None, Err};
+ghost use Rattle.clap.specs.Values.{kind_of};
 ghost use Rattle.clap.specs.Words.{app_of, is_simple_and_free, with_rule};
 ghost use Rattle.fast_cli.specs.Words.{AreText, values_in};
 ghost use Rattle.fast_cli.specs.Command.{ReadsAs, command_by, command_of, name_rule, names_rule, option_rule, parsed};
@@ -9,7 +10,7 @@ ghost use Rattle.fast_cli.specs.Form.{form_of};
 use crate::form::Form;
 use crate::line::UsageFault;
 use clap::error::ErrorKind;
-use clap::{Arg, ArgAction, ArgMatches, Command};
+use clap::{Arg, ArgAction, ArgMatches, Command, Error};
 use std::alloc::{AllocError, Global};
 
 // A command with no names and options yet.
@@ -82,6 +83,17 @@ fn make_command<'a>(alloc: Global, form: &Form<'a>) -> Result<Command<'a>, Alloc
     }
 }
 
+// What an error of clap says of the words.
+fn refusal(error: &Error) -> UsageFault
+    ensures memory { (result ≡ UsageFault.Memory) ↔ (kind_of error.now ≡ ErrorKind.OutOfMemory) }
+    ensures words { kind_of error.now ≢ ErrorKind.OutOfMemory → result ≡ UsageFault.Words }
+{
+    match error.kind() {
+        ErrorKind::OutOfMemory => UsageFault::Memory,
+        _ => UsageFault::Words,
+    }
+}
+
 fn parse<'a>(command: Command<'a>, words: &'a [&'a str]) -> Result<ArgMatches<'a>, UsageFault>
     requires { is_simple_and_free (app_of command) ≡ true }
     ensures ok { IfOk result (λ m. parsed (app_of command.entry) (map (λ w. w.now) words.entry.now) ≡ Some (values_of m)) }
@@ -90,10 +102,7 @@ fn parse<'a>(command: Command<'a>, words: &'a [&'a str]) -> Result<ArgMatches<'a
 {
     match command.try_get_matches_from(words) {
         Ok(matches) => Ok(matches),
-        Err(error) => match error.kind() {
-            ErrorKind::OutOfMemory => Err(UsageFault::Memory),
-            _ => Err(UsageFault::Words),
-        },
+        Err(error) => Err(refusal(&error)),
     }
 }
 

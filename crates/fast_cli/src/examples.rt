@@ -9,7 +9,8 @@ ghost use Rattle.fast_cli.specs.Examples.{defaults, words_of};
 #[tactic(auto, unfolding(crate::proofs::OnWords::line_on_words))]
 pub fn commands_with_names_alone()
     ensures func { line (words_of (codes "func a")) ≡ Some (Func (codes "a") defaults) }
-    ensures run { line (words_of (codes "run a m")) ≡ Some (Run (codes "a") (codes "m") defaults) }
+    ensures run { line (words_of (codes "run a m"))
+        ≡ Some (Run (codes "a") (codes "m") 2 defaults) }
     ensures sched { line (words_of (codes "sched a m p")) ≡ Some (Sched (codes "a") (codes "m") (codes "p") defaults) }
     ensures soak { line (words_of (codes "soak 7")) ≡ Some (Soak 7) }
     ensures back { line (words_of (codes "back a s")) ≡ Some (Back (codes "a") (codes "s") 65536 defaults) }
@@ -27,7 +28,10 @@ pub fn each_option()
     ensures func { line (words_of (codes "func a --cycles 2 --input i --output 3"))
         ≡ Some (Func (codes "a") (record defaults { cycles = 2; input = Some (codes "i"); output = 3 })) }
     ensures run { line (words_of (codes "run a m --ring 1 --cycles 2 --input i --output 3"))
-        ≡ Some (Run (codes "a") (codes "m") (record { ring = 1; cycles = 2; input = Some (codes "i"); output = 3 })) }
+        ≡ Some (Run (codes "a") (codes "m") 2
+        (record { ring = 1; cycles = 2; input = Some (codes "i"); output = 3 })) }
+    ensures run_threads { line (words_of (codes "run a m --threads 1 --ring 1"))
+        ≡ Some (Run (codes "a") (codes "m") 1 (record defaults { ring = 1 })) }
     ensures sched { line (words_of (codes "sched a m p --ring 1"))
         ≡ Some (Sched (codes "a") (codes "m") (codes "p") (record defaults { ring = 1 })) }
     ensures back { line (words_of (codes "back a s --history 1 --cycles 2"))
@@ -41,26 +45,34 @@ pub fn each_option()
     ensures soak_has_no_ring { line (words_of (codes "soak 7 --ring 1")) ≡ None }
     ensures soak_has_no_cycles { line (words_of (codes "soak 7 --cycles 1")) ≡ None }
     ensures run_has_no_history { line (words_of (codes "run a m --history 1")) ≡ None }
+    ensures func_has_no_threads { line (words_of (codes "func a --threads 1")) ≡ None }
+    ensures sched_has_no_threads { line (words_of (codes "sched a m p --threads 1")) ≡ None }
+    ensures soak_has_no_threads { line (words_of (codes "soak 7 --threads 1")) ≡ None }
+    ensures back_has_no_threads { line (words_of (codes "back a s --threads 1")) ≡ None }
+    ensures inorder_has_no_threads { line (words_of (codes "inorder a m p --threads 1")) ≡ None }
+    ensures sweep_has_no_threads { line (words_of (codes "sweep a m --threads 1")) ≡ None }
 {}
 
 /// Options stand before, between and after the names, with their value in the next word or behind `=`, each at most once.
 #[tactic(auto, unfolding(crate::proofs::OnWords::line_on_words))]
 pub fn options_anywhere()
     ensures before { line (words_of (codes "run --ring 8 a m"))
-        ≡ Some (Run (codes "a") (codes "m") (record defaults { ring = 8 })) }
+        ≡ Some (Run (codes "a") (codes "m") 2 (record defaults { ring = 8 })) }
     ensures between { line (words_of (codes "run a --ring 8 m"))
-        ≡ Some (Run (codes "a") (codes "m") (record defaults { ring = 8 })) }
+        ≡ Some (Run (codes "a") (codes "m") 2 (record defaults { ring = 8 })) }
     ensures after { line (words_of (codes "run a m --ring 8"))
-        ≡ Some (Run (codes "a") (codes "m") (record defaults { ring = 8 })) }
+        ≡ Some (Run (codes "a") (codes "m") 2 (record defaults { ring = 8 })) }
     ensures attached { line (words_of (codes "run --ring=8 a m"))
-        ≡ Some (Run (codes "a") (codes "m") (record defaults { ring = 8 })) }
+        ≡ Some (Run (codes "a") (codes "m") 2 (record defaults { ring = 8 })) }
     ensures all_places { line (words_of (codes "run --cycles 2 a --ring=8 m --output 3"))
-        ≡ Some (Run (codes "a") (codes "m") (record defaults { ring = 8; cycles = 2; output = 3 })) }
+        ≡ Some (Run (codes "a") (codes "m") 2
+        (record defaults { ring = 8; cycles = 2; output = 3 })) }
     ensures among_machines { line (words_of (codes "sweep a m --ring 8 n --cycles=2 m"))
         ≡ Some (Sweep (codes "a") (codes "m" ∷ codes "n" ∷ codes "m" ∷ []) (record defaults { ring = 8; cycles = 2 })) }
     ensures before_the_command { line (words_of (codes "--ring 8 run a m")) ≡ None }
     ensures twice { line (words_of (codes "run a m --ring 8 --ring 8")) ≡ None }
     ensures twice_with_names_between { line (words_of (codes "run --ring=8 a --ring=9 m")) ≡ None }
+    ensures twice_threads { line (words_of (codes "run a m --threads 1 --threads=1")) ≡ None }
     ensures twice_input { line (words_of (codes "func a --input i --input i")) ≡ None }
 {}
 
@@ -68,9 +80,9 @@ pub fn options_anywhere()
 #[tactic(auto, unfolding(crate::proofs::OnWords::line_on_words))]
 pub fn numbers()
     ensures ring_least { line (words_of (codes "run a m --ring 1"))
-        ≡ Some (Run (codes "a") (codes "m") (record defaults { ring = 1 })) }
+        ≡ Some (Run (codes "a") (codes "m") 2 (record defaults { ring = 1 })) }
     ensures ring_most { line (words_of (codes "run a m --ring 65536"))
-        ≡ Some (Run (codes "a") (codes "m") (record defaults { ring = 65536 })) }
+        ≡ Some (Run (codes "a") (codes "m") 2 (record defaults { ring = 65536 })) }
     ensures ring_below { line (words_of (codes "run a m --ring 0")) ≡ None }
     ensures ring_above { line (words_of (codes "run a m --ring 65537")) ≡ None }
     ensures cycles_least { line (words_of (codes "func a --cycles 1"))
@@ -90,6 +102,12 @@ pub fn numbers()
         ≡ Some (Back (codes "a") (codes "s") 1048576 defaults) }
     ensures history_below { line (words_of (codes "back a s --history 0")) ≡ None }
     ensures history_above { line (words_of (codes "back a s --history 1048577")) ≡ None }
+    ensures threads_least { line (words_of (codes "run a m --threads 1"))
+        ≡ Some (Run (codes "a") (codes "m") 1 defaults) }
+    ensures threads_most { line (words_of (codes "run a m --threads=2"))
+        ≡ Some (Run (codes "a") (codes "m") 2 defaults) }
+    ensures threads_below { line (words_of (codes "run a m --threads 0")) ≡ None }
+    ensures threads_above { line (words_of (codes "run a m --threads 3")) ≡ None }
     ensures seed_least { line (words_of (codes "soak 0")) ≡ Some (Soak 0) }
     ensures seed_most { line (words_of (codes "soak 18446744073709551615")) ≡ Some (Soak 18446744073709551615) }
     ensures seed_above { line (words_of (codes "soak 18446744073709551616")) ≡ None }
@@ -99,9 +117,9 @@ pub fn numbers()
 #[tactic(auto, unfolding(crate::proofs::OnWords::line_on_words))]
 pub fn numerals()
     ensures leading_zeros { line (words_of (codes "run a m --ring 008"))
-        ≡ Some (Run (codes "a") (codes "m") (record defaults { ring = 8 })) }
+        ≡ Some (Run (codes "a") (codes "m") 2 (record defaults { ring = 8 })) }
     ensures twenty_digits { line (words_of (codes "run a m --ring 00000000000000000008"))
-        ≡ Some (Run (codes "a") (codes "m") (record defaults { ring = 8 })) }
+        ≡ Some (Run (codes "a") (codes "m") 2 (record defaults { ring = 8 })) }
     ensures twenty_one_digits { line (words_of (codes "run a m --ring 000000000000000000008")) ≡ None }
     ensures plus { line (words_of (codes "run a m --ring +8")) ≡ None }
     ensures attached_plus { line (words_of (codes "run a m --ring=+8")) ≡ None }
@@ -118,15 +136,18 @@ pub fn numerals()
 /// Words that begin with `-`: behind `--` each is a name, and `-` alone is a name everywhere.
 #[tactic(auto, unfolding(crate::proofs::OnWords::line_on_words))]
 pub fn dashes()
-    ensures dashes_first { line (words_of (codes "run -- a m")) ≡ Some (Run (codes "a") (codes "m") defaults) }
-    ensures dashes_between { line (words_of (codes "run a -- m")) ≡ Some (Run (codes "a") (codes "m") defaults) }
+    ensures dashes_first { line (words_of (codes "run -- a m"))
+        ≡ Some (Run (codes "a") (codes "m") 2 defaults) }
+    ensures dashes_between { line (words_of (codes "run a -- m"))
+        ≡ Some (Run (codes "a") (codes "m") 2 defaults) }
     ensures options_behind_dashes { line (words_of (codes "run -- --ring --help"))
-        ≡ Some (Run (codes "--ring") (codes "--help") defaults) }
+        ≡ Some (Run (codes "--ring") (codes "--help") 2 defaults) }
     ensures dashes_behind_dashes { line (words_of (codes "run -- a --"))
-        ≡ Some (Run (codes "a") (codes "--") defaults) }
+        ≡ Some (Run (codes "a") (codes "--") 2 defaults) }
     ensures option_before_dashes { line (words_of (codes "run --ring 8 -- a m"))
-        ≡ Some (Run (codes "a") (codes "m") (record defaults { ring = 8 })) }
-    ensures one_dash { line (words_of (codes "run - m")) ≡ Some (Run (codes "-") (codes "m") defaults) }
+        ≡ Some (Run (codes "a") (codes "m") 2 (record defaults { ring = 8 })) }
+    ensures one_dash { line (words_of (codes "run - m"))
+        ≡ Some (Run (codes "-") (codes "m") 2 defaults) }
     ensures one_dash_as_value { line (words_of (codes "func a --input -"))
         ≡ Some (Func (codes "a") (record defaults { input = Some (codes "-") })) }
     ensures attached_dash { line (words_of (codes "func a --input=-x"))

@@ -7,6 +7,7 @@ mod form;
 mod line;
 mod lines;
 mod number;
+mod own;
 mod read;
 #[cfg(test)]
 mod tests;

@@ -1,5 +1,8 @@
+ghost use Rattle.std.specs.Prelude.{◌≡◌};
+
 use crate::texts::Texts;
 use fsim_base::Text;
+use std::alloc::AllocError;
 use thiserror::Error;
 
 /// What a command line asks for: its command, with the names of files and the options that it gives.
@@ -10,10 +13,12 @@ pub enum Line {
         image: Text,
         options: Options,
     },
-    /// Runs the image on the machine, with two threads.
+    /// Runs the image on the machine, with 1 or 2 `threads`: with 2 each side has a thread of its own,
+    /// with 1 both are played in turn on one.
     Run {
         image: Text,
         machine: Text,
+        threads: u32,
         options: Options,
     },
     /// Plays a plan of the core's events on one thread, and goes on to the next cycle boundary.
@@ -71,4 +76,14 @@ pub enum UsageFault {
     /// No memory was left to read them.
     #[error("no memory is left")]
     Memory,
+}
+
+impl From<AllocError> for UsageFault {
+    ghost use Rattle.fast_cli.specs.declared.line.UsageFault.TheVariants.{Memory};
+
+    ghost from_gives = { λ _ fault. fault ≡ Memory };
+
+    fn from(_error: AllocError) -> UsageFault {
+        UsageFault::Memory
+    }
 }

@@ -2,7 +2,7 @@
 ghost use Rattle.std.specs.Prelude.{◌≡◌, IfOk, map, Some, None, Err};
 ghost use Rattle.std.specs.Str.{IsUtf8};
 ghost use Rattle.fast_cli.specs.Words.{AreText};
-ghost use Rattle.fast_cli.specs.Line.{back_command, func_command, inorder_command, line, line_by, run_command};
+ghost use Rattle.fast_cli.specs.Line.{NamesCommand, back_command, func_command, inorder_command, line, line_by, run_command};
 ghost use Rattle.fast_cli.specs.Line.{sched_command, soak_command, sweep_command};
 ghost use Rattle.fast_cli.specs.Ranges.{IsInRange};
 
@@ -40,7 +40,7 @@ fn read_run<'a>(alloc: Global, words: &'a [&'a str]) -> Result<Line, UsageFault>
         word: "run",
         names: &["IMAGE", "MACHINE"],
         rest: None,
-        options: &["ring", "cycles", "input", "output"],
+        options: &["threads", "ring", "cycles", "input", "output"],
     };
     let matches = parse_form(alloc, &form, words)?;
     run_at(alloc, &matches)
@@ -149,12 +149,14 @@ fn note_texts(words: &[&str])
 /// The line that the words make: the first is the command, and behind it stand its names in their order, with options
 /// before, between and after them.
 ///
-/// `Words` comes exactly where they make none. `Memory` is free.
+/// `Words` comes where they make none. `Memory` comes only where the first of them names a command: where clap says so, and
+/// for the names of words that make a line.
 #[tactic(auto, unfolding(crate::specs::Line::line))]
 pub fn read_words<'a>(alloc: Global, words: &'a [&'a str]) -> Result<Line, UsageFault>
     ensures ok { IfOk result (λ l. line (map (λ w. w.now) words.entry.now) ≡ Some l) }
     ensures ranges { IfOk result IsInRange }
     ensures words { result ≡ Err UsageFault.Words → line (map (λ w. w.now) words.entry.now) ≡ None }
+    ensures memory { result ≡ Err UsageFault.Memory → NamesCommand (map (λ w. w.now) words.entry.now) }
 {
     let [command, rest @ ..] = words else {
         return Err(UsageFault::Words);

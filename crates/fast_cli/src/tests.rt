@@ -3,30 +3,32 @@ use std::alloc::{AllocError, Global};
 use std::test::Fail;
 
 // The words of a text, cut at each space, and the line that they make.
-const ROWS: [(&str, &str); 44] = [
+const ROWS: [(&str, &str); 50] = [
     ("func a", "func a, 64 10000000 16777216"),
-    ("run a m", "run a m, 64 10000000 16777216"),
+    ("run a m", "run a m 2, 64 10000000 16777216"),
     ("sched a m p", "sched a m p, 64 10000000 16777216"),
     ("soak 7", "soak 7"),
     ("back a s", "back a s 65536, 64 10000000 16777216"),
     ("inorder a m p", "inorder a m p, 64 10000000 16777216"),
     ("sweep a m n", "sweep a [m n], 64 10000000 16777216"),
-    ("run --ring=8 a m", "run a m, 8 10000000 16777216"),
-    ("run --ring 8 a m", "run a m, 8 10000000 16777216"),
-    ("run a --ring 8 m", "run a m, 8 10000000 16777216"),
-    ("run a m --ring 8", "run a m, 8 10000000 16777216"),
+    ("run --ring=8 a m", "run a m 2, 8 10000000 16777216"),
+    ("run --ring 8 a m", "run a m 2, 8 10000000 16777216"),
+    ("run a --ring 8 m", "run a m 2, 8 10000000 16777216"),
+    ("run a m --ring 8", "run a m 2, 8 10000000 16777216"),
     ("sweep a m --ring 8 n", "sweep a [m n], 8 10000000 16777216"),
     (
         "func a --input i --cycles 5 --output 4",
         "func a, 64 5 4 from i",
     ),
     ("back a s --history 2", "back a s 2, 64 10000000 16777216"),
+    ("run a m --threads 1", "run a m 1, 64 10000000 16777216"),
+    ("run a m --threads=2", "run a m 2, 64 10000000 16777216"),
     (
         "run a m --ring 00000000000000000008",
-        "run a m, 8 10000000 16777216",
+        "run a m 2, 8 10000000 16777216",
     ),
-    ("run -- --ring -h", "run --ring -h, 64 10000000 16777216"),
-    ("run - -", "run - -, 64 10000000 16777216"),
+    ("run -- --ring -h", "run --ring -h 2, 64 10000000 16777216"),
+    ("run - -", "run - - 2, 64 10000000 16777216"),
     ("func a --input -", "func a, 64 10000000 16777216 from -"),
     ("func a --input=-x", "func a, 64 10000000 16777216 from -x"),
     ("soak -- 7", "soak 7"),
@@ -37,6 +39,10 @@ const ROWS: [(&str, &str); 44] = [
     ("run a m --ring 0", "refused"),
     ("run a m --ring 65537", "refused"),
     ("run a m --ring 8 --ring 8", "refused"),
+    ("run a m --threads 0", "refused"),
+    ("run a m --threads 3", "refused"),
+    ("run a m --threads 1 --threads=1", "refused"),
+    ("sched a m p --threads 1", "refused"),
     ("soak -1", "refused"),
     ("soak 18446744073709551616", "refused"),
     ("--help", "refused"),
@@ -76,14 +82,11 @@ fn line_text(alloc: Global, line: &Line) -> Result<String, AllocError> {
         Line::Run {
             image,
             machine,
+            threads,
             options,
         } => {
-            format!(in alloc;
-                "run {} {}, {}",
-                image.as_str(),
-                machine.as_str(),
-                options_text(alloc, options)?
-            )
+            let names = format!(in alloc; "{} {}", image.as_str(), machine.as_str())?;
+            format!(in alloc; "run {names} {threads}, {}", options_text(alloc, options)?)
         }
         Line::Sched {
             image,

@@ -1,6 +1,7 @@
-ghost use Rattle.std.specs.Prelude.{◌≡◌, [], None, Some, OnOk, OnErr};
+ghost use Rattle.std.specs.Prelude.{◌≡◌, ◌≤◌, [], length, None, Some, OnOk, OnErr};
 ghost use Rattle.fsim_ports.specs.Files.{Names};
 ghost use Rattle.fsim_ports.specs.Memory.{with_file};
+ghost use Rattle.fsim_ports.specs.Sink.{IsPut};
 
 use crate::outside::{Failed, Files, Part, Sink};
 use crate::table::{NameTable, part_of};
@@ -68,7 +69,12 @@ impl Sink for SureSink {
 
     ghost faults = { λ s. 0 };
 
-    fn put(&mut self, bytes: &[u8]) -> Result<usize, Failed> {
+    /// Takes the piece whole.
+    fn put(&mut self, bytes: &[u8]) -> Result<usize, Failed>
+        ensures count { 0 ≤ 0 }
+        ensures put { IsPut bytes.now 0 0 None None result }
+        ensures whole { result ≡ Ok (length bytes.now) }
+    {
         Ok(bytes.len())
     }
 }

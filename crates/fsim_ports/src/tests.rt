@@ -3,6 +3,8 @@ ghost use Rattle.std.specs.Prelude.{[], Some};
 
 use super::*;
 use std::alloc::Global;
+use std::fmt::Display;
+use std::io;
 use std::process::Abort;
 use std::test::Fail;
 
@@ -140,6 +142,48 @@ fn writes_by_short_puts(rt: HostRuntime) -> Result<(), Fail> {
     assert_eq!(rt; put_all(&mut sink, b"a"), Err(Failed));
     assert_eq!(rt; sink.faults, 1);
     Ok(())
+}
+
+/// A host whose standard output takes so many bytes at a time at most.
+#[derive(Drop)]
+struct SlowHost {
+    most: usize,
+}
+
+impl Print for SlowHost {
+    fn print<D: Display + Drop>(&self, value: D) -> io::Result<()> {
+        let _ = value;
+        Ok(())
+    }
+
+    fn println<D: Display + Drop>(&self, value: D) -> io::Result<()> {
+        let _ = value;
+        Ok(())
+    }
+
+    fn write_all(&self, bytes: &[u8]) -> io::Result<()> {
+        let _ = bytes;
+        Ok(())
+    }
+
+    fn write_some(&self, bytes: &[u8]) -> io::Result<usize> {
+        Ok(bytes.len().min(self.most))
+    }
+}
+
+#[test]
+fn host_sink_tells_how_much_was_taken(rt: HostRuntime) {
+    let cases: [(usize, &[u8], Result<usize, Failed>); 5] = [
+        (2, b"abcde", Ok(2)),
+        (2, b"a", Ok(1)),
+        (2, b"", Ok(0)),
+        (0, b"a", Err(Failed)),
+        (0, b"", Ok(0)),
+    ];
+    for (most, piece, wanted) in cases {
+        let mut sink = HostSink::new(SlowHost { most });
+        assert_eq!(rt; sink.put(piece), wanted, "{most} {piece:?}");
+    }
 }
 
 /// Uses a sink and a gate by their bounds alone.

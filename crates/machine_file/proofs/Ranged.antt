@@ -11,6 +11,7 @@ use Rattle.machine_file.specs.declared.fault.MachineFault.{MachineFault}
 use Rattle.toml.specs.Data.{Members}
 use Rattle.machine_file.specs.Table.{Wanted, number, power, pages, pages_of_ram, text, Key, Row, version_row, first_rows, second_rows, rows, key_text}
 use Rattle.machine_file.specs.File.{Held, held, given, whole, natural, value_of, value_at, ram_base, is_in_range, is_power, number_fault, given_fault, row_fault, first_failing, file_fault, fault_by, unknown_key, known_rows, params_by}
+use Rattle.machine_file.proofs.Versions.{version_fits}
 
 -- a number that passes the tests of its row, as a natural number
 abbrev fits : ℕ → Wanted → ℕ → Bool
@@ -80,9 +81,9 @@ cache_fits : (sets line set ways miss : ℕ) → is_power_between 4 256 line ≡
 cache_fits sets line set ways miss a b c d = both (both (both a b) (most 0 16 ways c)) (most 0 1000 miss d)
 
 -- the parameters of a file without a failing row are in range, row by row
-are_params-clear : (file : Members) → first_failing file rows ≡ None → are_params (params_by (value_at file)) ≡ true
+are_params-clear : (file : Members) → unknown_key (known_rows file) file ≡ None → first_failing file rows ≡ None → are_params (params_by (value_at file)) ≡ true
 unfolding are_params params_by ram_base first_rows second_rows rows key_text
-are_params-clear file clear =
+are_params-clear file known clear =
     let n : ℕ → ℕ = λ k. value_of file (get_or rows k version_row) in
     let at = λ (k : ℕ) (within : k < 34). fits_at file rows clear k version_row within in
     let core = both (both (both (both (at 3 (lit< tt)) (at 4 (lit< tt))) (at 5 (lit< tt))) (at 6 (lit< tt))) (at 7 (lit< tt)) in
@@ -96,15 +97,18 @@ are_params-clear file clear =
     let dcache = cache_fits 4096 (n 21) (n 23) (n 25) (n 27) (power_fits 4 256 (n 21) (lit< tt) (at 21 (lit< tt))) (power_fits 1 4096 (n 23) (lit< tt) (at 23 (lit< tt))) (at 25 (lit< tt)) (at 27 (lit< tt)) in
     let second = cache_fits 65536 (n 29) (n 30) (n 31) (n 33) (power_fits 4 256 (n 29) (lit< tt) (at 29 (lit< tt))) (power_fits 1 65536 (n 30) (lit< tt) (at 30 (lit< tt))) (at 31 (lit< tt)) (at 33 (lit< tt)) in
     let caches = both (both (both icache dcache) second) (most 0 1000 (n 32) (at 32 (lit< tt))) in
-    both (both (both (both (both (most 1 2 (n 0) (at 0 (lit< tt))) (ram_fits (n 1) (n 2) (at 1 (lit< tt)) (at 2 (lit< tt)))) core) (both (both (both alu mul) div) mem)) predictor) caches
+    both (both (both (both (both (version_fits file known (at 0 (lit< tt))) (ram_fits (n 1) (n 2) (at 1 (lit< tt)) (at 2 (lit< tt)))) core) (both (both (both alu mul) div) mem)) predictor) caches
 
-fault_clear : (file : Members) (unknown : Option Key) → fault_by file unknown ≡ None → first_failing file rows ≡ None
-fault_clear file None clear = clear
+fault_clear : (file : Members) (unknown : Option Key) → fault_by file unknown ≡ None
+    → (unknown ≡ None) × (first_failing file rows ≡ None)
+fault_clear file None clear = (refl, clear)
 fault_clear file (Some key) clear = absurd (cc)
 
 pub are_params-file : (file : Members) → file_fault file ≡ None → are_params (params_by (value_at file)) ≡ true
 unfolding file_fault
-are_params-file file clear = are_params-clear file (fault_clear file (unknown_key (known_rows file) file) clear)
+are_params-file file clear =
+    let (known, passing) = fault_clear file (unknown_key (known_rows file) file) clear in
+    are_params-clear file known passing
 
 -- for the reader
 pub ruleset ranges = (are_params-file)

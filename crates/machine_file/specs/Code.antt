@@ -1,7 +1,7 @@
 -- The table and what is read as the code has them.
 use Rattle.std.specs.Prelude.{[], ◌∷◌, option_map}
 use Rattle.toml.specs.View.{view}
-use Rattle.machine_file.specs.Table.{Wanted, number, power, pages, pages_of_ram, text, Key, Row}
+use Rattle.machine_file.specs.Table.{Wanted, number, power, pages, pages_of_ram, text, Key, Row, key_text}
 use Rattle.machine_file.specs.File.{Held, left_out, held_value, no_section}
 use Rattle.machine_file.specs.declared.table.Wanted.{Wanted as WantedInCode}
 use Rattle.machine_file.specs.declared.table.Wanted.TheVariants.{Number, Power, Pages, PagesOfRam, TextOfTwo, TextOfThree}
@@ -9,6 +9,10 @@ use Rattle.machine_file.specs.declared.table.Key.{Key as KeyInCode}
 use Rattle.machine_file.specs.declared.table.Row.{Row as RowInCode}
 use Rattle.machine_file.specs.declared.held_value.Held.{Held as HeldInCode}
 use Rattle.machine_file.specs.declared.held_value.Held.TheVariants.{LeftOut, Value, NoSection}
+use Rattle.machine_file.specs.declared.cause.Cause.{Cause}
+use Rattle.machine_file.specs.declared.cause.Cause.TheVariants as cause
+use Rattle.machine_file.specs.declared.fault.MachineFault.{MachineFault}
+use Rattle.machine_file.specs.declared.fault.MachineFault.TheVariants as fault
 
 abbrev pub wanted_of : WantedInCode → Wanted
 wanted_of (Number low high) = number low high
@@ -28,3 +32,10 @@ abbrev pub held_of : HeldInCode → Held
 held_of LeftOut = left_out
 held_of (Value v) = held_value (view v.now)
 held_of NoSection = no_section
+
+-- the fault that a cause makes
+abbrev pub fault_of : Cause → MachineFault
+fault_of (cause.Unknown key) = fault.Unknown (key_text (key_of key))
+fault_of (cause.Kind key) = fault.Kind (key_text (key_of key))
+fault_of (cause.Range key value) = fault.Range (key_text (key_of key)) value
+fault_of (cause.Power key value) = fault.Power (key_text (key_of key)) value

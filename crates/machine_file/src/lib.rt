@@ -1,8 +1,8 @@
 //! Machine files: which bytes are one, and the parameters that they give.
 #![tactic(auto)]
 
+mod cause;
 mod fault;
-mod faults;
 mod given;
 mod held;
 mod held_value;

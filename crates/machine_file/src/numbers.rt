@@ -1,49 +1,47 @@
 //! The numbers that a file gives for the keys, tested row by row.
-ghost use Rattle.std.specs.Prelude.{◌≡◌, ◌≢◌, IfOk, IfErr, map, pos, Some, None};
+ghost use Rattle.std.specs.Prelude.{◌≡◌, IfOk, IfErr, map, pos, Some, None};
 ghost use Rattle.toml.specs.View.{table_view};
 ghost use Rattle.machine_file.specs.Table.{rows};
 ghost use Rattle.machine_file.specs.File.{first_failing, natural, number_fault, ram_base, row_fault, value_of, whole};
-ghost use Rattle.machine_file.specs.Code.{row_of};
+ghost use Rattle.machine_file.specs.Code.{fault_of, row_of};
 
-use crate::fault::MachineFault;
-use crate::faults;
+use crate::cause::{Cause, kind};
 use crate::given::given;
 use crate::held::held;
 use crate::range::{in_range, is_power};
 use crate::table::{RAM_BASE, ROW_COUNT, Row};
-use std::alloc::Global;
 use toml::Table;
 
 /// The number, where it has no fault.
 #[tactic(auto, unfolding(crate::specs::File::number_fault))]
-fn checked(alloc: Global, row: &Row, base: u64, number: i64) -> Result<u32, MachineFault>
+fn checked(row: &Row, base: u64, number: i64) -> Result<u32, Cause<'static>>
     ensures same { IfOk result (λ n. n ≡ natural number) }
     ensures clear { IfOk result (λ _. number_fault base (row_of row.now) number ≡ None) }
-    ensures fault { IfErr result (λ fault. fault ≢ MachineFault.Memory
-        → number_fault base (row_of row.now) number ≡ Some fault) }
+    ensures fault { IfErr result (λ cause.
+        number_fault base (row_of row.now) number ≡ Some (fault_of cause)) }
 {
     let Some(n) = in_range(base, &row.wanted, number) else {
-        return Err(faults::range(alloc, &row.key, number));
+        return Err(Cause::Range(row.key, number));
     };
     if !is_power(&row.wanted, n) {
-        return Err(faults::power(alloc, &row.key, number));
+        return Err(Cause::Power(row.key, number));
     }
     Ok(n)
 }
 
 /// The number of a row's key.
 #[tactic(auto, unfolding(crate::specs::File::given, crate::specs::File::row_fault))]
-fn number(alloc: Global, row: &Row, base: u64, file: &Table) -> Result<u32, MachineFault>
+fn number(row: &Row, base: u64, file: &Table) -> Result<u32, Cause<'static>>
     requires { base ≡ ram_base (table_view file.now) }
     ensures value { IfOk result (λ n. n ≡ value_of (table_view file.now) (row_of row.now)) }
     ensures clear { IfOk result (λ _. row_fault (table_view file.now) (row_of row.now) ≡ None) }
-    ensures fault { IfErr result (λ fault. fault ≢ MachineFault.Memory
-        → row_fault (table_view file.now) (row_of row.now) ≡ Some fault) }
+    ensures fault { IfErr result (λ cause.
+        row_fault (table_view file.now) (row_of row.now) ≡ Some (fault_of cause)) }
 {
     let found = held(file, &row.key);
     match given(row, found) {
-        Some(number) => checked(alloc, row, base, number),
-        None => Err(faults::kind(alloc, &row.key, found)),
+        Some(number) => checked(row, base, number),
+        None => Err(kind(&row.key, found)),
     }
 }
 
@@ -67,21 +65,20 @@ fn ram_base(file: &Table) -> u64
 
 /// The numbers of the keys in the order of their rows.
 pub(crate) fn numbers(
-    alloc: Global,
     rows: &[Row; ROW_COUNT],
     file: &Table,
-) -> Result<[u32; ROW_COUNT], MachineFault>
+) -> Result<[u32; ROW_COUNT], Cause<'static>>
     ensures values { IfOk result (λ ns. ns ≡ map (value_of (table_view file.now)) (map row_of rows.now)) }
     ensures clear { IfOk result (λ _. first_failing (table_view file.now) (map row_of rows.now) ≡ None) }
-    ensures fault { IfErr result (λ fault. fault ≢ MachineFault.Memory
-        → first_failing (table_view file.now) (map row_of rows.now) ≡ Some fault) }
+    ensures fault { IfErr result (λ cause.
+        first_failing (table_view file.now) (map row_of rows.now) ≡ Some (fault_of cause)) }
 {
     let base = ram_base(file);
     let mut numbers = [0; ROW_COUNT];
     for i in 0..ROW_COUNT {
-        match number(alloc, &rows[i], base, file) {
+        match number(&rows[i], base, file) {
             Ok(n) => numbers[i] = n,
-            Err(fault) => return Err(fault),
+            Err(cause) => return Err(cause),
         }
     }
     Ok(numbers)

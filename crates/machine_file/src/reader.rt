@@ -1,12 +1,13 @@
-ghost use Rattle.std.specs.Prelude.{◌≡◌, ◌≢◌, map, None, Some, IfOk, IfErr, IfSome, IsErr, true};
+ghost use Rattle.std.specs.Prelude.{◌≡◌, ◌≢◌, ◌↔◌, map, None, Some, Err, IfOk, IfErr, IfSome, IsErr, true};
 ghost use Rattle.mono_model.specs.Setup.{are_params};
+ghost use Rattle.toml.specs.Errors.{IsBlank, IsMemory};
 ghost use Rattle.toml.specs.View.{table_view};
 ghost use Rattle.machine_file.specs.Table.{rows};
 ghost use Rattle.machine_file.specs.File.{document, file_fault, IsMachine, known_rows, machine_fault, params_by, value_at};
-ghost use Rattle.machine_file.specs.Code.{row_of};
+ghost use Rattle.machine_file.specs.Code.{fault_of, row_of};
 
+use crate::cause::{Cause, fault};
 use crate::fault::MachineFault;
-use crate::faults;
 use crate::held::is_second;
 use crate::names::unknown_key;
 use crate::numbers::numbers;
@@ -14,8 +15,21 @@ use crate::params::params;
 use crate::rows::{all_rows, first_rows};
 use crate::table::{ROW_COUNT, Row};
 use mono_model::Params;
-use std::alloc::Global;
+use std::alloc::{AllocError, Global};
 use toml::Table;
+use toml::de::Error;
+
+/// What an error of TOML says of the bytes.
+fn refusal(error: &Error) -> MachineFault
+    ensures memory { (result ≡ MachineFault.Memory) ↔ IsMemory error.now }
+    ensures other { ¬ IsMemory error.now → result ≡ MachineFault.NotToml }
+{
+    if error.is_memory() {
+        MachineFault::Memory
+    } else {
+        MachineFault::NotToml
+    }
+}
 
 /// The table that the bytes write.
 #[tactic(auto, unfolding(crate::specs::File::document))]
@@ -23,11 +37,11 @@ fn document(alloc: Global, bytes: &[u8]) -> Result<Table, MachineFault>
     ensures ok { IfOk result (λ file. document bytes.now ≡ Some (table_view file)) }
     ensures cause { IfErr result (λ fault. fault ≢ MachineFault.Memory → fault ≡ MachineFault.NotToml) }
     ensures fault { IfErr result (λ fault. fault ≢ MachineFault.Memory → document bytes.now ≡ None) }
+    ensures memory { result ≡ Err MachineFault.Memory → ¬ IsBlank bytes.now }
 {
     match toml::table_from_slice(alloc, bytes) {
         Ok(file) => Ok(file),
-        Err(fault) if fault.is_memory() => Err(MachineFault::Memory),
-        Err(_) => Err(MachineFault::NotToml),
+        Err(error) => Err(refusal(&error)),
     }
 }
 
@@ -45,20 +59,30 @@ fn known_rows<'a>(all: &'a [Row; ROW_COUNT], file: &Table) -> &'a [Row]
 
 /// The parameters of a file.
 #[tactic(auto, using(crate::proofs::Ranged::ranges), unfolding(crate::specs::File::file_fault))]
-fn read_file(alloc: Global, file: &Table) -> Result<Params, MachineFault>
+fn read_file<'a>(file: &'a Table) -> Result<Params, Cause<'a>>
     ensures params { IfOk result (λ params. params ≡ params_by (value_at (table_view file.now))) }
     ensures clear { IfOk result (λ _. file_fault (table_view file.now) ≡ None) }
     ensures in_range { IfOk result (λ params. are_params params ≡ true) }
-    ensures fault { IfErr result (λ fault. fault ≢ MachineFault.Memory
-        → file_fault (table_view file.now) ≡ Some fault) }
+    ensures fault { IfErr result (λ cause.
+        file_fault (table_view file.now) ≡ Some (fault_of cause)) }
 {
     let rows = all_rows();
     if let Some(key) = unknown_key(known_rows(&rows, file), file) {
-        return Err(faults::unknown(alloc, &key));
+        return Err(Cause::Unknown(key));
     }
-    match numbers(alloc, &rows, file) {
+    match numbers(&rows, file) {
         Ok(found) => Ok(params(found)),
-        Err(fault) => Err(fault),
+        Err(cause) => Err(cause),
+    }
+}
+
+/// The fault, or that of memory where the text of its key found none.
+fn told(alloc: Global, cause: Cause<'_>) -> MachineFault
+    ensures { result ≢ MachineFault.Memory → result ≡ fault_of cause.entry }
+{
+    match fault(alloc, cause) {
+        Ok(fault) => fault,
+        Err(AllocError) => MachineFault::Memory,
     }
 }
 
@@ -70,17 +94,23 @@ fn read_file(alloc: Global, file: &Table) -> Result<Params, MachineFault>
 ///
 /// # Errors
 ///
-/// The cases of `MachineFault`. That of memory may come at any file, and only where memory was wanted and not found.
-#[tactic(auto, unfolding(crate::specs::File::machine_fault, crate::specs::File::params_of))]
+/// The cases of `MachineFault`. That of memory comes only where memory was wanted and not found: where TOML says so, and for
+/// the text of a fault's key. A file of white space and comments takes none.
+#[tactic(auto, using(crate::proofs::Blanks::blank_clear), unfolding(crate::specs::File::machine_fault, crate::specs::File::params_of))]
 pub fn read(alloc: Global, bytes: &[u8]) -> Result<Params, MachineFault>
     ensures params { IfOk result (λ params. IsMachine bytes.now params) }
     ensures in_range { IfOk result (λ params. are_params params ≡ true) }
     ensures fault { IfErr result (λ fault. fault ≢ MachineFault.Memory
         → machine_fault bytes.now ≡ Some fault) }
     ensures refused { IfSome (machine_fault bytes.now) (λ _. IsErr result) }
+    ensures memory { result ≡ Err MachineFault.Memory → ¬ IsBlank bytes.now }
 {
-    match document(alloc, bytes) {
-        Ok(file) => read_file(alloc, &file),
-        Err(fault) => Err(fault),
+    let file = match document(alloc, bytes) {
+        Ok(file) => file,
+        Err(fault) => return Err(fault),
+    };
+    match read_file(&file) {
+        Ok(params) => Ok(params),
+        Err(cause) => Err(told(alloc, cause)),
     }
 }

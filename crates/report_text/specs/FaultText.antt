@@ -32,8 +32,19 @@ status_number (Later command) = 20
 status_number (BadScript line) = 21
 status_number (Sets named) = 22
 
+-- what is wrong with an image or a machine file has a line; want of memory is an answer of its own and no fault of theirs
+abbrev pub has_image_line : ImageFault → Bool
+has_image_line image.Memory = false
+has_image_line fault = true
+
+abbrev pub has_machine_line : MachineFault → Bool
+has_machine_line machine.Memory = false
+has_machine_line fault = true
+
 -- the answer has a line; those of a run and that of the sink's fault have none
 abbrev pub has_line : Status → Bool
+has_line (Image fault) = has_image_line fault
+has_line (Machine fault) = has_machine_line fault
 has_line Pass = false
 has_line (Fail code) = false
 has_line Limit = false

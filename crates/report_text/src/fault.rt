@@ -2,10 +2,11 @@ ghost use Rattle.std.specs.Prelude.{◌≡◌, true, ◌+◌, ◌≤◌, ◌++�
 ghost use Rattle.std.specs.Fmt.{signed_decimal};
 ghost use Rattle.fsim_ports.specs.Sink.{Puts};
 ghost use Rattle.mono_model.specs.Report.{line, line_feed};
-ghost use Rattle.report_text.specs.FaultText.{role_text, image_fault_text, machine_fault_text, usage_text, has_line, fault_text};
+ghost use Rattle.report_text.specs.FaultText.{role_text, image_fault_text, machine_fault_text, usage_text, has_image_line, has_machine_line, has_line, fault_text};
 
+use crate::keyed::keyed_line;
 use crate::line::Line;
-use crate::put::{WriteFault, put_piece, put_two};
+use crate::put::{WriteFault, put_piece, put_three};
 use crate::report_lines::count_line;
 use crate::status::{Role, Status};
 use elf_image::ImageFault;
@@ -51,6 +52,7 @@ fn too_long_line(role: Role, limit: u64) -> Line
 
 /// What is wrong with an image, behind the beginning of its line.
 fn image_head(fault: ImageFault) -> Line
+    requires told { has_image_line fault ≡ true }
     ensures text { result ≡ codes "fast: image: " ++ image_fault_text fault }
     ensures len { length result ≤ 100 }
 {
@@ -73,7 +75,7 @@ fn image_head(fault: ImageFault) -> Line
             numbered(&mut line, b"overlap ", index);
             numbered(&mut line, b" ", earlier);
         }
-        ImageFault::Memory => {}
+        ImageFault::Memory => unreachable!(),
     }
     line
 }
@@ -90,6 +92,7 @@ fn numbered(line: &mut Line, words: &[u8], number: u32)
 }
 
 fn image_line(fault: ImageFault) -> Line
+    requires told { has_image_line fault ≡ true }
     ensures text { result ≡ line (codes "fast: image: ") (image_fault_text fault) }
 {
     let mut line = image_head(fault);
@@ -117,14 +120,15 @@ fn value_tail(value: i64) -> Line
     line
 }
 
-/// Writes a beginning, a key and what stands behind it.
+/// Writes a beginning, a key and what stands behind it as one line.
 fn put_key<K: Sink>(head: &[u8], key: &[u8], tail: &[u8], sink: &mut K) -> Result<(), WriteFault>
     ensures count { K.faults sink.old ≤ K.faults sink.new }
-    ensures written { Puts (head.now ++ key.now ++ tail.now) (K.faults sink.old) (K.faults sink.new) (K.written sink.old) (K.written sink.new) result }
+    ensures written { Puts (head.now ++ key.now ++ tail.now) (K.faults sink.old) (K.faults sink.new)
+        (K.written sink.old) (K.written sink.new) result }
 {
-    match put_two(head, key, sink) {
-        Ok(()) => put_piece(tail, sink),
-        Err(fault) => Err(fault),
+    match keyed_line(head, key, tail) {
+        Some(line) => put_piece(line.as_slice(), sink),
+        None => put_three(head, key, tail, sink),
     }
 }
 
@@ -137,8 +141,9 @@ fn put_value<K: Sink>(head: &[u8], key: &[u8], value: &i64, sink: &mut K) -> Res
     put_key(head, key, tail.as_slice(), sink)
 }
 
-/// Writes what is wrong with a machine file. Its keys may have any length, so it is put in pieces.
+/// Writes what is wrong with a machine file.
 fn machine_line<K: Sink>(fault: &MachineFault, sink: &mut K) -> Result<(), WriteFault>
+    requires told { has_machine_line fault.now ≡ true }
     ensures count { K.faults sink.old ≤ K.faults sink.new }
     ensures written { Puts (line (codes "fast: machine: ") (machine_fault_text fault.now)) (K.faults sink.old) (K.faults sink.new) (K.written sink.old) (K.written sink.new) result }
 {
@@ -154,7 +159,7 @@ fn machine_line<K: Sink>(fault: &MachineFault, sink: &mut K) -> Result<(), Write
         MachineFault::Power(key, value) => {
             put_value(b"fast: machine: power ", key.as_slice(), value, sink)
         }
-        MachineFault::Memory => put_piece(b"fast: machine: \n", sink),
+        MachineFault::Memory => unreachable!(),
     }
 }
 
@@ -170,7 +175,8 @@ fn usage_line<K: Sink>(sink: &mut K) -> Result<(), WriteFault>
     )
 }
 
-/// Writes the line of an answer that has one.
+/// Writes the line of an answer that has one, by one `put_all`. Only a key that no machine file within its limit has is
+/// put in pieces.
 ///
 /// Ok says that the whole line was written. A fault comes only where the sink's count of faults rose, and then a proper
 /// prefix of the line was written. It takes no memory.
@@ -193,7 +199,7 @@ pub fn fault_line<K: Sink>(status: &Status, sink: &mut K) -> Result<(), WriteFau
         Status::BadPlan(place) => put_count(b"fast: bad plan: ", *place, sink),
         Status::Later(command) => put_key(b"fast: later: ", command.as_slice(), b"\n", sink),
         Status::BadScript(line) => put_count(b"fast: bad script: ", *line, sink),
-        Status::Sets(named) => put_count(b"fast: sets: ", u64::from(*named), sink),
+        Status::Sets(named) => put_count(b"fast: sets: ", *named, sink),
         Status::Pass
         | Status::Fail(_)
         | Status::Limit

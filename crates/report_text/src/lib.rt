@@ -2,6 +2,7 @@
 #![tactic(auto)]
 
 mod fault;
+mod keyed;
 mod line;
 mod put;
 mod report_lines;

@@ -31,6 +31,23 @@ pub fn put_two<K: Sink>(first: &[u8], second: &[u8], sink: &mut K) -> Result<(),
     }
 }
 
+/// Writes three pieces, one behind the other.
+pub fn put_three<K: Sink>(
+    first: &[u8],
+    second: &[u8],
+    third: &[u8],
+    sink: &mut K,
+) -> Result<(), WriteFault>
+    ensures count { K.faults sink.old ≤ K.faults sink.new }
+    ensures written { Puts (first.now ++ second.now ++ third.now) (K.faults sink.old)
+        (K.faults sink.new) (K.written sink.old) (K.written sink.new) result }
+{
+    match put_two(first, second, sink) {
+        Ok(()) => put_piece(third, sink),
+        Err(fault) => Err(fault),
+    }
+}
+
 /// Writes lines, one after the other.
 pub fn put_lines<K: Sink>(lines: &[Line], sink: &mut K) -> Result<(), WriteFault>
     ensures count { K.faults sink.old ≤ K.faults sink.new }

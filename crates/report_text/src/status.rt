@@ -50,7 +50,7 @@ pub enum Status {
     /// The script's first line that is no command, counted from 1.
     BadScript(u64),
     /// A sweep names this many machine files, and fewer sets of devices were handed in.
-    Sets(u32),
+    Sets(u64),
 }
 
 impl Status {

@@ -156,7 +156,7 @@ fn report_breaks_off_at_each_put(rt: HostRuntime) -> Result<(), Fail> {
     Ok(())
 }
 
-/// Writes the line of a status over a sink with room, and compares it and the number.
+/// Writes the line of a status over a sink whose second put fails, and compares it and the number: a line is one put.
 fn check(
     rt: &impl Abort,
     alloc: Global,
@@ -166,7 +166,8 @@ fn check(
 ) -> Result<(), Fail>
     requires line { has_line status ≡ true }
 {
-    let mut sink = MemorySink::new(alloc, 4096)?;
+    let mut sink = MemorySink::new(alloc, 70_000)?;
+    sink.fail_at(2)?;
     assert!(rt; fault_line(&status, &mut sink).is_ok());
     assert_eq!(rt; sink.bytes(), wanted);
     assert_eq!(rt; status.number(), number);
@@ -189,8 +190,8 @@ fn lines_of_words_and_commands(rt: HostRuntime) -> Result<(), Fail> {
     let text = b"fast: later: run\n";
     let run = bytes_of(alloc, b"run")?;
     check(&rt, alloc, Status::Later(run), 20, text)?;
-    let text = b"fast: sets: 63\n";
-    check(&rt, alloc, Status::Sets(63), 22, text)
+    let text = b"fast: sets: 18446744073709551615\n";
+    check(&rt, alloc, Status::Sets(u64::MAX), 22, text)
 }
 
 #[test]
@@ -252,6 +253,17 @@ fn lines_of_machines(rt: HostRuntime) -> Result<(), Fail> {
     let key = bytes_of(alloc, b"l2.sets")?;
     let machine = Status::Machine(MachineFault::Power(key, 3));
     check(&rt, alloc, machine, 12, text)
+}
+
+#[test]
+fn line_of_the_longest_key_is_one_put(rt: HostRuntime) -> Result<(), Fail> {
+    let alloc = rt.alloc();
+    let key = vec![in alloc; b'k'; 65_536]?;
+    let mut wanted = b"fast: machine: range ".to_vec(alloc)?;
+    wanted.extend_from_slice(key.as_slice())?;
+    wanted.extend_from_slice(b" -9223372036854775808\n")?;
+    let machine = Status::Machine(MachineFault::Range(Bytes::new(key), i64::MIN));
+    check(&rt, alloc, machine, 12, wanted.as_slice())
 }
 
 #[test]

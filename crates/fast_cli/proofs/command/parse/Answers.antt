@@ -1,4 +1,5 @@
 use Rattle.std.proofs.Common.{map}
+use Rattle.clap.specs.Values.{kind_of}
 use Rattle.clap.specs.Words.{app_of, found_of, rows_of}
 use Rattle.fast_cli.proofs.Parses.{simple_of_free, parsed-none, parsed-some}
 use Rattle.fast_cli.proofs.command.parse.Goals as goal
@@ -8,7 +9,7 @@ returns-in-Ok-clause-ok c =
     parsed-some (app_of c.args.command) (map (λ w. w.now) c.args.words.now) (rows_of (found_of c.in-Ok.matches)) (c.in-Ok.ensures.kinds c.requires)
     (c.in-Ok.ensures.matches (simple_of_free (app_of c.args.command) c.requires)).0
 
-pub returns-clause-words : goal.returns-clause-words
-returns-clause-words c = λ _.
-    parsed-none (app_of c.args.command) (map (λ w. w.now) c.args.words.now) c.kind.result
-    (rw (← c.kind.ensures) at (c.in-Err.ensures.kinds c.requires)) c.in_default.not-OutOfMemory
+pub returns-in-Err-clause-words : goal.returns-in-Err-clause-words
+returns-in-Err-clause-words c = λ told.
+    parsed-none (app_of c.args.command) (map (λ w. w.now) c.args.words.now) (kind_of c.in-Err.error) (c.in-Err.ensures.kinds c.requires)
+    (λ memory. let wanted = c.refusal.ensures.memory.1 memory in cc)

@@ -33,8 +33,3 @@ pub returns-in-Power-clause-written : goal.returns-in-Power-clause-written
 returns-in-Power-clause-written g c =
     let P : List ℕ → Type 0 = λ t. Puts t (g.K.Sink.faults c.args.sink.now) (g.K.Sink.faults c.put_value-in-Power.new.sink) (g.K.Sink.written c.args.sink.now) (g.K.Sink.written c.put_value-in-Power.new.sink) c.put_value-in-Power.result in
     subst P (ap (λ k. machine_text (Power k c.in-Power.value)) c.as_slice-in-Power.ensures.same ∙ sym (ap machine_text c.in-Power.is)) c.put_value-in-Power.ensures.written
-
-pub returns-in-Memory-clause-written : goal.returns-in-Memory-clause-written
-returns-in-Memory-clause-written g c =
-    let P : List ℕ → Type 0 = λ t. Puts t (g.K.Sink.faults c.args.sink.now) (g.K.Sink.faults c.put_piece-in-Memory.new.sink) (g.K.Sink.written c.args.sink.now) (g.K.Sink.written c.put_piece-in-Memory.new.sink) c.put_piece-in-Memory.result in
-    subst P (sym (ap machine_text c.in-Memory.is)) c.put_piece-in-Memory.ensures.written
