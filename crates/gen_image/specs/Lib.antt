@@ -1,0 +1,5 @@
+pub mod Assembly
+pub mod Draws
+pub mod Soak
+pub mod Made
+pub mod Machine
