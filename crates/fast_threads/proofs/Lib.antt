@@ -1,0 +1,3 @@
+mod Functional
+mod Timing
+mod Ended

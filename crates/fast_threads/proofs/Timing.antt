@@ -1,0 +1,226 @@
+-- The timing side at its end of the queues: each of its turns keeps what it stands for.
+use Rattle.std.proofs.Common.{◌≡◌, ℕ, suc, ◌+◌, ◌&&◌, ◌==◌, Bool, true, false, is_none, Option, Some, None, IfSome, List, length, refl, ap, sym, ◌∙◌, subst, arith}
+use Rattle.std.proofs.lemmas.Bool.{and_parts}
+use Rattle.rollback_cmds.specs.declared.order.Order.{Order}
+use Rattle.trace_entry.specs.declared.Entry.{Entry}
+use Rattle.mono_model.specs.declared.setup.Setup.{Setup}
+use Rattle.mono_model.specs.declared.final_state.End.{End}
+use Rattle.mono_model.specs.declared.final_state.Stats.{Stats}
+use Rattle.mono_model.specs.Setup.{is_setup}
+use Rattle.mono_model.specs.Cycle.{mono}
+use Rattle.mono_model.specs.Machine.{Machine, stats_of}
+use Rattle.mono_model.specs.Demand.{At, interrupting, committing, completing, issuing, trying, ending, stopping, halted, place, told, next, order, needs_entry, needed_entry}
+use Rattle.mono_model.specs.Split.{told_by, is_halted}
+use Rattle.machine_laws.specs.Telling.{with_order}
+use Rattle.machine_laws.proofs.SplitRanges.{in_range}
+use Rattle.machine_laws.proofs.Telling.{step_told}
+use Rattle.machine_laws.proofs.Whole.{order_is}
+use Rattle.machine_laws.proofs.OrderSteps.{needed_is}
+use Rattle.machine_laws.proofs.Stopping.{halted_machine}
+use Rattle.time_model.specs.declared.state.TimeState.{TimeState}
+use Rattle.time_model.specs.declared.turn.Turn.{Turn}
+use Rattle.time_model.specs.declared.turn.Turn.TheVariants.{Moved, Ordered, Want, CycleEnd, Halted}
+use Rattle.time_model.specs.Turns.{turn_told}
+use Rattle.time_model.specs.Stands.{StandsAt, IsStep, IsMade, IsRight, is_over, wants_in}
+use Rattle.time_model.proofs.Owing.{stands_wants}
+use Rattle.trace_ring.specs.Ring.{IsNamed}
+use Rattle.trace_ring.specs.Ends.{TimeAt, time_start, time_pushed, time_taken}
+use Rattle.fast_threads.specs.Workers.{in_hand, IsTimeAt}
+
+none_told : (s : Setup) → length (told (place s 0)) ≡ 0
+unfolding place
+none_told s = refl
+
+-- at the start of a run
+pub time_starts : (s : Setup) (side : TimeState) → is_setup s ≡ true → StandsAt s 0 side → IsTimeAt (time_start s) side None false
+time_starts s side sound stands = record {
+  sound = sound;
+  steps = 0;
+  stands = stands;
+  orders = none_told s;
+  next = tt;
+  over = λ is. cc;
+}
+
+-- the order in hand is pushed
+pub time_sends : (end behind : TimeAt) (side : TimeState) (o : Order) (is_halted : Bool) → IsTimeAt end side (Some o) is_halted → behind ≡ time_pushed end → IsTimeAt behind side None is_halted
+time_sends end behind side o is_halted is pushed =
+    let P : TimeAt → Type 0 = λ x. IsTimeAt x side None is_halted in
+    subst P (sym pushed) (record {
+      sound = is.sound;
+      steps = is.steps;
+      stands = is.stands;
+      orders = omega (arith, is.orders);
+      next = tt;
+      over = is.over;
+    })
+
+pub time_same : (end behind : TimeAt) (side : TimeState) (hand : Option Order) (is_halted : Bool) → IsTimeAt end side hand is_halted → behind ≡ end → IsTimeAt behind side hand is_halted
+time_same end behind side hand is_halted is same =
+    let P : TimeAt → Type 0 = λ x. IsTimeAt x side hand is_halted in
+    subst P (sym same) is
+
+-- an entry is taken from the queue, and handed to the side or let go
+pub time_takes : (end behind : TimeAt) (side new : TimeState) (e : Entry) (hand : Option Order) (is_halted : Bool) (is : IsTimeAt end side hand is_halted) → behind ≡ time_taken end e →
+    StandsAt end.setup is.steps new → IsTimeAt behind new hand is_halted
+time_takes end behind side new e hand is_halted is taken stands =
+    let P : TimeAt → Type 0 = λ x. IsTimeAt x new hand is_halted in
+    subst P (sym taken) (record {
+      sound = is.sound;
+      steps = is.steps;
+      stands = stands;
+      orders = is.orders;
+      next = is.next;
+      over = is.over;
+    })
+
+-- the entry with the wanted number may be handed to the side: where it is of the side's epoch, it
+-- is the one that is needed
+module _ (end : TimeAt) (side : TimeState) (e : Entry) (hand : Option Order) (is_halted : Bool) (is : IsTimeAt end side hand is_halted)
+    (named : IsNamed end.setup e) (wants : wants_in side ≡ true) (number : e.number ≡ next (place end.setup is.steps).run.demand) where
+  pub time_needs : e.epoch ≡ side.epoch → e ≡ needed_entry end.setup (place end.setup is.steps)
+  time_needs epoch =
+      let s = end.setup in
+      let p = place s is.steps in
+      let needs : needs_entry p ≡ true = (and_parts (needs_entry p) (is_none side.held) (sym (stands_wants s is.steps side is.stands) ∙ wants)).0 in
+      needed_is s is.steps e (in_range s is.sound).some needs named (epoch ∙ is.stands.epoch) number
+
+  pub time_right : IsRight e side
+  time_right = record { setup = end.setup; sound = is.sound; steps = is.steps; stands = is.stands; needed = time_needs }
+
+pub time_with : (end : TimeAt) (side : TimeState) (hand other : Option Order) (is_halted : Bool) → hand ≡ other → IsTimeAt end side hand is_halted → IsTimeAt end side other is_halted
+time_with end side hand other is_halted same is =
+    let P : Option Order → Type 0 = λ o. IsTimeAt end side o is_halted in
+    subst P same is
+
+-- the order that a turn tells, if it tells one
+abbrev pub order_told : Turn → Option Order
+order_told Moved = None
+order_told (Ordered o) = Some o
+order_told Want = None
+order_told CycleEnd = None
+order_told Halted = None
+
+told_turn : (o : Option Order) (at : At) → order_told (turn_told o at) ≡ o
+told_turn (Some o) at = refl
+told_turn None interrupting = refl
+told_turn None committing = refl
+told_turn None completing = refl
+told_turn None issuing = refl
+told_turn None (trying more) = refl
+told_turn None ending = refl
+told_turn None stopping = refl
+told_turn None halted = refl
+
+goes_on : (o : Option Order) (at : At) → turn_told o at ≡ Halted → ⊥
+goes_on (Some o) at is = cc
+goes_on None interrupting is = cc
+goes_on None committing is = cc
+goes_on None completing is = cc
+goes_on None issuing is = cc
+goes_on None (trying more) is = cc
+goes_on None ending is = cc
+goes_on None stopping is = cc
+goes_on None halted is = cc
+
+none_held : (o : Option Entry) → is_none o ≡ true → o ≡ None
+none_held None is = refl
+none_held (Some e) is = cc
+
+one_more : (o : Option Order) (os : List Order) → length (with_order o os) ≡ length os + in_hand o
+one_more None os = omega arith
+one_more (Some o) os = omega arith
+
+in_place : (s : Setup) (o : Option Order) (m n : ℕ) → m ≡ n → IfSome o (λ x. order s m ≡ Some x) → IfSome o (λ x. order s n ≡ Some x)
+in_place s None m n same is = tt
+in_place s (Some o) m n same is = subst (λ (k : ℕ). order s k ≡ Some o) same is
+
+module _ (end : TimeAt) (side new : TimeState) (hand : Option Order) (is_halted : Bool) (turn : Turn) (none : hand ≡ None)
+    (is : IsTimeAt end side hand is_halted) (made : IsStep end.setup is.steps side new turn) where
+  abbrev Stepped : Type 0
+  Stepped = IsTimeAt end new (order_told turn) is_halted
+
+  orders_pushed : length (told (place end.setup is.steps)) ≡ end.pushed
+  orders_pushed = let e : in_hand hand ≡ 0 = ap in_hand none in omega (arith, is.orders, e)
+
+  stays : order_told turn ≡ None → new ≡ side → Stepped
+  stays told same =
+      let P : TimeState → Type 0 = λ t. IsTimeAt end t hand is_halted in
+      let Q : Option Order → Type 0 = λ o. IsTimeAt end new o is_halted in
+      subst Q (none ∙ sym told) (subst P (sym same) is)
+
+  goes : IsMade end.setup is.steps side new turn → is_over (place end.setup is.steps) ≡ false → Stepped
+  goes it on =
+      let s = end.setup in
+      let p = place s is.steps in
+      let q = place s (suc is.steps) in
+      let o : Option Order = told_by p q in
+      let Q : Option Order → Type 0 = λ x. IsTimeAt end new x is_halted in
+      subst Q (sym (ap order_told it.turn_is ∙ told_turn o p.run.at)) (record {
+        sound = is.sound;
+        steps = suc is.steps;
+        stands = it.stands;
+        orders = ap (λ (os : List Order). length os) (step_told s is.steps) ∙ one_more o (told p) ∙ ap (λ (n : ℕ). n + in_hand o) orders_pushed;
+        next = in_place s o (length (told p)) end.pushed orders_pushed (order_is s is.steps (in_range s is.sound).some);
+        over = λ halts. cc (is.over halts, on);
+      })
+
+  by_over : (b : Bool) → is_over (place end.setup is.steps) ≡ b → (needs_entry (place end.setup is.steps) && is_none side.held) ≡ false → Stepped
+  by_over true over fed = let it = made.rests over in stays (ap order_told it.0) it.1
+  by_over false on fed = goes (made.goes fed on) on
+
+  by_lack : (b : Bool) → (needs_entry (place end.setup is.steps) && is_none side.held) ≡ b → Stepped
+  by_lack true lacks =
+      let parts = and_parts (needs_entry (place end.setup is.steps)) (is_none side.held) lacks in
+      let it = made.waits parts.0 (none_held side.held parts.1) in
+      stays (ap order_told it.0) it.1
+  by_lack false fed = by_over (is_over (place end.setup is.steps)) refl fed
+
+  stepped : Stepped
+  stepped = by_lack (needs_entry (place end.setup is.steps) && is_none side.held) refl
+
+  -- a step that tells an order
+  pub time_tells : (o : Order) → turn ≡ Ordered o → IsTimeAt end new (Some o) is_halted
+  time_tells o ordered = time_with end new (order_told turn) (Some o) is_halted (ap order_told ordered) stepped
+
+  -- and one that tells none
+  pub time_moves : (what : Turn) → turn ≡ what → order_told what ≡ None → IsTimeAt end new hand is_halted
+  time_moves what same told = time_with end new (order_told turn) hand is_halted (ap order_told same ∙ told ∙ sym none) stepped
+
+  halts_over : turn ≡ Halted → (b : Bool) → is_over (place end.setup is.steps) ≡ b → (needs_entry (place end.setup is.steps) && is_none side.held) ≡ false → IsTimeAt end new hand true
+  halts_over halts true over fed =
+      let it = made.rests over in
+      let P : TimeState → Type 0 = λ t. IsTimeAt end t hand true in
+      subst P (sym it.1) (record { sound = is.sound; steps = is.steps; stands = is.stands; orders = is.orders; next = is.next; over = λ h. over })
+  halts_over halts false on fed = absurd (goes_on _ _ (sym (made.goes fed on).turn_is ∙ halts))
+
+  halts_lack : turn ≡ Halted → (b : Bool) → (needs_entry (place end.setup is.steps) && is_none side.held) ≡ b → IsTimeAt end new hand true
+  halts_lack halts true lacks =
+      let parts = and_parts (needs_entry (place end.setup is.steps)) (is_none side.held) lacks in
+      let it = made.waits parts.0 (none_held side.held parts.1) in
+      let e : Want ≡ Halted = sym it.0 ∙ halts in
+      cc e
+  halts_lack halts false fed = halts_over halts (is_over (place end.setup is.steps)) refl fed
+
+  -- the run is over
+  pub time_halts : turn ≡ Halted → IsTimeAt end new hand true
+  time_halts halts = halts_lack halts (needs_entry (place end.setup is.steps) && is_none side.held) refl
+
+-- where it is halted the machine is the one behind all cycles
+module _ (end : TimeAt) (side : TimeState) (hand : Option Order) (is : IsTimeAt end side hand true) where
+  pub machine_at_end : (place end.setup is.steps).run.demand.machine ≡ mono end.setup end.setup.cycles
+  machine_at_end =
+      let p = place end.setup is.steps in
+      halted_machine end.setup is.steps (in_range end.setup is.sound).some (and_parts (is_halted p.run.at) (p.owed == 0) (is.over refl)).0
+
+  pub end_at_end : (result : End) → ((s : Setup) (k : ℕ) → StandsAt s k side → result ≡ (place s k).run.demand.machine.end) → result ≡ (mono end.setup end.setup.cycles).end
+  end_at_end result told = told end.setup is.steps is.stands ∙ ap (λ (m : Machine). m.end) machine_at_end
+
+  pub stats_at_end : (result : Stats) → ((s : Setup) (k : ℕ) → StandsAt s k side → result ≡ stats_of s (place s k).run.demand.machine) →
+      result ≡ stats_of end.setup (mono end.setup end.setup.cycles)
+  stats_at_end result told = told end.setup is.steps is.stands ∙ ap (stats_of end.setup) machine_at_end
+
+pub time_over : (end : TimeAt) (side : TimeState) (hand : Option Order) (is_halted : Bool) → is_halted ≡ true → IsTimeAt end side hand is_halted → IsTimeAt end side hand true
+time_over end side hand is_halted halts is =
+    let P : Bool → Type 0 = λ b. IsTimeAt end side hand b in
+    subst P halts is

@@ -1,0 +1,7 @@
+use Rattle.fast_threads.proofs.Functional.{func_starts, func_same}
+use Rattle.fast_threads.proofs.func_worker.FuncWorker.new.Goals as goal
+
+pub invariant_of-result : goal.invariant_of-result
+invariant_of-result g c =
+    func_same _ c.args.end c.in_ok-side.side _
+    (func_starts c.args.setup.now c.in_ok-side.side c.requires.sound c.in_ok-side.ensures.stands c.in_ok-side.ensures.fresh) c.requires.end

@@ -1,0 +1,167 @@
+ghost use Rattle.std.specs.Prelude.{◌≡◌, true, Some, None, map, IfOk};
+
+use crate::lookahead::Lookahead;
+use crate::rounds::MOST_IDLE;
+use device_bus::Device;
+use fsim_base::NoMemory;
+use fsim_ports::Gate;
+use func_model::{Arch, FuncSide};
+use mono_model::Setup;
+use std::alloc::Global;
+use std::marker::Model;
+use std::sync::Wait;
+use std::thread;
+use trace_entry::Entry;
+use trace_ring::FuncEnd;
+
+/// The functional side at its end of the queues.
+#[derive(Drop)]
+pub struct FuncWorker<D: Device> {
+    end: FuncEnd,
+    side: FuncSide<D>,
+    /// The entry that was computed and not pushed yet.
+    computed: Option<Entry>,
+    lookahead: Lookahead,
+}
+
+impl<D: Device> Model for FuncWorker<D> {
+    ghost use Rattle.fast_threads.specs.Workers.{FuncWork, func_work, IsFuncAt};
+
+    ghost Value = { FuncWork D };
+
+    ghost view = { λ worker. func_work worker.end.setup worker.side worker.computed };
+
+    ghost invariant = { λ worker. IsFuncAt worker.end worker.side worker.computed };
+}
+
+impl<D: Device> FuncWorker<D> {
+    ghost use Rattle.device_bus.specs.Bus.{device_order};
+    ghost use Rattle.mono_model.specs.Setup.{is_setup};
+    ghost use Rattle.trace_ring.specs.Ends.{func_start};
+    ghost use Rattle.func_model.specs.Side.{arch_in};
+    ghost use Rattle.func_model.specs.Contents.{output_in};
+    ghost use Rattle.fast_threads.specs.Session.{HoldsEnd};
+
+    /// The functional side at the start of a run, with its end of the queues. All memory of the
+    /// side is taken here; a refusal drops what it was given.
+    pub fn new(
+        alloc: Global,
+        setup: &Setup,
+        end: FuncEnd,
+        devices: Vec<D>,
+    ) -> Result<FuncWorker<D>, NoMemory>
+        requires sound { is_setup setup.now ≡ true }
+        requires end { end ≡ func_start setup.now }
+        requires order { map D.kind devices.items ≡ device_order }
+        ensures setup { IfOk result (λ worker. worker.setup ≡ setup.now) }
+    {
+        let side = FuncSide::new(alloc, setup, devices)?;
+        Ok(FuncWorker {
+            end,
+            side,
+            computed: None,
+            lookahead: Lookahead::new(),
+        })
+    }
+
+    /// Works until the side is stopped, or there was nothing to do for many turns in a row.
+    pub fn work<R: Wait, G: Gate>(&mut self, rt: &R, gate: &G)
+        ensures setup { self.new.setup ≡ self.old.setup }
+    {
+        let mut idle = 0;
+        for _ in rt.forever() {
+            if self.stopped() || idle >= MOST_IDLE {
+                break;
+            }
+            gate.func_turn();
+            if self.turn(rt) {
+                idle = 0;
+            } else {
+                idle += 1;
+                thread::yield_now();
+            }
+        }
+    }
+
+    /// The registers.
+    pub fn arch(&self) -> Arch
+        ensures arch { result ≡ arch_in self.now.side }
+    {
+        self.side.arch()
+    }
+
+    /// The output so far, ahead of what is committed where the side isn't stopped.
+    pub fn output(&self) -> &[u8]
+        ensures output { result.now ≡ output_in self.now.side.contents }
+    {
+        self.side.output()
+    }
+
+    /// Whether the side was stopped, by the last order of the run. What it holds then is the state
+    /// behind the run.
+    pub fn stopped(&self) -> bool
+        ensures over { result ≡ true → HoldsEnd self.now.setup self.now.side.contents }
+    {
+        self.side.stopped()
+    }
+
+    /// A turn: the next order is obeyed, or else the next entry made and handed over. Says whether
+    /// there was anything to do.
+    fn turn<R: Wait>(&mut self, rt: &R) -> bool
+        ensures setup { self.new.setup ≡ self.old.setup }
+    {
+        if self.obey(rt) {
+            return true;
+        }
+        if self.computed.is_none() {
+            self.compute();
+        }
+        match self.computed {
+            Some(entry) => self.push(rt, entry),
+            None => false,
+        }
+    }
+
+    /// Obeys the next order, if there is one. Where it opens an epoch, the computed entry is of no
+    /// use any more.
+    fn obey<R: Wait>(&mut self, rt: &R) -> bool
+        ensures setup { self.new.setup ≡ self.old.setup }
+    {
+        let Some(order) = self.end.next(rt) else {
+            return false;
+        };
+        self.side.obey(order);
+        if order.opens_epoch() {
+            self.computed = None;
+            self.lookahead = Lookahead::new();
+        } else {
+            self.lookahead.widen();
+        }
+        true
+    }
+
+    /// Computes the next entry, if the side may run ahead and isn't at rest.
+    fn compute(&mut self)
+        requires none { self.old.computed ≡ None }
+        ensures setup { self.new.setup ≡ self.old.setup }
+    {
+        if self.lookahead.may_run_ahead() {
+            self.lookahead.note_entry();
+            self.computed = self.side.produce();
+        } else {
+            self.lookahead.widen();
+        }
+    }
+
+    /// Hands over the computed entry, if the ring has room for it.
+    fn push<R: Wait>(&mut self, rt: &R, entry: Entry) -> bool
+        requires computed { self.old.computed ≡ Some entry }
+        ensures setup { self.new.setup ≡ self.old.setup }
+    {
+        let pushed = self.end.push(rt, entry).is_ok();
+        if pushed {
+            self.computed = None;
+        }
+        pushed
+    }
+}

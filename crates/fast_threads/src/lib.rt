@@ -1,0 +1,14 @@
+//! The functional and the timing side in two threads, with the entries and orders between them in
+//! two bounded queues.
+#![tactic(auto)]
+
+mod func_worker;
+mod lookahead;
+mod rounds;
+mod session;
+mod time_worker;
+
+pub use session::Session;
+
+#[cfg(test)]
+mod tests;

@@ -1,0 +1,156 @@
+ghost use Rattle.std.specs.Prelude.{◌≡◌, true, Some, None, IfOk};
+
+use crate::rounds::MOST_IDLE;
+use fsim_base::NoMemory;
+use fsim_ports::Gate;
+use mono_model::{End, Setup, Stats};
+use rollback_cmds::Order;
+use std::alloc::Global;
+use std::marker::Model;
+use std::sync::Wait;
+use std::thread;
+use time_model::{TimeSide, Turn};
+use trace_ring::TimeEnd;
+
+/// The timing side at its end of the queues.
+#[derive(Drop)]
+pub struct TimeWorker {
+    end: TimeEnd,
+    side: TimeSide,
+    /// The order that was told and not sent yet.
+    hand: Option<Order>,
+    /// Whether the run is over and its last order sent.
+    is_halted: bool,
+}
+
+impl Model for TimeWorker {
+    ghost use Rattle.fast_threads.specs.Workers.{TimeWork, time_work, IsTimeAt};
+
+    ghost Value = { TimeWork };
+
+    ghost view = { λ worker. time_work worker.end.setup worker.side worker.hand worker.is_halted };
+
+    ghost invariant = { λ worker. IsTimeAt worker.end worker.side worker.hand worker.is_halted };
+}
+
+impl TimeWorker {
+    ghost use Rattle.mono_model.specs.Setup.{is_setup};
+    ghost use Rattle.mono_model.specs.Cycle.{mono};
+    ghost use Rattle.mono_model.specs.Machine.{stats_of};
+    ghost use Rattle.time_model.specs.Stands.{wants_in};
+    ghost use Rattle.trace_ring.specs.Ends.{time_start};
+
+    /// The timing side at the start of a run, with its end of the queues. All memory of the side is
+    /// taken here; a refusal drops what it was given.
+    pub fn new(alloc: Global, setup: &Setup, end: TimeEnd) -> Result<TimeWorker, NoMemory>
+        requires sound { is_setup setup.now ≡ true }
+        requires end { end ≡ time_start setup.now }
+        ensures setup { IfOk result (λ worker. worker.setup ≡ setup.now) }
+    {
+        let side = TimeSide::new(alloc, setup)?;
+        Ok(TimeWorker {
+            end,
+            side,
+            hand: None,
+            is_halted: false,
+        })
+    }
+
+    /// Works until the run is over, or there was nothing to do for many turns in a row.
+    pub fn work<R: Wait, G: Gate>(&mut self, rt: &R, gate: &G)
+        ensures setup { self.new.setup ≡ self.old.setup }
+    {
+        let mut idle = 0;
+        for _ in rt.forever() {
+            if self.halted() || idle >= MOST_IDLE {
+                break;
+            }
+            gate.time_turn();
+            if self.turn(rt) {
+                idle = 0;
+            } else {
+                idle += 1;
+                thread::yield_now();
+            }
+        }
+    }
+
+    /// Whether the run is over and its last order sent.
+    pub fn halted(&self) -> bool
+        ensures halted { result ≡ self.now.is_halted }
+    {
+        self.is_halted
+    }
+
+    /// How the run ended, once the side is halted.
+    pub fn end(&self) -> End
+        ensures end { self.now.is_halted ≡ true →
+            result ≡ (mono self.now.setup self.now.setup.cycles).end }
+    {
+        self.side.end()
+    }
+
+    /// What was counted in the run, once the side is halted.
+    pub fn stats(&self) -> Stats
+        ensures stats { self.now.is_halted ≡ true →
+            result ≡ stats_of self.now.setup (mono self.now.setup self.now.setup.cycles) }
+    {
+        self.side.stats()
+    }
+
+    /// A turn: the order in hand is sent, or else the entry taken that the side needs, or a step
+    /// made. Says whether there was anything to do.
+    fn turn<R: Wait>(&mut self, rt: &R) -> bool
+        ensures setup { self.new.setup ≡ self.old.setup }
+    {
+        if let Some(order) = self.hand {
+            return self.send(rt, order);
+        }
+        if self.side.wants() {
+            return self.take(rt);
+        }
+        self.step();
+        true
+    }
+
+    /// Sends the order in hand, if the queue has room for it.
+    fn send<R: Wait>(&mut self, rt: &R, order: Order) -> bool
+        requires hand { self.old.hand ≡ Some order }
+        ensures setup { self.new.setup ≡ self.old.setup }
+    {
+        let sent = self.end.push(rt, order).is_ok();
+        if sent {
+            self.hand = None;
+        }
+        sent
+    }
+
+    /// Takes the next entry, if there is one. It is let go where its number isn't the wanted one,
+    /// or it is of another epoch.
+    fn take<R: Wait>(&mut self, rt: &R) -> bool
+        requires wants { wants_in self.old.side ≡ true }
+        ensures setup { self.new.setup ≡ self.old.setup }
+    {
+        let Some(entry) = self.end.next(rt) else {
+            return false;
+        };
+        if entry.number == self.side.next_number() {
+            self.side.take(&entry);
+        }
+        true
+    }
+
+    /// Makes a step of the side, where no order is in hand.
+    fn step(&mut self)
+        requires none { self.old.hand ≡ None }
+        ensures setup { self.new.setup ≡ self.old.setup }
+    {
+        match self.side.step() {
+            Turn::Ordered(order) => self.hand = Some(order),
+            Turn::Halted => self.is_halted = true,
+            Turn::Moved => {}
+            Turn::Want => {}
+            Turn::CycleEnd => {}
+        }
+    }
+}
