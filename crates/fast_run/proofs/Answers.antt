@@ -1,81 +1,119 @@
--- From the outcome of a run, and from the cause that there is none, to the program's answer.
-use Rattle.std.proofs.Common.{◌≡◌, ℕ, ◌<◌, List, ◌++◌, Option, refl, ap, sym, ◌∙◌}
+-- From the end of a job, and from the cause that there is none, to the program's answer.
+use Rattle.std.proofs.Common.{◌≡◌, ◌≢◌, ◌⊎◌, inl, inr, ℕ, List, [], Option, Some, None, Result, Ok, Err, IfOk, IfErr, ap, sym, refl, ◌∙◌, subst}
 use Rattle.fsim_ports.specs.Files.{Names}
-use Rattle.fsim_ports.specs.Sink.{grown, Wrote}
-use Rattle.mono_model.specs.declared.setup.Setup.{Setup}
+use Rattle.fsim_ports.specs.Sink.{grown, Breaks}
 use Rattle.mono_model.specs.declared.final_state.End.{End}
 use Rattle.mono_model.specs.declared.final_state.End.TheVariants as end
-use Rattle.mono_model.specs.declared.final_state.Final.{Final}
-use Rattle.mono_model.specs.Alone.{Alone, alone_final}
-use Rattle.mono_model.specs.Report.{closed_output, func_report_text}
+use Rattle.report_text.specs.FaultText.{fault_text}
 use Rattle.report_text.specs.declared.status.Status.{Status}
 use Rattle.report_text.specs.declared.status.Status.TheVariants.{Pass, Fail, Limit, OutputFull, Running, Shown, Usage, Image, Machine, Missing, ReadFault, WriteFault, Memory, TooLong, BadPlan, Later, BadScript, Sets}
-use Rattle.report_text.specs.FaultText.{fault_text}
 use Rattle.fast_cli.specs.declared.line.Line.{Line}
-use Rattle.fast_run.specs.Run.{whole_run, run_text, status_for}
-use Rattle.fast_run.proofs.Ends.{whole_run-ended}
-use Rattle.fast_run.specs.Answer.{Opens, IsCause, IsOutcome, IsAnswer}
+use Rattle.fast_run.specs.declared.job.Job.{Job}
+use Rattle.fast_run.specs.Answer.{Asks, Closes, Ends, IsAnswer, Refused, Reported, Broken, Starved, Stopped}
+use Rattle.fast_run.specs.Call.{Reading, Writing, WroteTo}
+use Rattle.fast_run.specs.Files.{files_of}
+use Rattle.fast_run.specs.Gives.{Gives}
+use Rattle.fast_run.specs.Job.{job_of}
+use Rattle.fast_run.specs.Outcome.{MayEnd, job_end, job_text, status_for}
+use Rattle.fast_run.specs.Reading.{AreRead, StopsIn}
 
-alone_final-end : (m : Alone) → (alone_final m).end ≡ m.end
-unfolding alone_final
-alone_final-end m = refl
+-- an answer is want of memory, or it is another
+pub memory_or : (status : Status) → (status ≡ Memory) ⊎ (status ≢ Memory)
+memory_or Memory = inl refl
+memory_or Pass = inr (λ is. cc)
+memory_or (Fail code) = inr (λ is. cc)
+memory_or Limit = inr (λ is. cc)
+memory_or OutputFull = inr (λ is. cc)
+memory_or Running = inr (λ is. cc)
+memory_or Shown = inr (λ is. cc)
+memory_or Usage = inr (λ is. cc)
+memory_or (Image fault) = inr (λ is. cc)
+memory_or (Machine fault) = inr (λ is. cc)
+memory_or (Missing role) = inr (λ is. cc)
+memory_or (ReadFault role) = inr (λ is. cc)
+memory_or WriteFault = inr (λ is. cc)
+memory_or (TooLong role limit) = inr (λ is. cc)
+memory_or (BadPlan place) = inr (λ is. cc)
+memory_or (Later word) = inr (λ is. cc)
+memory_or (BadScript place) = inr (λ is. cc)
+memory_or (Sets machine) = inr (λ is. cc)
 
--- the text of a run, by its output and its final state
-pub run_text-of : (setup : Setup) (output : List ℕ) (last : Final) → output ≡ (whole_run setup).arch.output → last ≡ alone_final (whole_run setup) → closed_output output ++ func_report_text last ≡ run_text setup
-unfolding run_text
-run_text-of setup output last same_output same_last = λ i. closed_output (same_output i) ++ func_report_text (same_last i)
+-- the answer to a run that goes on is of no other end
+running-end : (e : End) → status_for e ≡ Running → e ≡ end.Running
+running-end end.Pass is = cc
+running-end (end.Fail code) is = cc
+running-end end.Limit is = cc
+running-end end.OutputFull is = cc
+running-end end.Running is = refl
 
-reported : (setup : Setup) (end : End) (before after : ℕ) (old new : Option (List ℕ)) → 0 < setup.cycles → (whole_run setup).end ≡ end → new ≡ grown old (run_text setup) → IsOutcome setup before after old new (status_for end)
-reported setup end.Pass before after old new some ended written = record { ended = ended; written = written }
-reported setup (end.Fail code) before after old new some ended written = record { ended = ended; written = written }
-reported setup end.Limit before after old new some ended written = record { ended = ended; written = written }
-reported setup end.OutputFull before after old new some ended written = record { ended = ended; written = written }
-reported setup end.Running before after old new some ended written = absurd (whole_run-ended setup some ended)
+-- a job that was reported whole
+pub ends-reported : (job : Job) (e : End) (text : List ℕ) (sink : Writing) (status : Status) → status ≡ status_for e → MayEnd job → job_end job ≡ e → job_text job ≡ text →
+    sink.after ≡ grown sink.before text → Ends job sink status
+ends-reported job e text sink status answer may ended same written = Reported (record {
+  answer = answer ∙ ap status_for (sym ended);
+  going = λ running. may (ended ∙ running-end e (sym answer ∙ running));
+  written = written ∙ ap (grown sink.before) (sym same);
+})
 
--- a run that was reported whole
-pub outcome-written : (setup : Setup) (output : List ℕ) (last : Final) (before after : ℕ) (old new : Option (List ℕ)) → 0 < setup.cycles → output ≡ (whole_run setup).arch.output → last ≡ alone_final (whole_run setup) → new ≡ grown old (closed_output output ++ func_report_text last) → IsOutcome setup before after old new (status_for last.end)
-outcome-written setup output last before after old new some same_output same_last written =
-    let ended : (whole_run setup).end ≡ last.end = sym (ap (λ f. f.end) same_last ∙ alone_final-end (whole_run setup)) in
-    reported setup last.end before after old new some ended (written ∙ ap (grown old) (run_text-of setup output last same_output same_last))
+-- one whose report broke off
+pub ends-broken : (job : Job) (text : List ℕ) (sink : Writing) → job_text job ≡ text → Breaks text sink.faults.before sink.faults.after sink.before sink.after → Ends job sink WriteFault
+ends-broken job text sink same broken = Broken (record {
+  answer = refl;
+  written = subst (λ (written : List ℕ). Breaks written sink.faults.before sink.faults.after sink.before sink.after) (sym same) broken;
+})
 
--- a run gives one of the answers that a run has
-pub answer-run : (asked : Option Line) (told : Option Names) (f g before after : ℕ) (old new : Option (List ℕ)) (setup : Setup) (status : Status) → Opens asked told setup → IsOutcome setup before after old new status → IsAnswer asked told f g before after old new status
-answer-run asked told f g before after old new setup Pass opened outcome = record { setup = setup; opened = opened; outcome = outcome }
-answer-run asked told f g before after old new setup (Fail code) opened outcome = record { setup = setup; opened = opened; outcome = outcome }
-answer-run asked told f g before after old new setup Limit opened outcome = record { setup = setup; opened = opened; outcome = outcome }
-answer-run asked told f g before after old new setup OutputFull opened outcome = record { setup = setup; opened = opened; outcome = outcome }
-answer-run asked told f g before after old new setup Running opened outcome = absurd outcome
-answer-run asked told f g before after old new setup Shown opened outcome = absurd outcome
-answer-run asked told f g before after old new setup Usage opened outcome = absurd outcome
-answer-run asked told f g before after old new setup (Image fault) opened outcome = absurd outcome
-answer-run asked told f g before after old new setup (Machine fault) opened outcome = absurd outcome
-answer-run asked told f g before after old new setup (Missing role) opened outcome = absurd outcome
-answer-run asked told f g before after old new setup (ReadFault role) opened outcome = absurd outcome
-answer-run asked told f g before after old new setup WriteFault opened outcome = record { setup = setup; opened = opened; outcome = outcome }
-answer-run asked told f g before after old new setup Memory opened outcome = record { cause = tt; line = outcome }
-answer-run asked told f g before after old new setup (TooLong role limit) opened outcome = absurd outcome
-answer-run asked told f g before after old new setup (BadPlan place) opened outcome = absurd outcome
-answer-run asked told f g before after old new setup (Later command) opened outcome = absurd outcome
-answer-run asked told f g before after old new setup (BadScript line) opened outcome = absurd outcome
-answer-run asked told f g before after old new setup (Sets machine) opened outcome = absurd outcome
+-- reading the files stopped, if it wasn't for want of memory
+pub closes-stopped : (line : Line) (sets : ℕ) (files : Reading) (status : Status) → (status ≢ Memory → StopsIn files (files_of line) status) → Closes line sets files status
+closes-stopped line sets files status stop = elim (memory_or status) [
+  | inl memory ↦ Starved memory
+  | inr other ↦ Stopped (stop other)
+]
 
--- a cause gives one of the answers that has a line
-pub answer-refused : (asked : Option Line) (told : Option Names) (f g before after : ℕ) (old new : Option (List ℕ)) (status : Status) → IsCause asked told f g status → Wrote (fault_text status) before after old new → IsAnswer asked told f g before after old new status
-answer-refused asked told f g before after old new Pass cause line = absurd cause
-answer-refused asked told f g before after old new (Fail code) cause line = absurd cause
-answer-refused asked told f g before after old new Limit cause line = absurd cause
-answer-refused asked told f g before after old new OutputFull cause line = absurd cause
-answer-refused asked told f g before after old new Running cause line = absurd cause
-answer-refused asked told f g before after old new Shown cause line = absurd cause
-answer-refused asked told f g before after old new Usage cause line = record { cause = cause; line = line }
-answer-refused asked told f g before after old new (Image fault) cause line = record { cause = cause; line = line }
-answer-refused asked told f g before after old new (Machine fault) cause line = absurd cause
-answer-refused asked told f g before after old new (Missing role) cause line = record { cause = cause; line = line }
-answer-refused asked told f g before after old new (ReadFault role) cause line = record { cause = cause; line = line }
-answer-refused asked told f g before after old new WriteFault cause line = absurd cause
-answer-refused asked told f g before after old new Memory cause line = record { cause = cause; line = line }
-answer-refused asked told f g before after old new (TooLong role limit) cause line = record { cause = cause; line = line }
-answer-refused asked told f g before after old new (BadPlan place) cause line = absurd cause
-answer-refused asked told f g before after old new (Later command) cause line = record { cause = cause; line = line }
-answer-refused asked told f g before after old new (BadScript place) cause line = absurd cause
-answer-refused asked told f g before after old new (Sets machine) cause line = absurd cause
+-- what was read is refused, if it isn't for want of memory
+pub closes-refused : (line : Line) (sets : ℕ) (files : Reading) (contents : List (List ℕ)) (status : Status) → AreRead files.told (files_of line) contents →
+    (files_of line ≡ [] → files.faults.after ≡ files.faults.before) → (status ≢ Memory → job_of line sets contents ≡ Err status) → Closes line sets files status
+closes-refused line sets files contents status read unread refused = elim (memory_or status) [
+  | inl memory ↦ Starved memory
+  | inr other ↦ Refused (record { asks = record { contents = contents; read = read; same = refused other }; unread = unread })
+]
+
+-- there is no job, and the line of the answer was written
+pub answer-closed : (line : Line) (sets : ℕ) (files : Reading) (sink : Writing) (status answer : Status) → answer ≡ status → Closes line sets files status → WroteTo sink (fault_text status) →
+    IsAnswer (Some line) sets files sink answer
+answer-closed line sets files sink status answer same cause written =
+    subst (λ (given : Status). IsAnswer (Some line) sets files sink given) (sym same) (inl (record { cause = cause; written = written }))
+
+-- there is one, and this is the answer to it
+pub answer-ran : (line : Line) (sets : ℕ) (files : Reading) (sink : Writing) (job : Job) (status : Status) → Asks line sets files.told (Ok job) → Ends job sink status →
+    IsAnswer (Some line) sets files sink status
+answer-ran line sets files sink job status asks ends = inr (record { job = job; asks = asks; ends = ends })
+
+-- memory was wanted, whatever the words are
+pub answer-starved : (asked : Option Line) (sets : ℕ) (files : Reading) (sink : Writing) (status : Status) → status ≡ Memory → WroteTo sink (fault_text Memory) → IsAnswer asked sets files sink status
+answer-starved None sets files sink status memory written = inr (record { answer = memory; written = written })
+answer-starved (Some line) sets files sink status memory written = answer-closed line sets files sink Memory status memory (Starved refl) written
+
+-- the words are no line
+pub answer-usage : (asked : Option Line) (sets : ℕ) (files : Reading) (sink : Writing) (status : Status) → asked ≡ None → files.faults.after ≡ files.faults.before → status ≡ Usage →
+    WroteTo sink (fault_text Usage) → IsAnswer asked sets files sink status
+answer-usage asked sets files sink status none unread usage written =
+    let line : WroteTo sink (fault_text status) = subst (λ (given : Status). WroteTo sink (fault_text given)) (sym usage) written in
+    let answered : IsAnswer None sets files sink status = inl (record { answer = usage; unread = unread; written = line }) in
+    subst (λ (a : Option Line). IsAnswer a sets files sink status) (sym none) answered
+
+-- the words are a line
+pub answer-line : (asked : Option Line) (line : Line) (sets : ℕ) (files : Reading) (sink : Writing) (status : Status) → asked ≡ Some line → IsAnswer (Some line) sets files sink status →
+    IsAnswer asked sets files sink status
+answer-line asked line sets files sink status named answered = subst (λ (a : Option Line). IsAnswer a sets files sink status) (sym named) answered
+
+-- a job that is made of what was read is asked for
+pub job-asks : (line : Line) (sets : ℕ) (told : Option Names) (contents : List (List ℕ)) (result : Result Job Status) → AreRead told (files_of line) contents →
+    Gives (job_of line sets contents) result → IfOk result (λ job. Asks line sets told (Ok job))
+job-asks line sets told contents (Ok job) read gives = record { contents = contents; read = read; same = gives }
+job-asks line sets told contents (Err status) read gives = tt
+
+-- or there is none
+pub job-closes : (line : Line) (sets : ℕ) (files : Reading) (contents : List (List ℕ)) (result : Result Job Status) → AreRead files.told (files_of line) contents →
+    (files_of line ≡ [] → files.faults.after ≡ files.faults.before) → Gives (job_of line sets contents) result → IfErr result (Closes line sets files)
+job-closes line sets files contents (Ok job) read unread gives = tt
+job-closes line sets files contents (Err status) read unread gives = closes-refused line sets files contents status read unread gives

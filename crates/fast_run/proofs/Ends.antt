@@ -1,16 +1,19 @@
 -- A run has ended by its last step.
-use Rattle.std.proofs.Common.{◌≡◌, ◌≢◌, ℕ, zero, suc, ◌+◌, ◌<◌, ◌==◌, Bool, true, false, Some, if◌then◌else◌, refl, ap, sym, ◌∙◌, subst, arith}
+use Rattle.std.proofs.Common.{◌≡◌, ◌≢◌, ℕ, zero, suc, ◌+◌, ◌<◌, ◌==◌, ◌++◌, List, Bool, true, false, Some, if◌then◌else◌, refl, ap, sym, ◌∙◌, subst, arith}
 use Rattle.fsim_base.specs.declared.instruction.Halt.TheVariants as halt
 use Rattle.device_bus.specs.declared.undo.Note.{Note}
 use Rattle.device_bus.specs.declared.undo.Note.TheVariants as note
 use Rattle.mono_model.specs.declared.setup.Setup.{Setup}
 use Rattle.mono_model.specs.declared.final_state.End.{End}
 use Rattle.mono_model.specs.declared.final_state.End.TheVariants.{Pass, Fail, Limit, OutputFull, Running}
-use Rattle.fast_run.specs.Run.{whole_run}
+use Rattle.mono_model.specs.declared.final_state.Final.{Final}
+use Rattle.mono_model.specs.Report.{closed_output, func_report_text}
+use Rattle.report_text.specs.FuncText.{func_text}
+use Rattle.fast_run.specs.Outcome.{whole_run}
 use Rattle.mono_model.specs.Final.{has_ended}
 use Rattle.mono_model.specs.Sequence.{result_at}
 use Rattle.mono_model.specs.Effect.{note_of}
-use Rattle.mono_model.specs.Alone.{Alone, alone, alone_start, alone_step, after_interrupt, is_pending, end_after, instruction, has_no_room}
+use Rattle.mono_model.specs.Alone.{Alone, alone, alone_start, alone_step, after_interrupt, alone_final, is_pending, end_after, instruction, has_no_room}
 
 -- a state that goes on, with this many steps made, the last of which was not the last of the run
 record GoesOn (s : Setup) (made : ℕ) (m : Alone) : Type 0 where
@@ -76,3 +79,15 @@ alone-on s (suc n) on =
 pub whole_run-ended : (s : Setup) → 0 < s.cycles → (whole_run s).end ≢ Running
 unfolding whole_run
 whole_run-ended s some on = (alone-on s s.cycles on).more some refl
+
+alone_final-end : (m : Alone) → (alone_final m).end ≡ m.end
+unfolding alone_final
+alone_final-end m = refl
+
+-- how it ended and what is written of it, by its output and its final state
+pub whole_run-end : (s : Setup) (last : Final) → last ≡ alone_final (whole_run s) → (whole_run s).end ≡ last.end
+whole_run-end s last same = sym (ap (λ (f : Final). f.end) same ∙ alone_final-end (whole_run s))
+
+pub whole_run-text : (s : Setup) (output : List ℕ) (last : Final) → output ≡ (whole_run s).arch.output → last ≡ alone_final (whole_run s) → func_text s ≡ closed_output output ++ func_report_text last
+unfolding func_text whole_run
+whole_run-text s output last same_output same_last = λ i. closed_output (sym same_output i) ++ func_report_text (sym same_last i)

@@ -1,4 +1,9 @@
 pub mod Setups
-pub mod Answers
 pub mod Ends
-pub mod Told
+pub mod Ending
+pub mod Plans
+pub mod Jobs
+pub mod Readings
+pub mod Answers
+pub mod Settling
+pub mod Words

@@ -1,16 +1,17 @@
 -- A run may have the setup of an image that was read.
 use Rattle.std.proofs.Common.{◌≡◌, ℕ, ◌≤◌, List, length, Bool, true, false, ◌&&◌, nat_le, ap, refl, ◌∙◌, arith}
 use lib.Count.{ones}
+use Rattle.mono_model.specs.declared.params.Params.{Params}
 use Rattle.mono_model.specs.declared.setup.Setup.{Setup}
 use Rattle.elf_image.specs.declared.image.Image.{Image}
 use Rattle.elf_image.specs.Sound.{IsSound}
 use Rattle.elf_image.proofs.Ordered.{test-from_IsSound}
 use Rattle.mono_model.specs.Ranges.{is_between}
-use Rattle.mono_model.specs.Setup.{is_setup, are_params}
+use Rattle.mono_model.specs.Setup.{is_setup, are_params, ram_range}
 use Rattle.fast_cli.specs.declared.line.Options.{Options}
 use Rattle.fast_cli.specs.Ranges.{HasRanges}
-use Rattle.fast_run.specs.Plain.{plain_ram, plain_params}
-use Rattle.fast_run.specs.Run.{setup_for}
+use Rattle.fast_run.specs.Plain.{plain_params}
+use Rattle.fast_run.specs.Job.{setup_for}
 
 and-both : {a b : Bool} → a ≡ true → b ≡ true → (a && b) ≡ true
 and-both {a} {b} left right = ap (λ x. x && b) left ∙ right
@@ -21,14 +22,14 @@ at_most a b below = grind (arith, below)
 is_from : (low high n : ℕ) → (low ≤ n) × (n ≤ high) → is_between low high n ≡ true
 is_from low high n inside = and-both (at_most low n inside.0) (at_most n high inside.1)
 
-plain-in_range : are_params plain_params ≡ true
+pub plain-in_range : are_params plain_params ≡ true
 unfolding are_params ones
 plain-in_range = refl
 
-pub is_setup-setup_for : (options : Options) (image : Image) (input : List ℕ) → IsSound image plain_ram → HasRanges options → length input ≤ 16777216 → is_setup (setup_for options image input) ≡ true
+pub is_setup-setup_for : (params : Params) (options : Options) (image : Image) (input : List ℕ) → are_params params ≡ true → IsSound image (ram_range params) → HasRanges options → length input ≤ 16777216 → is_setup (setup_for params options image input) ≡ true
 unfolding is_setup
-is_setup-setup_for options image input sound ranges short =
-    and-both (and-both (and-both (and-both (and-both (test-from_IsSound image plain_ram sound) plain-in_range) (at_most (length input) 16777216 short)) (is_from 1 1099511627776 options.cycles ranges.cycles)) (at_most options.output 16777216 ranges.output)) (is_from 1 65536 options.ring ranges.ring)
+is_setup-setup_for params options image input in_range sound ranges short =
+    and-both (and-both (and-both (and-both (and-both (test-from_IsSound image (ram_range params) sound) in_range) (at_most (length input) 16777216 short)) (is_from 1 1099511627776 options.cycles ranges.cycles)) (at_most options.output 16777216 ranges.output)) (is_from 1 65536 options.ring ranges.ring)
 
 and-left : (a b : Bool) → (a && b) ≡ true → a ≡ true
 and-left true b both = refl
@@ -45,3 +46,8 @@ between low high n test = (grind (arith, and-left (nat_le low n) (nat_le n high)
 pub is_setup-steps : (s : Setup) → is_setup s ≡ true → (1 ≤ s.cycles) × (s.cycles ≤ 1099511627776)
 unfolding is_setup
 is_setup-steps s sound = between 1 1099511627776 s.cycles (and-right _ _ (and-left _ _ (and-left _ _ sound)))
+
+-- its trace has room for an entry
+pub is_setup-ring : (s : Setup) → is_setup s ≡ true → (1 ≤ s.ring) × (s.ring ≤ 65536)
+unfolding is_setup
+is_setup-ring s sound = between 1 65536 s.ring (and-right _ _ sound)

@@ -1,5 +1,11 @@
 pub mod Plain
-pub mod Run
+pub mod Plan
+pub mod Files
+pub mod Gives
+pub mod Job
+pub mod Outcome
+pub mod Call
+pub mod Reading
 pub mod Answer
-pub mod Told
-pub mod Stages
+pub mod Settled
+pub mod Program

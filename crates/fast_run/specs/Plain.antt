@@ -1,7 +1,6 @@
 -- The machine of a run without a machine file: that of the file with no keys.
 use Rattle.std.specs.Prelude.{false}
 use Rattle.branch_predictor.specs.declared.params.PredKind.TheVariants.{Static}
-use Rattle.fsim_base.specs.declared.access.RamRange.{RamRange}
 use Rattle.mono_model.specs.declared.params.Params.{Params}
 
 abbrev pub plain_params : Params
@@ -41,6 +40,3 @@ plain_params = record {
   l2_hit = 10;
   l2_miss = 100;
 }
-
-abbrev pub plain_ram : RamRange
-plain_ram = record { base = 0x80000000; size = 16777216 }

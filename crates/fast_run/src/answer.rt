@@ -1,47 +1,146 @@
-ghost use Rattle.std.specs.Prelude.{◌≡◌, map};
+ghost use Rattle.std.specs.Prelude.{◌≡◌, ◌≤◌, true, map, Some};
 ghost use Rattle.device_bus.specs.Bus.{device_order};
 ghost use Rattle.fast_cli.specs.Line.{line};
+ghost use Rattle.fast_cli.specs.Ranges.{IsInRange};
 ghost use Rattle.fast_run.specs.Answer.{IsAnswer};
-ghost use Rattle.fast_run.specs.Told.{IsSettled};
+ghost use Rattle.fast_run.specs.Call.{reading_of, writing_of};
+ghost use Rattle.fast_run.specs.Job.{is_still};
+ghost use Rattle.fast_run.specs.Settled.{IsComplete, IsSettled};
 
 use crate::open::open;
-use crate::run::run;
+use crate::run::{run, run_in_threads};
 use crate::tell::tell;
 use device_bus::Device;
-use fsim_ports::{Files, Sink};
+use fast_cli::{Line, UsageFault, read_words};
+use fsim_ports::{Files, Gate, Sink};
 use report_text::Status;
 use std::alloc::Global;
+use std::sync::Wait;
+use std::thread::Threads;
 
-/// The answer to the words, with the files, the sink and three devices: console, timer, finisher, in this order.
+/// The answer to the words, with the files, the sink and three devices: console, timer, finisher,
+/// in this order. A side that has a thread of its own calls its turn of the gate before each of its
+/// turns.
 ///
-/// It writes output and report of the run, or the line of its answer. The words leave out the program's name. Where what
-/// the files hold is told, no read failed and memory was found, words and files settle the answer, but for how a run ends.
-pub fn fast_main<F: Files, K: Sink>(
+/// It writes output and report of what the words ask for, or the line of its answer. The words
+/// leave out the program's name. Where what the files hold is told, and no fault was counted, words
+/// and files have one answer, but for want of memory.
+pub fn fast_main<R: Threads + Wait + Sync, F: Files, K: Sink, G: Gate + Sync>(
+    rt: &R,
     alloc: Global,
     words: &[&str],
     files: &mut F,
     sink: &mut K,
     devices: Vec<Box<dyn Device + Send>>,
+    gate: &G,
 ) -> Status
     requires order { map (λ device. kind device) devices.items ≡ device_order }
-    ensures answer { IsAnswer (line (map (λ word. word.now) words.now)) (F.told files.old) (F.faults files.old) (F.faults files.new) (K.faults sink.old) (K.faults sink.new) (K.written sink.old) (K.written sink.new) result }
-    ensures settled { IsSettled (line (map (λ word. word.now) words.now)) (F.told files.old) (F.faults files.old) (F.faults files.new) result }
+    ensures told { F.told files.new ≡ F.told files.old }
+    ensures files { F.faults files.old ≤ F.faults files.new }
+    ensures sink { K.faults sink.old ≤ K.faults sink.new }
+    ensures answer { IsAnswer (line (map (λ word. word.now) words.now)) 1
+        (reading_of F.told F.faults files.old files.new)
+        (writing_of K.written K.faults sink.old sink.new) result }
+    ensures settled { IsSettled (line (map (λ word. word.now) words.now)) 1
+        (reading_of F.told F.faults files.old files.new) result }
+    ensures complete { IsComplete (line (map (λ word. word.now) words.now)) 1
+        (reading_of F.told F.faults files.old files.new)
+        (writing_of K.written K.faults sink.old sink.new) result }
 {
-    answer(alloc, words, files, sink, devices)
+    let line = match read_words(alloc, words) {
+        Ok(line) => line,
+        Err(UsageFault::Words) => return tell(Status::Usage, sink),
+        Err(UsageFault::Memory) => return tell(Status::Memory, sink),
+    };
+    if is_still(&line) {
+        fast_still(alloc, &line, files, sink, devices)
+    } else {
+        answer_in_threads(rt, alloc, &line, files, sink, devices, gate)
+    }
 }
 
+/// Whether a line is played on one thread.
+fn is_still(line: &Line) -> bool
+    ensures still { result ≡ is_still line.now }
+{
+    match line {
+        Line::Func { .. } | Line::Sched { .. } => true,
+        Line::Run { threads, .. } => *threads == 1,
+        _ => false,
+    }
+}
+
+/// The answer to a line that is played on one thread, with the files, the sink and three devices,
+/// as [`fast_main`] gives it once the words were read.
+pub fn fast_still<F: Files, K: Sink>(
+    alloc: Global,
+    line: &Line,
+    files: &mut F,
+    sink: &mut K,
+    devices: Vec<Box<dyn Device + Send>>,
+) -> Status
+    requires still { is_still line.now ≡ true }
+    requires ranges { IsInRange line.now }
+    requires order { map (λ device. kind device) devices.items ≡ device_order }
+    ensures told { F.told files.new ≡ F.told files.old }
+    ensures files { F.faults files.old ≤ F.faults files.new }
+    ensures sink { K.faults sink.old ≤ K.faults sink.new }
+    ensures answer { IsAnswer (Some line.now) 1
+        (reading_of F.told F.faults files.old files.new)
+        (writing_of K.written K.faults sink.old sink.new) result }
+    ensures settled { IsSettled (Some line.now) 1
+        (reading_of F.told F.faults files.old files.new) result }
+    ensures complete { IsComplete (Some line.now) 1
+        (reading_of F.told F.faults files.old files.new)
+        (writing_of K.written K.faults sink.old sink.new) result }
+{
+    answer(alloc, line, files, sink, devices)
+}
+
+/// The answer to a line, played on one thread.
 fn answer<F: Files, K: Sink, D: Device>(
     alloc: Global,
-    words: &[&str],
+    line: &Line,
     files: &mut F,
     sink: &mut K,
     devices: Vec<D>,
 ) -> Status
+    requires ranges { IsInRange line.now }
     requires order { map D.kind devices.items ≡ device_order }
-    ensures answer { IsAnswer (line (map (λ word. word.now) words.now)) (F.told files.old) (F.faults files.old) (F.faults files.new) (K.faults sink.old) (K.faults sink.new) (K.written sink.old) (K.written sink.new) result }
+    ensures told { F.told files.new ≡ F.told files.old }
+    ensures files { F.faults files.old ≤ F.faults files.new }
+    ensures sink { K.faults sink.old ≤ K.faults sink.new }
+    ensures answer { IsAnswer (Some line.now) 1
+        (reading_of F.told F.faults files.old files.new)
+        (writing_of K.written K.faults sink.old sink.new) result }
 {
-    match open(alloc, words, files) {
-        Ok(setup) => run(alloc, &setup, devices, sink),
+    match open(alloc, line, files) {
+        Ok(job) => run(alloc, &job, devices, sink),
+        Err(status) => tell(status, sink),
+    }
+}
+
+/// The answer to a line that asks for two threads.
+fn answer_in_threads<R: Threads + Wait + Sync, F: Files, K: Sink, G: Gate + Sync, D: Device + Send>(
+    rt: &R,
+    alloc: Global,
+    line: &Line,
+    files: &mut F,
+    sink: &mut K,
+    devices: Vec<D>,
+    gate: &G,
+) -> Status
+    requires ranges { IsInRange line.now }
+    requires order { map D.kind devices.items ≡ device_order }
+    ensures told { F.told files.new ≡ F.told files.old }
+    ensures files { F.faults files.old ≤ F.faults files.new }
+    ensures sink { K.faults sink.old ≤ K.faults sink.new }
+    ensures answer { IsAnswer (Some line.now) 1
+        (reading_of F.told F.faults files.old files.new)
+        (writing_of K.written K.faults sink.old sink.new) result }
+{
+    match open(alloc, line, files) {
+        Ok(job) => run_in_threads(rt, alloc, &job, devices, sink, gate),
         Err(status) => tell(status, sink),
     }
 }

@@ -1,12 +1,13 @@
-ghost use Rattle.std.specs.Prelude.{◌≡◌, ◌<◌};
-ghost use Rattle.mono_model.specs.declared.setup.Setup.{Setup as RunSetup};
-ghost use Rattle.mono_model.specs.Alone.{alone_final};
-ghost use Rattle.fast_run.specs.Run.{whole_run, status_for};
-ghost use Rattle.fast_run.specs.Answer.{IsOutcome};
+ghost use Rattle.std.specs.Prelude.{◌≡◌, ◌≤◌, ◌++◌};
+ghost use Rattle.mono_model.specs.Report.{closed_output, report_text, func_report_text};
+ghost use Rattle.fast_run.specs.declared.job.Job.{Job as AnyJob};
+ghost use Rattle.fast_run.specs.Answer.{Ends};
+ghost use Rattle.fast_run.specs.Call.{writing_of};
+ghost use Rattle.fast_run.specs.Outcome.{MayEnd, job_end, job_text, status_for};
 
 use fsim_ports::Sink;
 use mono_model::{End, Final};
-use report_text::{Status, func_report};
+use report_text::{Status, func_report, report};
 
 /// The answer to an end.
 fn status_for(end: End) -> Status
@@ -21,11 +22,28 @@ fn status_for(end: End) -> Status
     }
 }
 
-/// Writes output and report of a run, and gives the answer to it: to whichever setup has this run, it is its outcome.
-pub fn finish<K: Sink>(last: &Final, output: &[u8], sink: &mut K) -> Status
-    ensures outcome { (setup : RunSetup) → 0 < setup.cycles → output.now ≡ (whole_run setup).arch.output → last.now ≡ alone_final (whole_run setup) → IsOutcome setup (K.faults sink.old) (K.faults sink.new) (K.written sink.old) (K.written sink.new) result }
+/// Writes output and report of a run without a machine file, and gives the answer to it: to
+/// whichever job has this end and this text, it is the answer.
+pub fn finish_alone<K: Sink>(last: &Final, output: &[u8], sink: &mut K) -> Status
+    ensures count { K.faults sink.old ≤ K.faults sink.new }
+    ensures ends { (job : AnyJob) → MayEnd job → job_end job ≡ last.now.end
+        → job_text job ≡ closed_output output.now ++ func_report_text last.now
+        → Ends job (writing_of K.written K.faults sink.old sink.new) result }
 {
     match func_report(last, output, sink) {
+        Ok(()) => status_for(last.end),
+        Err(_) => Status::WriteFault,
+    }
+}
+
+/// The same of a run on the machine.
+pub fn finish_timed<K: Sink>(last: &Final, output: &[u8], sink: &mut K) -> Status
+    ensures count { K.faults sink.old ≤ K.faults sink.new }
+    ensures ends { (job : AnyJob) → MayEnd job → job_end job ≡ last.now.end
+        → job_text job ≡ closed_output output.now ++ report_text last.now
+        → Ends job (writing_of K.written K.faults sink.old sink.new) result }
+{
+    match report(last, output, sink) {
         Ok(()) => status_for(last.end),
         Err(_) => Status::WriteFault,
     }

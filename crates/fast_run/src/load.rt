@@ -1,49 +1,47 @@
 ghost use Rattle.std.specs.Prelude.{◌≡◌, ◌≤◌, MatchResult};
-ghost use Rattle.fsim_ports.specs.Files.{holding_of};
-ghost use Rattle.fsim_ports.specs.Loading.{IsWhole};
-ghost use Rattle.fast_run.specs.Answer.{IsInput};
-ghost use Rattle.fast_run.specs.Stages.{IsLoadCause, IsInputCause};
+ghost use Rattle.fast_run.specs.Files.{limit_of};
+ghost use Rattle.fast_run.specs.Call.{reading_of};
+ghost use Rattle.fast_run.specs.Reading.{IsRead, StopsAt, status_of_load};
 
-use fsim_base::Text;
+use crate::files::NamedFile;
 use fsim_ports::{Files, LoadFault, load_file};
 use report_text::{Role, Status};
 use std::alloc::Global;
 
-/// How long an input file may be.
-const INPUT_LIMIT: u64 = 16_777_216;
-
-/// The bytes of the file of this role, of which there may be `limit`.
-pub fn load<F: Files>(
-    alloc: Global,
-    role: Role,
-    limit: u64,
-    name: &str,
-    files: &mut F,
-) -> Result<Vec<u8>, Status>
-    ensures same { F.told files.new ≡ F.told files.old }
-    ensures count { F.faults files.old ≤ F.faults files.new }
-    ensures loaded { MatchResult result (λ bytes. IsWhole (holding_of (F.told files.old) name.now) limit bytes.items) (λ status. IsLoadCause role limit (holding_of (F.told files.old) name.now) (F.faults files.old) (F.faults files.new) status) }
+/// How many bytes a file of this role may have.
+fn limit_of(role: Role) -> u64
+    ensures limit { result ≡ limit_of role }
 {
-    match load_file(alloc, files, name, limit) {
-        Ok(bytes) => Ok(bytes),
-        Err(LoadFault::Missing) => Err(Status::Missing(role)),
-        Err(LoadFault::Failed) => Err(Status::ReadFault(role)),
-        Err(LoadFault::TooLong) => Err(Status::TooLong(role, limit)),
-        Err(LoadFault::Memory) => Err(Status::Memory),
+    match role {
+        Role::Image => 67_108_864,
+        Role::Machine => 65_536,
+        Role::Plan => 1_048_576,
+        Role::Input => 16_777_216,
+        Role::Script => 65_536,
     }
 }
 
-/// The bytes of the console's input: of its file, and none where the line names none.
-pub fn load_input<F: Files>(
-    alloc: Global,
-    input: &Option<Text>,
-    files: &mut F,
-) -> Result<Vec<u8>, Status>
-    ensures count { F.faults files.old ≤ F.faults files.new }
-    ensures loaded { MatchResult result (λ bytes. IsInput (F.told files.old) input.now bytes.items) (λ status. IsInputCause (F.told files.old) input.now (F.faults files.old) (F.faults files.new) status) }
+/// The answer where the file of this role could not be read.
+fn status_of_load(role: Role, fault: LoadFault) -> Status
+    ensures status { result ≡ status_of_load role fault }
 {
-    match input {
-        Some(name) => load(alloc, Role::Input, INPUT_LIMIT, name.as_str(), files),
-        None => Ok(Vec::new(alloc)),
+    match fault {
+        LoadFault::Missing => Status::Missing(role),
+        LoadFault::Failed => Status::ReadFault(role),
+        LoadFault::TooLong => Status::TooLong(role, limit_of(role)),
+        LoadFault::Memory => Status::Memory,
+    }
+}
+
+/// The bytes of the file, read whole.
+pub fn load<F: Files>(alloc: Global, file: &NamedFile, files: &mut F) -> Result<Vec<u8>, Status>
+    ensures told { F.told files.new ≡ F.told files.old }
+    ensures count { F.faults files.old ≤ F.faults files.new }
+    ensures loaded { MatchResult result (λ bytes. IsRead (F.told files.old) file.now bytes.items)
+        (StopsAt (reading_of F.told F.faults files.old files.new) file.now) }
+{
+    match load_file(alloc, files, file.name.as_str(), limit_of(file.role)) {
+        Ok(bytes) => Ok(bytes),
+        Err(fault) => Err(status_of_load(file.role, fault)),
     }
 }

@@ -1,16 +1,21 @@
-//! The program `fast`: it reads its words and the files that they name, simulates, and writes output and report.
+//! The program `fast`: it reads its words and the files that they name, simulates, and writes
+//! output and report.
 #![tactic(auto)]
 
 mod answer;
+mod files;
 mod finish;
-mod func;
 mod image;
-mod line;
+mod job;
 mod load;
+mod machine;
 mod open;
 mod plain;
+mod plan;
 mod program;
+mod read;
 mod run;
+mod setup;
 mod tell;
 #[cfg(test)]
 mod tests;
@@ -18,5 +23,5 @@ mod tests;
 use std::process::ExitCode;
 
 fn main(rt: HostRuntime) -> ExitCode {
-    ExitCode::from(program::run_host(&rt).number())
+    program::run_host(&rt, &rt)
 }

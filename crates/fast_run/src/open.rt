@@ -1,22 +1,33 @@
-ghost use Rattle.std.specs.Prelude.{◌≡◌, true, map, MatchResult, IfOk};
+ghost use Rattle.std.specs.Prelude.{◌≡◌, ◌≤◌, true, Ok, IfOk, IfErr};
 ghost use Rattle.mono_model.specs.Setup.{is_setup};
-ghost use Rattle.fast_cli.specs.Line.{line};
-ghost use Rattle.fast_run.specs.Answer.{Opens, IsCause};
+ghost use Rattle.fast_cli.specs.Ranges.{IsInRange};
+ghost use Rattle.report_text.specs.FaultText.{has_line};
+ghost use Rattle.fast_run.specs.Answer.{Asks, Closes};
+ghost use Rattle.fast_run.specs.Call.{reading_of};
+ghost use Rattle.fast_run.specs.Job.{setup_in};
 
-use crate::func::open_func;
-use crate::line::read_line;
+use crate::files::files_of;
+use crate::job::{Job, job_of};
+use crate::read::read_files;
+use fast_cli::Line;
 use fsim_ports::Files;
-use mono_model::Setup;
 use report_text::Status;
 use std::alloc::Global;
 
-/// The setup of the run that the words ask for: their form is tested first, then the files are read, then the image.
-pub fn open<F: Files>(alloc: Global, words: &[&str], files: &mut F) -> Result<Setup, Status>
-    ensures opened { MatchResult result (λ setup. Opens (line (map (λ word. word.now) words.now)) (F.told files.old) setup) (λ status. IsCause (line (map (λ word. word.now) words.now)) (F.told files.old) (F.faults files.old) (F.faults files.new) status) }
-    ensures sound { IfOk result (λ setup. is_setup setup ≡ true) }
+/// The job that a line asks for: its files are read, and then what they hold is tested.
+pub fn open<F: Files>(alloc: Global, line: &Line, files: &mut F) -> Result<Job, Status>
+    requires ranges { IsInRange line.now }
+    ensures told { F.told files.new ≡ F.told files.old }
+    ensures count { F.faults files.old ≤ F.faults files.new }
+    ensures asks { IfOk result (λ job. Asks line.now 1 (F.told files.old) (Ok job)) }
+    ensures sound { IfOk result (λ job. is_setup (setup_in job) ≡ true) }
+    ensures closes { IfErr result
+        (Closes line.now 1 (reading_of F.told F.faults files.old files.new)) }
+    ensures line { IfErr result (λ status. has_line status ≡ true) }
 {
-    match read_line(alloc, words) {
-        Ok(asked) => open_func(alloc, &asked, files),
-        Err(status) => Err(status),
-    }
+    let Ok(named) = files_of(alloc, line) else {
+        return Err(Status::Memory);
+    };
+    let contents = read_files(alloc, named.as_slice(), files)?;
+    job_of(alloc, line, contents)
 }

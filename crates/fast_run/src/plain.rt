@@ -1,29 +1,14 @@
-ghost use Rattle.std.specs.Prelude.{◌≡◌, ◌≤◌, true, length};
-ghost use Rattle.elf_image.specs.Sound.{IsSound};
-ghost use Rattle.mono_model.specs.Setup.{is_setup};
-ghost use Rattle.fast_cli.specs.Ranges.{HasRanges};
-ghost use Rattle.fast_run.specs.Plain.{plain_params, plain_ram};
-ghost use Rattle.fast_run.specs.Run.{setup_for};
+ghost use Rattle.std.specs.Prelude.{◌≡◌, true};
+ghost use Rattle.mono_model.specs.Setup.{are_params};
+ghost use Rattle.fast_run.specs.Plain.{plain_params};
 
 use branch_predictor::PredKind;
-use elf_image::Image;
-use fast_cli::Options;
-use fsim_base::{Bytes, RamRange};
-use mono_model::{Params, Setup};
-
-/// The RAM of the plain machine: 16 MiB from 0x80000000.
-pub fn plain_ram() -> RamRange
-    ensures ram { result ≡ plain_ram }
-{
-    RamRange {
-        base: 0x8000_0000,
-        size: 16_777_216,
-    }
-}
+use mono_model::Params;
 
 /// The plain machine: that of the machine file with no keys.
 pub fn plain_params() -> Params
     ensures params { result ≡ plain_params }
+    ensures in_range { are_params result ≡ true }
 {
     Params {
         version: 1,
@@ -60,23 +45,5 @@ pub fn plain_params() -> Params
         l2_ways: 0,
         l2_hit: 10,
         l2_miss: 100,
-    }
-}
-
-/// The setup of an image on the plain machine, with what the console reads.
-pub fn setup_for(options: &Options, image: Image, input: Bytes) -> Setup
-    requires sound { IsSound image plain_ram }
-    requires ranges { HasRanges options.now }
-    requires input { length input ≤ 16777216 }
-    ensures setup { result ≡ setup_for options.now image input }
-    ensures sound { is_setup result ≡ true }
-{
-    Setup {
-        image,
-        params: plain_params(),
-        input,
-        cycles: options.cycles,
-        output: options.output,
-        ring: options.ring,
     }
 }

@@ -1,59 +1,132 @@
+ghost use Rattle.std.specs.Prelude.{◌≡◌, ◌≤◌, map, drop, string_bytes, IfOk, OnErr};
+ghost use Rattle.std.specs.IoError.{error_kind};
+ghost use Rattle.std.specs.Process.{exit_status};
+ghost use Rattle.fast_cli.specs.Line.{line};
+ghost use Rattle.report_text.specs.FaultText.{status_number};
+ghost use Rattle.fast_run.specs.Answer.{IsAnswer};
+ghost use Rattle.fast_run.specs.Call.{reading_of, writing_of};
+ghost use Rattle.fast_run.specs.Program.{IsNoText, line_in, status_of_error};
+
 use crate::answer::fast_main;
 use crate::tell::tell;
 use device_bus::{Console, Device, Finisher, Timer, in_order};
-use fsim_ports::{Files, HostFiles, HostSink, Sink};
+use fsim_ports::{Files, HostFiles, HostSink, QuietGate, Sink};
 use report_text::Status;
 use std::alloc::{AllocError, Global};
-use std::env;
-use std::env::Args;
 use std::io::ErrorKind;
+use std::process::ExitCode;
+use std::sync::Wait;
+use std::thread::Threads;
+use std::{env, io};
 
-/// Runs the program with the arguments, files and standard output of the host. An argument that is no text is no word.
-pub fn run_host(rt: &HostRuntime) -> Status {
+/// Runs the program with the arguments, files and standard output of the host, and with what starts
+/// threads.
+pub fn run_host<R: Threads + Wait + Sync>(rt: &HostRuntime, threads: &R) -> ExitCode {
     let alloc = rt.alloc();
-    let mut sink = HostSink::new(rt);
-    let arguments = match env::args(rt) {
-        Ok(arguments) => arguments,
-        Err(error) if error.kind() == ErrorKind::OutOfMemory => {
-            return tell(Status::Memory, &mut sink);
-        }
-        Err(_) => return tell(Status::Usage, &mut sink),
-    };
     let mut files = HostFiles::new(alloc, rt);
-    match answer_arguments(alloc, arguments, &mut files, &mut sink) {
-        Ok(status) => status,
-        Err(AllocError) => tell(Status::Memory, &mut sink),
-    }
+    let mut sink = HostSink::new(rt);
+    let status = answer_arguments(threads, alloc, arguments(rt), &mut files, &mut sink);
+    exit_code(&status)
 }
 
-/// The answer to the arguments, of which the first is the program's name. It fails where there is no memory for the
-/// words or the devices, and has written nothing then.
-fn answer_arguments<F: Files, K: Sink>(
+/// The arguments of the process, of which the first is the program's name.
+fn arguments(rt: &HostRuntime) -> io::Result<Vec<String>> {
+    let arguments = env::args(rt)?;
+    Ok(arguments.collect(rt.alloc())?)
+}
+
+/// The exit status that tells an answer.
+fn exit_code(status: &Status) -> ExitCode
+    ensures number { exit_status result ≡ status_number status.now }
+{
+    ExitCode::from(status.number())
+}
+
+/// The answer to the arguments of the process, of which the first is the program's name. Where they
+/// could not be had, since one of them is no text, they are no line.
+fn answer_arguments<R: Threads + Wait + Sync, F: Files, K: Sink>(
+    rt: &R,
     alloc: Global,
-    arguments: Args,
+    arguments: io::Result<Vec<String>>,
     files: &mut F,
     sink: &mut K,
-) -> Result<Status, AllocError> {
-    let mut arguments = arguments;
-    let _ = arguments.next();
-    let mut texts = Vec::new(alloc);
-    for argument in arguments {
-        texts.push(argument)?;
+) -> Status
+    ensures told { F.told files.new ≡ F.told files.old }
+    ensures files { F.faults files.old ≤ F.faults files.new }
+    ensures sink { K.faults sink.old ≤ K.faults sink.new }
+    ensures answer { IsAnswer (line_in arguments) 1
+        (reading_of F.told F.faults files.old files.new)
+        (writing_of K.written K.faults sink.old sink.new) result }
+    ensures no_text { IsNoText arguments result }
+{
+    let arguments = match arguments {
+        Ok(arguments) => arguments,
+        Err(error) => return tell(status_of_error(&error), sink),
+    };
+    match answer_texts(rt, alloc, words_of(arguments.as_slice()), files, sink) {
+        Ok(status) => status,
+        Err(AllocError) => tell(Status::Memory, sink),
     }
-    let mut words = Vec::new(alloc);
-    for text in texts.as_slice() {
-        words.push(text.as_str())?;
-    }
-    answer_words(alloc, words.as_slice(), files, sink)
 }
 
-/// The answer to the words, with devices of its own.
-pub fn answer_words<F: Files, K: Sink>(
+/// The answer where the arguments could not be had.
+fn status_of_error(error: &io::Error) -> Status
+    ensures status { result ≡ status_of_error (error_kind error.now) }
+{
+    match error.kind() {
+        ErrorKind::OutOfMemory => Status::Memory,
+        _ => Status::Usage,
+    }
+}
+
+/// The words among the arguments: those behind the program's name.
+fn words_of(arguments: &[String]) -> &[String]
+    ensures words { result.now ≡ drop 1 arguments.now }
+{
+    arguments.get(1..).unwrap_or(&[])
+}
+
+/// The answer to words that are owned. Where no memory is found for them or for the devices, files
+/// and sink are as they were.
+fn answer_texts<R: Threads + Wait + Sync, F: Files, K: Sink>(
+    rt: &R,
+    alloc: Global,
+    texts: &[String],
+    files: &mut F,
+    sink: &mut K,
+) -> Result<Status, AllocError>
+    ensures told { F.told files.new ≡ F.told files.old }
+    ensures files { F.faults files.old ≤ F.faults files.new }
+    ensures sink { K.faults sink.old ≤ K.faults sink.new }
+    ensures answer { IfOk result (IsAnswer (line (map string_bytes texts.now)) 1
+        (reading_of F.told F.faults files.old files.new)
+        (writing_of K.written K.faults sink.old sink.new)) }
+    ensures untouched { OnErr result ((files.new ≡ files.old) × (sink.new ≡ sink.old)) }
+{
+    let mut words = Vec::new(alloc);
+    for text in texts {
+        words.push(text.as_str())?;
+    }
+    answer_words(rt, alloc, words.as_slice(), files, sink)
+}
+
+/// The answer to the words, with devices of its own. Where no memory is found for these, files and
+/// sink are as they were.
+pub fn answer_words<R: Threads + Wait + Sync, F: Files, K: Sink>(
+    rt: &R,
     alloc: Global,
     words: &[&str],
     files: &mut F,
     sink: &mut K,
-) -> Result<Status, AllocError> {
+) -> Result<Status, AllocError>
+    ensures told { F.told files.new ≡ F.told files.old }
+    ensures files { F.faults files.old ≤ F.faults files.new }
+    ensures sink { K.faults sink.old ≤ K.faults sink.new }
+    ensures answer { IfOk result (IsAnswer (line (map (λ word. word.now) words.now)) 1
+        (reading_of F.told F.faults files.old files.new)
+        (writing_of K.written K.faults sink.old sink.new)) }
+    ensures untouched { OnErr result ((files.new ≡ files.old) × (sink.new ≡ sink.old)) }
+{
     let Ok(console) = Console::new(alloc) else {
         return Err(AllocError);
     };
@@ -64,5 +137,5 @@ pub fn answer_words<F: Files, K: Sink>(
     if !in_order(devices.as_slice()) {
         return Err(AllocError);
     }
-    Ok(fast_main(alloc, words, files, sink, devices))
+    Ok(fast_main(rt, alloc, words, files, sink, devices, &QuietGate))
 }

@@ -1,20 +1,89 @@
-ghost use Rattle.std.specs.Prelude.{◌≡◌, true, map};
+ghost use Rattle.std.specs.Prelude.{◌≡◌, ◌≤◌, true, map};
 ghost use Rattle.device_bus.specs.Bus.{device_order};
 ghost use Rattle.mono_model.specs.Setup.{is_setup};
-ghost use Rattle.fast_run.specs.Answer.{IsOutcome};
+ghost use Rattle.fast_run.specs.Answer.{Ends};
+ghost use Rattle.fast_run.specs.Call.{writing_of};
+ghost use Rattle.fast_run.specs.Job.{setup_in};
 
-use crate::finish::finish;
+use crate::finish::{finish_alone, finish_timed};
+use crate::job::Job;
+use crate::plan::Plan;
 use crate::tell::tell;
 use device_bus::Device;
+use fast_threads::Session;
 use fsim_base::NoMemory;
-use fsim_ports::Sink;
+use fsim_ports::{Gate, Sink};
 use func_model::FuncSide;
+use machine_laws::run_ends_once;
 use mono_model::Setup;
 use report_text::Status;
+use split_core::SplitCore;
 use std::alloc::Global;
+use std::sync::Wait;
+use std::thread::Threads;
 
-/// Runs a setup to its end, writes output and report, and gives the answer.
-pub fn run<K: Sink, D: Device>(
+/// Does a job on one thread, writes its output and report, and gives the answer.
+pub fn run<K: Sink, D: Device>(alloc: Global, job: &Job, devices: Vec<D>, sink: &mut K) -> Status
+    requires sound { is_setup (setup_in job.now) ≡ true }
+    requires order { map D.kind devices.items ≡ device_order }
+    ensures count { K.faults sink.old ≤ K.faults sink.new }
+    ensures ends { Ends job.now (writing_of K.written K.faults sink.old sink.new) result }
+{
+    match job {
+        Job::Func(setup) => run_alone(alloc, setup, devices, sink),
+        Job::Run(setup) => run_to_end(alloc, setup, devices, sink),
+        Job::Sched(setup, plan) => run_plan(alloc, setup, plan, devices, sink),
+    }
+}
+
+/// Does a job, a run on the machine on two threads.
+pub fn run_in_threads<R: Threads + Wait + Sync, K: Sink, G: Gate + Sync, D: Device + Send>(
+    rt: &R,
+    alloc: Global,
+    job: &Job,
+    devices: Vec<D>,
+    sink: &mut K,
+    gate: &G,
+) -> Status
+    requires sound { is_setup (setup_in job.now) ≡ true }
+    requires order { map D.kind devices.items ≡ device_order }
+    ensures count { K.faults sink.old ≤ K.faults sink.new }
+    ensures ends { Ends job.now (writing_of K.written K.faults sink.old sink.new) result }
+{
+    match job {
+        Job::Run(setup) => run_session(rt, alloc, setup, devices, sink, gate),
+        Job::Func(_) | Job::Sched(_, _) => run(alloc, job, devices, sink),
+    }
+}
+
+/// The run on the machine, on two threads.
+fn run_session<R: Threads + Wait + Sync, K: Sink, G: Gate + Sync, D: Device + Send>(
+    rt: &R,
+    alloc: Global,
+    setup: &Setup,
+    devices: Vec<D>,
+    sink: &mut K,
+    gate: &G,
+) -> Status
+    requires sound { is_setup setup.now ≡ true }
+    requires order { map D.kind devices.items ≡ device_order }
+    ensures count { K.faults sink.old ≤ K.faults sink.new }
+    ensures ends { Ends (Job.Run setup.now)
+        (writing_of K.written K.faults sink.old sink.new) result }
+{
+    let mut session = match Session::new(alloc, setup, devices) {
+        Ok(session) => session,
+        Err(NoMemory) => return tell(Status::Memory, sink),
+    };
+    session.run(rt, gate);
+    // The law that the machine has ended then.
+    run_ends_once();
+    let last = session.result();
+    finish_timed(&last, session.output(), sink)
+}
+
+/// The sequential run.
+fn run_alone<K: Sink, D: Device>(
     alloc: Global,
     setup: &Setup,
     devices: Vec<D>,
@@ -22,12 +91,60 @@ pub fn run<K: Sink, D: Device>(
 ) -> Status
     requires sound { is_setup setup.now ≡ true }
     requires order { map D.kind devices.items ≡ device_order }
-    ensures outcome { IsOutcome setup.now (K.faults sink.old) (K.faults sink.new) (K.written sink.old) (K.written sink.new) result }
+    ensures count { K.faults sink.old ≤ K.faults sink.new }
+    ensures ends { Ends (Job.Func setup.now)
+        (writing_of K.written K.faults sink.old sink.new) result }
 {
     let mut side = match FuncSide::new(alloc, setup, devices) {
         Ok(side) => side,
         Err(NoMemory) => return tell(Status::Memory, sink),
     };
     let last = side.alone(setup.cycles);
-    finish(&last, side.output(), sink)
+    finish_alone(&last, side.output(), sink)
+}
+
+/// The run on the machine, on one thread.
+fn run_to_end<K: Sink, D: Device>(
+    alloc: Global,
+    setup: &Setup,
+    devices: Vec<D>,
+    sink: &mut K,
+) -> Status
+    requires sound { is_setup setup.now ≡ true }
+    requires order { map D.kind devices.items ≡ device_order }
+    ensures count { K.faults sink.old ≤ K.faults sink.new }
+    ensures ends { Ends (Job.Run setup.now)
+        (writing_of K.written K.faults sink.old sink.new) result }
+{
+    let mut core = match SplitCore::new(alloc, setup, devices) {
+        Ok(core) => core,
+        Err(NoMemory) => return tell(Status::Memory, sink),
+    };
+    core.to_end();
+    let last = core.committed();
+    finish_timed(&last, core.output(), sink)
+}
+
+/// The events of a plan, and the way to the next cycle boundary.
+fn run_plan<K: Sink, D: Device>(
+    alloc: Global,
+    setup: &Setup,
+    plan: &Plan,
+    devices: Vec<D>,
+    sink: &mut K,
+) -> Status
+    requires sound { is_setup setup.now ≡ true }
+    requires order { map D.kind devices.items ≡ device_order }
+    ensures count { K.faults sink.old ≤ K.faults sink.new }
+    ensures ends { Ends (Job.Sched setup.now plan.now)
+        (writing_of K.written K.faults sink.old sink.new) result }
+{
+    let mut core = match SplitCore::new(alloc, setup, devices) {
+        Ok(core) => core,
+        Err(NoMemory) => return tell(Status::Memory, sink),
+    };
+    core.play(plan.events());
+    core.to_boundary();
+    let last = core.committed();
+    finish_timed(&last, core.output(), sink)
 }

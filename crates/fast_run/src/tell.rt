@@ -1,6 +1,6 @@
-ghost use Rattle.std.specs.Prelude.{◌≡◌, true};
-ghost use Rattle.fsim_ports.specs.Sink.{Wrote};
+ghost use Rattle.std.specs.Prelude.{◌≡◌, ◌≤◌, true};
 ghost use Rattle.report_text.specs.FaultText.{fault_text, has_line};
+ghost use Rattle.fast_run.specs.Call.{WroteTo, writing_of};
 
 use fsim_ports::Sink;
 use report_text::{Status, fault_line};
@@ -9,7 +9,8 @@ use report_text::{Status, fault_line};
 pub fn tell<K: Sink>(status: Status, sink: &mut K) -> Status
     requires line { has_line status ≡ true }
     ensures same { result ≡ status }
-    ensures line { Wrote (fault_text status) (K.faults sink.old) (K.faults sink.new) (K.written sink.old) (K.written sink.new) }
+    ensures count { K.faults sink.old ≤ K.faults sink.new }
+    ensures line { WroteTo (writing_of K.written K.faults sink.old sink.new) (fault_text status) }
 {
     let _ = fault_line(&status, sink);
     status

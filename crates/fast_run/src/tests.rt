@@ -1,18 +1,24 @@
-// What no clause says: that calls succeed where memory is ample, and the texts as their readers see them.
-ghost use Rattle.std.specs.Prelude.{◌<◌, length};
-
+// What no clause says: that calls succeed where memory is ample, and the texts as their readers see
+// them.
+mod counting;
 mod faults;
-mod runs;
+mod gates;
+mod programs;
+mod reports;
 mod words;
 
+use crate::open::open;
 use crate::program::answer_words;
+use fast_cli::read_words;
 use fsim_ports::{MemoryFiles, MemorySink};
 use std::alloc::Global;
 use std::process::Abort;
+use std::sync::Wait;
 use std::test::Fail;
+use std::thread::Threads;
 
-/// The front of an image whose one segment, executable, lies at 0x80000000 and is entered there. Bytes 68 and 72 have its
-/// size.
+/// The front of an image whose one segment, executable, lies at 0x80000000 and is entered there.
+/// Bytes 68 to 75 have its size twice.
 const FRONT: [u8; 84] = [
     0x7f, 0x45, 0x4c, 0x46, 0x01, 0x01, 0x01, 0x00, 0x00, 0x00, 0x00, 0x00, 0x00, 0x00, 0x00, 0x00,
     0x02, 0x00, 0xf3, 0x00, 0x01, 0x00, 0x00, 0x00, 0x00, 0x00, 0x00, 0x80, 0x34, 0x00, 0x00, 0x00,
@@ -26,13 +32,11 @@ const FRONT: [u8; 84] = [
 const SMALLEST_PASS: [u32; 4] = [0x0010_02b7, 0x0000_5337, 0x5553_0313, 0x0062_a023];
 
 /// The image of a program.
-fn image_of(alloc: Global, words: &[u32]) -> Result<Vec<u8>, Fail>
-    requires { length words.now < 64 }
-{
-    let size = (words.len() * 4) as u8;
+fn image_of(alloc: Global, words: &[u32]) -> Result<Vec<u8>, Fail> {
+    let size = u32::try_from(words.len() * 4).unwrap_or(0).to_le_bytes();
     let mut front = FRONT;
-    front[68] = size;
-    front[72] = size;
+    front[68..72].copy_from_slice(&size);
+    front[72..76].copy_from_slice(&size);
     let mut image = front.to_vec(alloc)?;
     for word in words {
         image.extend_from_slice(&word.to_le_bytes())?;
@@ -41,8 +45,8 @@ fn image_of(alloc: Global, words: &[u32]) -> Result<Vec<u8>, Fail>
 }
 
 /// Answers the words, and compares status and text.
-fn check(
-    rt: &impl Abort,
+fn check<R: Threads + Wait + Sync + Abort>(
+    rt: &R,
     alloc: Global,
     words: &[&str],
     files: &mut MemoryFiles,
@@ -50,8 +54,16 @@ fn check(
     text: &str,
 ) -> Result<(), Fail> {
     let mut sink = MemorySink::new(alloc, 4096)?;
-    let status = answer_words(alloc, words, files, &mut sink)?;
+    let status = answer_words(rt, alloc, words, files, &mut sink)?;
     assert_eq!(rt; status.number(), number, "{words:?}");
     assert_eq!(rt; sink.bytes(), text.as_bytes(), "{words:?}");
     Ok(())
+}
+
+/// Whether the words ask for a job with these files.
+fn opens(alloc: Global, words: &[&str], files: &mut MemoryFiles) -> bool {
+    match read_words(alloc, words) {
+        Ok(line) => open(alloc, &line, files).is_ok(),
+        Err(_) => false,
+    }
 }

@@ -1,13 +1,12 @@
 // What the files and the sink refuse.
-use super::runs::{ECHOED, FIVE_BYTES, FULL, echo_files};
-use super::{SMALLEST_PASS, check, image_of};
-use crate::open::open;
+use super::programs::files_of_runs;
+use super::{SMALLEST_PASS, check, image_of, opens};
 use crate::program::answer_words;
 use fsim_ports::{MemoryFiles, MemorySink};
 use std::alloc::Global;
 use std::test::Fail;
 
-/// Files with an image and with files that are none.
+/// Files with an image, machine files and plans, and with files that are none.
 fn files_of(alloc: Global) -> Result<MemoryFiles, Fail> {
     let mut files = MemoryFiles::new(alloc);
     let mut image = image_of(alloc, &SMALLEST_PASS)?;
@@ -15,21 +14,71 @@ fn files_of(alloc: Global) -> Result<MemoryFiles, Fail> {
     files.add("empty", b"")?;
     image.truncate(51);
     files.add("short", image.as_slice())?;
+    let mut other = super::FRONT;
+    other[18] = 62;
+    files.add("other", &other)?;
+    files.add("zero", b"core.window = 0")?;
+    files.add("text", b"core.window = \"8\"")?;
+    files.add("sets", b"icache.sets = 48")?;
+    files.add("section", b"[cpu]")?;
+    files.add("both", b"core.window = 0\ncore.foo = 1\n")?;
+    files.add("half", b"a =")?;
+    files.add("low", b"ram.base = 0x20000000")?;
+    files.add("old", b"version = 1\nl2.ways = 1\n")?;
+    files.add("bad", b"CPX")?;
+    files.add("spaced", b"C P\r\nOTKSx")?;
     Ok(files)
 }
+
+/// Lines and their refusals, in the order in which these are tested.
+const REFUSED: [(&str, u8, &str); 29] = [
+    ("func none", 13, "fast: missing: image\n"),
+    ("func none --input none", 13, "fast: missing: image\n"),
+    ("func pass --input none", 13, "fast: missing: input\n"),
+    ("func empty --input none", 13, "fast: missing: input\n"),
+    ("func empty", 11, "fast: image: short\n"),
+    ("func short --input empty", 11, "fast: image: short\n"),
+    ("run none none", 13, "fast: missing: image\n"),
+    ("run short none", 13, "fast: missing: machine\n"),
+    ("run short zero --input none", 13, "fast: missing: input\n"),
+    ("sched pass none none", 13, "fast: missing: machine\n"),
+    ("sched pass zero none", 13, "fast: missing: plan\n"),
+    (
+        "sched short zero bad --input none",
+        13,
+        "fast: missing: input\n",
+    ),
+    ("run short zero", 12, "fast: machine: range core.window 0\n"),
+    ("run pass text", 12, "fast: machine: kind core.window\n"),
+    ("run pass sets", 12, "fast: machine: power icache.sets 48\n"),
+    ("run pass section", 12, "fast: machine: unknown cpu\n"),
+    ("run pass both", 12, "fast: machine: unknown core.foo\n"),
+    ("run pass half", 12, "fast: machine: not toml\n"),
+    ("run pass old", 12, "fast: machine: unknown l2\n"),
+    (
+        "sched short zero bad",
+        12,
+        "fast: machine: range core.window 0\n",
+    ),
+    ("run short empty", 11, "fast: image: short\n"),
+    ("run other empty", 11, "fast: image: machine\n"),
+    ("run pass low", 11, "fast: image: outside ram 0\n"),
+    ("sched pass low bad", 11, "fast: image: outside ram 0\n"),
+    ("sched short empty bad", 11, "fast: image: short\n"),
+    ("sched pass empty bad", 18, "fast: bad plan: 2\n"),
+    ("sched pass empty spaced", 18, "fast: bad plan: 9\n"),
+    ("sched pass empty half", 18, "fast: bad plan: 0\n"),
+    (
+        "sched pass empty bad --input pass",
+        18,
+        "fast: bad plan: 2\n",
+    ),
+];
 
 #[test]
 fn first_refusal_is_told(rt: HostRuntime) -> Result<(), Fail> {
     let alloc = rt.alloc();
-    let cases = [
-        ("func none", 13, "fast: missing: image\n"),
-        ("func none --input none", 13, "fast: missing: image\n"),
-        ("func pass --input none", 13, "fast: missing: input\n"),
-        ("func empty --input none", 13, "fast: missing: input\n"),
-        ("func empty", 11, "fast: image: short\n"),
-        ("func short --input empty", 11, "fast: image: short\n"),
-    ];
-    for (text, number, answer) in cases {
+    for (text, number, answer) in REFUSED {
         let words: Vec<&str> = text.split(' ').collect(alloc)?;
         let mut files = files_of(alloc)?;
         check(&rt, alloc, words.as_slice(), &mut files, number, answer)?;
@@ -48,7 +97,7 @@ fn image_may_fill_ram_to_its_last_byte(rt: HostRuntime) -> Result<(), Fail> {
     image[72] = 16;
     let mut files = MemoryFiles::new(alloc);
     files.add("last", &image)?;
-    assert!(rt; open(alloc, &["func", "last"], &mut files).is_ok());
+    assert!(rt; opens(alloc, &["func", "last"], &mut files));
     image[72] = 17;
     files.add("outside", &image)?;
     let answer = "fast: image: outside ram 0\n";
@@ -77,46 +126,85 @@ fn files_are_read_to_their_limits(rt: HostRuntime) -> Result<(), Fail> {
         17,
         answer,
     )?;
-    assert!(rt; open(alloc, &["func", "pass", "--input", "most"], &mut files).is_ok());
+    assert!(rt; opens(alloc, &["func", "pass", "--input", "most"], &mut files));
     Ok(())
 }
+
+#[test]
+fn machine_files_and_plans_are_read_to_their_limits(rt: HostRuntime) -> Result<(), Fail> {
+    let alloc = rt.alloc();
+    let mut files = MemoryFiles::new(alloc);
+    files.add("pass", image_of(alloc, &SMALLEST_PASS)?.as_slice())?;
+    files.add("most", vec![in alloc; b'\n'; 65_536]?.as_slice())?;
+    files.add("more", vec![in alloc; b'\n'; 65_537]?.as_slice())?;
+    files.add("plan", vec![in alloc; b' '; 1_048_576]?.as_slice())?;
+    files.add("long", vec![in alloc; b' '; 1_048_577]?.as_slice())?;
+    let answer = "fast: too long: machine 65536\n";
+    check(&rt, alloc, &["run", "pass", "more"], &mut files, 17, answer)?;
+    let answer = "fast: too long: plan 1048576\n";
+    let words = ["sched", "pass", "most", "long"];
+    check(&rt, alloc, &words, &mut files, 17, answer)?;
+    assert!(rt; opens(alloc, &["sched", "pass", "most", "plan"], &mut files));
+    Ok(())
+}
+
+/// Lines, the read that fails, and the answer; each file takes one read for its bytes and one for
+/// its end.
+const FAILING: [(&str, u64, &str); 12] = [
+    ("func echo --input in", 1, "fast: read fault: image\n"),
+    ("func echo --input in", 2, "fast: read fault: image\n"),
+    ("func echo --input in", 3, "fast: read fault: input\n"),
+    ("func echo --input in", 4, "fast: read fault: input\n"),
+    (
+        "sched echo eight nothing --input in",
+        1,
+        "fast: read fault: image\n",
+    ),
+    (
+        "sched echo eight nothing --input in",
+        2,
+        "fast: read fault: image\n",
+    ),
+    (
+        "sched echo eight nothing --input in",
+        3,
+        "fast: read fault: machine\n",
+    ),
+    (
+        "sched echo eight nothing --input in",
+        4,
+        "fast: read fault: machine\n",
+    ),
+    (
+        "sched echo eight nothing --input in",
+        5,
+        "fast: read fault: plan\n",
+    ),
+    (
+        "sched echo eight nothing --input in",
+        6,
+        "fast: read fault: plan\n",
+    ),
+    (
+        "sched echo eight nothing --input in",
+        7,
+        "fast: read fault: input\n",
+    ),
+    (
+        "sched echo eight nothing --input in",
+        8,
+        "fast: read fault: input\n",
+    ),
+];
 
 #[test]
 fn each_read_that_fails_is_told_with_its_role(rt: HostRuntime) -> Result<(), Fail> {
     let alloc = rt.alloc();
-    let image = "fast: read fault: image\n";
-    let input = "fast: read fault: input\n";
-    // Each file takes one read for its bytes and one for its end.
-    let cases = [
-        (1, 14, image),
-        (2, 14, image),
-        (3, 14, input),
-        (4, 14, input),
-        (5, 0, ECHOED),
-    ];
-    for (read, number, answer) in cases {
-        let mut files = echo_files(alloc)?;
+    for (text, read, answer) in FAILING {
+        let words: Vec<&str> = text.split(' ').collect(alloc)?;
+        let mut files = files_of_runs(alloc)?;
         files.fail_at(read)?;
-        let words = ["func", "echo", "--input", "in"];
-        check(&rt, alloc, &words, &mut files, number, answer)?;
-    }
-    Ok(())
-}
-
-#[test]
-fn each_put_that_fails_leaves_a_prefix(rt: HostRuntime) -> Result<(), Fail> {
-    let alloc = rt.alloc();
-    let mut files = MemoryFiles::new(alloc);
-    files.add("five", image_of(alloc, &FIVE_BYTES)?.as_slice())?;
-    // Output, its line feed, and 16 lines.
-    for put in 1..20u64 {
-        let mut sink = MemorySink::new(alloc, 4096)?;
-        sink.fail_at(put)?;
-        let words = ["func", "five", "--output", "4"];
-        let status = answer_words(alloc, &words, &mut files, &mut sink)?;
-        assert_eq!(rt; status.number(), if put < 19 { 15 } else { 3 }, "put {put}");
-        assert!(rt; FULL.as_bytes().starts_with(sink.bytes()), "put {put}");
-        assert_eq!(rt; sink.bytes().len() < FULL.len(), put < 19, "put {put}");
+        check(&rt, alloc, words.as_slice(), &mut files, 14, answer)?;
     }
     Ok(())
 }
@@ -127,7 +215,7 @@ fn refusal_stands_where_its_line_is_not_written(rt: HostRuntime) -> Result<(), F
     let mut files = MemoryFiles::new(alloc);
     let mut sink = MemorySink::new(alloc, 4096)?;
     sink.fail_at(1)?;
-    let status = answer_words(alloc, &["run", "a"], &mut files, &mut sink)?;
+    let status = answer_words(&rt, alloc, &["run", "a"], &mut files, &mut sink)?;
     assert_eq!(rt; status.number(), 10);
     assert_eq!(rt; sink.bytes().len(), 0);
     Ok(())

@@ -3,10 +3,12 @@ use super::{SMALLEST_PASS, check, image_of};
 use fsim_ports::MemoryFiles;
 use std::test::Fail;
 
-const USAGE: &str =
-    "fast: usage: fast func IMAGE, run IMAGE MACHINE, sched IMAGE MACHINE PLAN, soak SEED, back IMAGE SCRIPT, inorder IMAGE MACHINE PLAN, sweep IMAGE MACHINES\n";
+const USAGE: &str = concat!(
+    "fast: usage: fast func IMAGE, run IMAGE MACHINE, sched IMAGE MACHINE PLAN, soak SEED, ",
+    "back IMAGE SCRIPT, inorder IMAGE MACHINE PLAN, sweep IMAGE MACHINES\n",
+);
 
-const REFUSED: [&str; 27] = [
+const REFUSED: [&str; 30] = [
     "",
     "--help",
     "walk a",
@@ -24,6 +26,9 @@ const REFUSED: [&str; 27] = [
     "run a m --ring 000000000000000000008",
     "run a m --ring=",
     "run a m --ring +8",
+    "run a m --threads 3",
+    "sched a m p --threads 1",
+    "soak 7 --threads 1",
     "soak -1",
     "sweep a",
     "func a --ring 8",
@@ -37,23 +42,30 @@ const REFUSED: [&str; 27] = [
 ];
 
 /// Lines of commands that aren't run yet, and the answer.
-const LATER: [(&str, &str); 16] = [
-    ("run a m", "fast: later: run\n"),
-    ("run --ring=8 a m", "fast: later: run\n"),
-    ("run --ring 8 a m", "fast: later: run\n"),
-    ("run a --ring 8 m", "fast: later: run\n"),
-    ("run a m --ring 8", "fast: later: run\n"),
-    ("run a m --ring 00000000000000000008", "fast: later: run\n"),
-    ("run -- --ring -h", "fast: later: run\n"),
-    ("run - -", "fast: later: run\n"),
-    ("sched a m p", "fast: later: sched\n"),
-    ("soak 7", "fast: later: soak\n"),
-    ("soak -- 18446744073709551615", "fast: later: soak\n"),
+const LATER: [(&str, &str); 5] = [
     ("back a s", "fast: later: back\n"),
     ("back a s --history 2", "fast: later: back\n"),
     ("inorder a m p", "fast: later: inorder\n"),
     ("sweep a m n", "fast: later: sweep\n"),
     ("sweep a m --ring 8 n", "fast: later: sweep\n"),
+];
+
+/// Lines of commands that are run, by the file that they lack.
+const LINES: [(&str, &str); 11] = [
+    ("run n m", "fast: missing: image\n"),
+    ("run a n", "fast: missing: machine\n"),
+    ("run --ring=8 a n", "fast: missing: machine\n"),
+    ("run --ring 8 a n", "fast: missing: machine\n"),
+    ("run a --ring 8 n", "fast: missing: machine\n"),
+    (
+        "run a n --ring 00000000000000000008",
+        "fast: missing: machine\n",
+    ),
+    ("run -- --ring -h", "fast: missing: image\n"),
+    ("run - -", "fast: missing: image\n"),
+    ("sched a n p", "fast: missing: machine\n"),
+    ("sched a m p --input i", "fast: missing: plan\n"),
+    ("sched a m a --input i", "fast: missing: input\n"),
 ];
 
 #[test]
@@ -87,4 +99,17 @@ fn later_commands_read_no_file(rt: HostRuntime) -> Result<(), Fail> {
         14,
         "fast: read fault: image\n",
     )
+}
+
+#[test]
+fn first_file_that_is_lacking_is_told(rt: HostRuntime) -> Result<(), Fail> {
+    let alloc = rt.alloc();
+    for (text, answer) in LINES {
+        let words: Vec<&str> = text.split(' ').collect(alloc)?;
+        let mut files = MemoryFiles::new(alloc);
+        files.add("a", image_of(alloc, &SMALLEST_PASS)?.as_slice())?;
+        files.add("m", b"")?;
+        check(&rt, alloc, words.as_slice(), &mut files, 13, answer)?;
+    }
+    Ok(())
 }

@@ -1,8 +1,22 @@
 use Rattle.std.proofs.Common.{map}
 use Rattle.fast_cli.specs.Line.{line}
-use Rattle.fast_run.proofs.Told.{IsAnswer-settled}
+use Rattle.fast_run.specs.Call.{reading_of, writing_of}
+use Rattle.fast_run.proofs.Answers.{answer-line}
+use Rattle.fast_run.proofs.Settling.{answer-complete, answer-settled}
 use Rattle.fast_run.proofs.answer.fast_main.Goals as goal
 
 pub returns-clause-settled : goal.returns-clause-settled
 returns-clause-settled g c =
-    IsAnswer-settled (line (map (λ word. word.now) c.args.words.now)) (g.F.Files.told c.args.files.now) (g.F.Files.faults c.args.files.now) (g.F.Files.faults c.answer.new.files) (g.K.Sink.faults c.args.sink.now) (g.K.Sink.faults c.answer.new.sink) (g.K.Sink.written c.args.sink.now) (g.K.Sink.written c.answer.new.sink) c.answer.result c.answer.ensures.answer
+    let asked = line (map (λ word. word.now) c.args.words.now) in
+    let reading = reading_of g.F.Files.told g.F.Files.faults c.args.files.now c.answer_in_threads.new.files in
+    let writing = writing_of g.K.Sink.written g.K.Sink.faults c.args.sink.now c.answer_in_threads.new.sink in
+    answer-settled asked 1 reading writing c.answer_in_threads.result
+    (answer-line asked c.in-Ok.line 1 reading writing c.answer_in_threads.result c.in-Ok.ensures.ok c.answer_in_threads.ensures.answer)
+
+pub returns-clause-complete : goal.returns-clause-complete
+returns-clause-complete g c =
+    let asked = line (map (λ word. word.now) c.args.words.now) in
+    let reading = reading_of g.F.Files.told g.F.Files.faults c.args.files.now c.answer_in_threads.new.files in
+    let writing = writing_of g.K.Sink.written g.K.Sink.faults c.args.sink.now c.answer_in_threads.new.sink in
+    answer-complete asked 1 reading writing c.answer_in_threads.result
+    (answer-line asked c.in-Ok.line 1 reading writing c.answer_in_threads.result c.in-Ok.ensures.ok c.answer_in_threads.ensures.answer)

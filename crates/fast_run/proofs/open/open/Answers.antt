@@ -1,12 +1,50 @@
-use Rattle.std.proofs.Common.{Option, MatchResult, sym, subst}
-use Rattle.fast_cli.specs.declared.line.Line.{Line}
-use Rattle.fast_run.specs.Answer.{Opens, IsCause}
+use Rattle.std.proofs.Common.{◌≡◌, ◌≢◌, List, refl, ◌∙◌, subst}
+use Rattle.std.proofs.lemmas.Result.{err_from_is_err_and}
+use Rattle.report_text.specs.declared.status.Status.TheVariants.{Memory}
+use Rattle.fast_run.specs.declared.files.NamedFile.{NamedFile}
+use Rattle.fast_run.specs.Answer.{Closes, Starved}
+use Rattle.fast_run.specs.Call.{reading_of}
+use Rattle.fast_run.specs.Files.{files_of}
+use Rattle.fast_run.specs.Reading.{AreRead, StopsIn}
+use Rattle.fast_run.proofs.Answers.{closes-stopped, job-asks, job-closes}
+use Rattle.fast_run.proofs.Readings.{if-err-through, read-within}
 use Rattle.fast_run.proofs.open.open.Goals as goal
 
-pub returns-in-Ok-clause-opened : goal.returns-in-Ok-clause-opened
-returns-in-Ok-clause-opened g c =
+pub returns-in_default-clause-closes : goal.returns-in_default-clause-closes
+returns-in_default-clause-closes g c = Starved refl
+
+pub returns-in_err-contents-clause-closes : goal.returns-in_err-contents-clause-closes
+returns-in_err-contents-clause-closes g c =
+    let status = c.in_err-contents.field-0.0 in
+    let line = c.args.line.now in
+    let reading = reading_of g.F.Files.told g.F.Files.faults c.args.files.now c.read_files.new.files in
+    let files : c.as_slice.result.now ≡ files_of line = c.as_slice.ensures.value ∙ c.in-Ok.ensures.files in
+    let P : List NamedFile → Type 0 = λ named. status ≢ Memory → StopsIn reading named status in
+    if-err-through (Closes line 1 reading) c.from_residual.result status (err_from_is_err_and c.from_residual.result c.from_residual.ensures.1)
+    (closes-stopped line 1 reading status (subst P files c.in_err-contents.ensures.stopped))
+
+pub job_of-requires-clause-within : goal.job_of-requires-clause-within
+job_of-requires-clause-within g c =
     let told = g.F.Files.told c.args.files.now in
-    let before = g.F.Files.faults c.args.files.now in
-    let after = g.F.Files.faults c.open_func.new.files in
-    let P : Option Line → Type 0 = λ asked. MatchResult c.open_func.result (λ setup. Opens asked told setup) (λ status. IsCause asked told before after status) in
-    subst P (sym c.in-Ok.ensures.read) c.open_func.ensures.opened
+    let files : c.as_slice.result.now ≡ files_of c.args.line.now = c.as_slice.ensures.value ∙ c.in-Ok.ensures.files in
+    let P : List NamedFile → Type 0 = λ named. AreRead told named c.in_ok-contents.contents.items in
+    read-within told (files_of c.args.line.now) c.in_ok-contents.contents.items (subst P files c.in_ok-contents.ensures.read)
+
+pub returns-clause-closes : goal.returns-clause-closes
+returns-clause-closes g c =
+    let line = c.args.line.now in
+    let told = g.F.Files.told c.args.files.now in
+    let contents = c.in_ok-contents.contents.items in
+    let files : c.as_slice.result.now ≡ files_of line = c.as_slice.ensures.value ∙ c.in-Ok.ensures.files in
+    let P : List NamedFile → Type 0 = λ named. AreRead told named contents in
+    job-closes line 1 (reading_of g.F.Files.told g.F.Files.faults c.args.files.now c.read_files.new.files) contents c.job_of.result (subst P files c.in_ok-contents.ensures.read)
+    (λ none. c.in_ok-contents.ensures.unread (files ∙ none)) c.job_of.ensures.job
+
+pub returns-clause-asks : goal.returns-clause-asks
+returns-clause-asks g c =
+    let line = c.args.line.now in
+    let told = g.F.Files.told c.args.files.now in
+    let contents = c.in_ok-contents.contents.items in
+    let files : c.as_slice.result.now ≡ files_of line = c.as_slice.ensures.value ∙ c.in-Ok.ensures.files in
+    let P : List NamedFile → Type 0 = λ named. AreRead told named contents in
+    job-asks line 1 told contents c.job_of.result (subst P files c.in_ok-contents.ensures.read) c.job_of.ensures.job

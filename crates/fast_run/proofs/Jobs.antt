@@ -1,0 +1,148 @@
+-- From the stages of a job to the job, or to its first refusal.
+use Rattle.std.proofs.Common.{◌≡◌, ◌≢◌, ◌≤◌, ℕ, List, [], ◌∷◌, length, Option, Some, None, Result, Ok, Err, ap, sym, ◌∙◌, subst, arith}
+use Rattle.elf_image.specs.declared.image.Image.{Image as LoadedImage}
+use Rattle.mono_model.specs.declared.params.Params.{Params}
+use Rattle.mono_model.specs.declared.setup.Setup.{Setup}
+use Rattle.mono_model.specs.Setup.{ram_range}
+use Rattle.split_core.specs.declared.event.Event.{Event}
+use Rattle.report_text.specs.declared.status.Status.{Status}
+use Rattle.report_text.specs.declared.status.Status.TheVariants.{Memory}
+use Rattle.fast_cli.specs.declared.line.Options.{Options}
+use Rattle.fast_run.specs.declared.job.Job.{Job}
+use Rattle.fast_run.specs.declared.job.Job.TheVariants.{Func, Run, Sched}
+use Rattle.fast_run.specs.declared.files.NamedFile.{NamedFile}
+use Rattle.fast_run.specs.Files.{input_of, input_under}
+use Rattle.fast_run.specs.Gives.{◌>>=◌, Gives}
+use Rattle.machine_file.specs.File.{params_of}
+use Rattle.gen_image.specs.Soak.{soak_image}
+use Rattle.gen_image.specs.Machine.{soak_machine}
+use Rattle.fast_run.specs.Job.{bytes_at, default_options, func_job, image_in, machine_in, plan_in, run_job, sched_job, setup_for, soak_setup}
+use Rattle.fast_run.specs.Plain.{plain_params}
+use Rattle.fast_run.specs.Reading.{AreWithin}
+
+-- a stage that went well leaves the rest
+pub stage-done : {A B : Type 0} (stage : Result A Status) (value : A) (next : A → Result B Status) → stage ≡ Ok value → (stage >>= next) ≡ next value
+stage-done stage value next done = ap (λ s. s >>= next) done
+
+-- one that was refused refuses the whole
+pub stage-refused : {A B : Type 0} (stage : Result A Status) (status : Status) (next : A → Result B Status) → (status ≢ Memory → stage ≡ Err status) →
+    status ≢ Memory → (stage >>= next) ≡ Err status
+stage-refused stage status next refused other = ap (λ s. s >>= next) (refused other)
+
+module _ (options : Options) (contents : List (List ℕ)) where
+  func-image : LoadedImage → Result Job Status
+  func-image image = Ok (Func (setup_for plain_params options image (bytes_at contents 1)))
+
+  pub func-made : (image : LoadedImage) (input : List ℕ) → image_in (ram_range plain_params) (bytes_at contents 0) ≡ Ok image → input ≡ bytes_at contents 1 →
+      func_job options contents ≡ Ok (Func (setup_for plain_params options image input))
+  unfolding func_job func-image
+  func-made image input loaded same =
+      stage-done (image_in (ram_range plain_params) (bytes_at contents 0)) image func-image loaded
+      ∙ ap (λ bytes. Ok (Func (setup_for plain_params options image bytes))) (sym same)
+
+  pub func-refused : (status : Status) → (status ≢ Memory → image_in (ram_range plain_params) (bytes_at contents 0) ≡ Err status) → status ≢ Memory →
+      func_job options contents ≡ Err status
+  unfolding func_job func-image
+  func-refused status refused = stage-refused (image_in (ram_range plain_params) (bytes_at contents 0)) status func-image refused
+
+  run-image : Params → LoadedImage → Result Job Status
+  run-image params image = Ok (Run (setup_for params options image (bytes_at contents 2)))
+
+  run-machine : Params → Result Job Status
+  unfolding run-image
+  run-machine params = image_in (ram_range params) (bytes_at contents 0) >>= run-image params
+
+  pub run-made : (params : Params) (image : LoadedImage) (input : List ℕ) → machine_in (bytes_at contents 1) ≡ Ok params →
+      image_in (ram_range params) (bytes_at contents 0) ≡ Ok image → input ≡ bytes_at contents 2 → run_job options contents ≡ Ok (Run (setup_for params options image input))
+  unfolding run_job run-machine run-image
+  run-made params image input machine loaded same =
+      stage-done (machine_in (bytes_at contents 1)) params run-machine machine
+      ∙ stage-done (image_in (ram_range params) (bytes_at contents 0)) image (run-image params) loaded
+      ∙ ap (λ bytes. Ok (Run (setup_for params options image bytes))) (sym same)
+
+  pub run-no_machine : (status : Status) → (status ≢ Memory → machine_in (bytes_at contents 1) ≡ Err status) → status ≢ Memory → run_job options contents ≡ Err status
+  unfolding run_job run-machine run-image
+  run-no_machine status refused = stage-refused (machine_in (bytes_at contents 1)) status run-machine refused
+
+  pub run-no_image : (params : Params) (status : Status) → machine_in (bytes_at contents 1) ≡ Ok params →
+      (status ≢ Memory → image_in (ram_range params) (bytes_at contents 0) ≡ Err status) → status ≢ Memory → run_job options contents ≡ Err status
+  unfolding run_job run-machine run-image
+  run-no_image params status machine refused other =
+      stage-done (machine_in (bytes_at contents 1)) params run-machine machine
+      ∙ stage-refused (image_in (ram_range params) (bytes_at contents 0)) status (run-image params) refused other
+
+  sched-plan : Params → LoadedImage → List Event → Result Job Status
+  sched-plan params image events = Ok (Sched (setup_for params options image (bytes_at contents 3)) events)
+
+  sched-image : Params → LoadedImage → Result Job Status
+  unfolding sched-plan
+  sched-image params image = plan_in (bytes_at contents 2) >>= sched-plan params image
+
+  sched-machine : Params → Result Job Status
+  unfolding sched-image
+  sched-machine params = image_in (ram_range params) (bytes_at contents 0) >>= sched-image params
+
+  pub sched-made : (params : Params) (image : LoadedImage) (events : List Event) (input : List ℕ) → machine_in (bytes_at contents 1) ≡ Ok params →
+      image_in (ram_range params) (bytes_at contents 0) ≡ Ok image → plan_in (bytes_at contents 2) ≡ Ok events → input ≡ bytes_at contents 3 →
+      sched_job options contents ≡ Ok (Sched (setup_for params options image input) events)
+  unfolding sched_job sched-machine sched-image sched-plan
+  sched-made params image events input machine loaded planned same =
+      stage-done (machine_in (bytes_at contents 1)) params sched-machine machine
+      ∙ stage-done (image_in (ram_range params) (bytes_at contents 0)) image (sched-image params) loaded
+      ∙ stage-done (plan_in (bytes_at contents 2)) events (sched-plan params image) planned
+      ∙ ap (λ bytes. Ok (Sched (setup_for params options image bytes) events)) (sym same)
+
+  pub sched-no_machine : (status : Status) → (status ≢ Memory → machine_in (bytes_at contents 1) ≡ Err status) → status ≢ Memory → sched_job options contents ≡ Err status
+  unfolding sched_job sched-machine sched-image sched-plan
+  sched-no_machine status refused = stage-refused (machine_in (bytes_at contents 1)) status sched-machine refused
+
+  pub sched-no_image : (params : Params) (status : Status) → machine_in (bytes_at contents 1) ≡ Ok params →
+      (status ≢ Memory → image_in (ram_range params) (bytes_at contents 0) ≡ Err status) → status ≢ Memory → sched_job options contents ≡ Err status
+  unfolding sched_job sched-machine sched-image sched-plan
+  sched-no_image params status machine refused other =
+      stage-done (machine_in (bytes_at contents 1)) params sched-machine machine
+      ∙ stage-refused (image_in (ram_range params) (bytes_at contents 0)) status (sched-image params) refused other
+
+  pub sched-no_plan : (params : Params) (image : LoadedImage) (status : Status) → machine_in (bytes_at contents 1) ≡ Ok params →
+      image_in (ram_range params) (bytes_at contents 0) ≡ Ok image → (status ≢ Memory → plan_in (bytes_at contents 2) ≡ Err status) → status ≢ Memory →
+      sched_job options contents ≡ Err status
+  unfolding sched_job sched-machine sched-image sched-plan
+  sched-no_plan params image status machine loaded refused other =
+      stage-done (machine_in (bytes_at contents 1)) params sched-machine machine
+      ∙ stage-done (image_in (ram_range params) (bytes_at contents 0)) image (sched-image params) loaded
+      ∙ stage-refused (plan_in (bytes_at contents 2)) status (sched-plan params image) refused other
+
+-- the soak program of a seed on its machine
+abbrev soak-run : Setup → Result Job Status
+soak-run setup = Ok (Run setup)
+
+pub soak-made : (seed : ℕ) (params : Params) (options : Options) (image : LoadedImage) (input : List ℕ) → params ≡ params_of soak_machine → options ≡ default_options →
+    image ≡ soak_image seed 16384 → input ≡ [] → soak-run (soak_setup seed) ≡ soak-run (setup_for params options image input)
+unfolding soak_setup
+soak-made seed params options image input machine defaults program none =
+    λ j. soak-run (setup_for (sym machine j) (sym defaults j) (sym program j) (sym none j))
+
+-- what the console reads, behind the other files, is within its limit
+none-within : (name : Option (List ℕ)) (contents : List (List ℕ)) → AreWithin (input_under name) contents → length (bytes_at contents 0) ≤ 16777216
+none-within None [] within = omega arith
+none-within None (bytes ∷ contents) within = absurd within
+none-within (Some name) [] within = absurd within
+none-within (Some name) (bytes ∷ contents) within = within.0
+
+pub input-behind_one : (a : NamedFile) (options : Options) (contents : List (List ℕ)) → AreWithin (a ∷ input_of options) contents → length (bytes_at contents 1) ≤ 16777216
+input-behind_one a options [] within = absurd within
+input-behind_one a options (x ∷ contents) within = none-within options.input contents within.1
+
+pub input-behind_two : (a b : NamedFile) (options : Options) (contents : List (List ℕ)) → AreWithin (a ∷ b ∷ input_of options) contents → length (bytes_at contents 2) ≤ 16777216
+input-behind_two a b options [] within = absurd within
+input-behind_two a b options (x ∷ contents) within = input-behind_one b options contents within.1
+
+pub input-behind_three : (a b c : NamedFile) (options : Options) (contents : List (List ℕ)) → AreWithin (a ∷ b ∷ c ∷ input_of options) contents →
+    length (bytes_at contents 3) ≤ 16777216
+input-behind_three a b c options [] within = absurd within
+input-behind_three a b c options (x ∷ contents) within = input-behind_two b c options contents within.1
+
+-- what is left where a stage was refused
+pub gives-through : {B : Type 0} (wanted result : Result B Status) (status : Status) → (y : Status) × (result ≡ Err y) × (y ≡ status) → (status ≢ Memory → wanted ≡ Err status) →
+    Gives wanted result
+gives-through wanted result status left refused = subst (Gives wanted) (sym (left.1 ∙ ap Err left.2)) refused

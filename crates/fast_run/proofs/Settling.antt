@@ -1,0 +1,80 @@
+-- Where what the files hold is told, the answer is the one that words and files have.
+use Rattle.std.proofs.Common.{◌≡◌, ◌≢◌, ◌⊎◌, inl, inr, ℕ, List, Option, Some, None, Result, Ok, Err, ap, sym, refl, ◌∙◌, subst, arith}
+use Rattle.fsim_ports.specs.Files.{Names}
+use Rattle.report_text.specs.declared.status.Status.{Status}
+use Rattle.report_text.specs.declared.status.Status.TheVariants.{Usage, Memory}
+use Rattle.fast_cli.specs.declared.line.Line.{Line}
+use Rattle.fast_run.specs.declared.job.Job.{Job}
+use Rattle.fast_run.specs.Answer.{Asks, Closes, Ends, IsAnswer, Refused, Reported, Broken, Starved, Stopped, Unopened}
+use Rattle.fast_run.specs.Call.{Reading, Writing, IsQuiet}
+use Rattle.fast_run.specs.Files.{files_of}
+use Rattle.fast_run.specs.Gives.{◌>>=◌}
+use Rattle.fast_run.specs.Job.{job_of}
+use Rattle.fast_run.specs.Outcome.{outcome}
+use Rattle.fast_run.specs.Reading.{AreRead, StopsIn}
+use Rattle.fast_run.specs.Settled.{IsComplete, IsSettled, Settles, asked_job}
+use Rattle.fast_run.proofs.Answers.{memory_or}
+use Rattle.fast_run.proofs.Readings.{told-read, told-stopped}
+
+ok-same : (a b : Job) → ◌≡◌ {A = Result Job Status} (Ok a) (Ok b) → a ≡ b
+ok-same a b same = cc
+
+never-both : {P : Type 0} (job : Job) (status : Status) → ◌≡◌ {A = Result Job Status} (Ok job) (Err status) → P
+never-both job status same = cc
+
+module _ (line : Line) (sets : ℕ) (files : Reading) (names : Names) (told : files.told ≡ Some names) where
+  -- the files were read, and what they hold asks for this
+  asked-contents : (wanted : Result Job Status) → Asks line sets files.told wanted → asked_job (Some line) sets names ≡ wanted
+  asked-contents wanted asks =
+      let P : Option Names → Type 0 = λ t. AreRead t (files_of line) asks.contents in
+      ap (λ (r : Result (List (List ℕ)) Status). r >>= job_of line sets) (told-read names (files_of line) asks.contents (subst P told asks.read)) ∙ asks.same
+
+  -- reading them stopped
+  asked-stopped : (status : Status) → IsQuiet files.faults → StopsIn files (files_of line) status → status ≢ Memory → asked_job (Some line) sets names ≡ Err status
+  asked-stopped status quiet stop other =
+      let P : Option Names → Type 0 = λ t. StopsIn (record { told = t; faults = files.faults }) (files_of line) status in
+      ap (λ (r : Result (List (List ℕ)) Status). r >>= job_of line sets) (told-stopped names (files_of line) files.faults status quiet (subst P told stop) other)
+
+  -- there is no job
+  asked-closed : (status : Status) → IsQuiet files.faults → Closes line sets files status → status ≢ Memory → asked_job (Some line) sets names ≡ Err status
+  asked-closed status quiet (Stopped stop) other = asked-stopped status quiet stop other
+  asked-closed status quiet (Refused refusal) other = asked-contents (Err status) refusal.asks
+  asked-closed status quiet (Starved memory) other = absurd (other memory)
+
+settles-by : (asked wanted : Result Job Status) (status : Status) → asked ≡ wanted → Settles wanted status → Settles asked status
+settles-by asked wanted status same settled = subst (λ (r : Result Job Status). Settles r status) (sym same) settled
+
+job-settles : (job : Job) (sink : Writing) (status : Status) → Ends job sink status → status ≢ Memory → Settles (Ok job) status
+job-settles job sink status (Reported reported) other = inl reported.answer
+job-settles job sink status (Broken broken) other = inr broken.answer
+job-settles job sink status (Unopened starved) other = absurd (other starved.answer)
+
+pub answer-settled : (asked : Option Line) (sets : ℕ) (files : Reading) (sink : Writing) (status : Status) → IsAnswer asked sets files sink status → IsSettled asked sets files status
+answer-settled None sets files sink status (inl usage) names told quiet other = usage.answer
+answer-settled None sets files sink status (inr starved) names told quiet other = absurd (other starved.answer)
+answer-settled (Some line) sets files sink status (inl closed) names told quiet other =
+    settles-by (asked_job (Some line) sets names) (Err status) status (asked-closed line sets files names told status quiet closed.cause other) refl
+answer-settled (Some line) sets files sink status (inr ran) names told quiet other =
+    settles-by (asked_job (Some line) sets names) (Ok ran.job) status (asked-contents line sets files names told (Ok ran.job) ran.asks)
+    (job-settles ran.job sink status ran.ends other)
+
+job-completes : (job : Job) (sink : Writing) (status : Status) → IsQuiet sink.faults → Ends job sink status → (status ≡ (outcome job).status) ⊎ (status ≡ Memory)
+job-completes job sink status quiet (Reported reported) = inl reported.answer
+job-completes job sink status quiet (Broken broken) = absurd (omega (arith, broken.written.rose, quiet.same, quiet.room))
+job-completes job sink status quiet (Unopened starved) = inr starved.answer
+
+closed-completes : (line : Line) (sets : ℕ) (files : Reading) (names : Names) (job : Job) (status : Status) → files.told ≡ Some names → asked_job (Some line) sets names ≡ Ok job →
+    IsQuiet files.faults → Closes line sets files status → (status ≡ (outcome job).status) ⊎ (status ≡ Memory)
+closed-completes line sets files names job status told wanted quiet cause = elim (memory_or status) [
+  | inl memory ↦ inr memory
+  | inr other ↦ never-both job status (sym wanted ∙ asked-closed line sets files names told status quiet cause other)
+]
+
+pub answer-complete : (asked : Option Line) (sets : ℕ) (files : Reading) (sink : Writing) (status : Status) → IsAnswer asked sets files sink status → IsComplete asked sets files sink status
+answer-complete None sets files sink status answer names job told wanted quiet sink_quiet = never-both job Usage (sym wanted)
+answer-complete (Some line) sets files sink status (inl closed) names job told wanted quiet sink_quiet =
+    closed-completes line sets files names job status told wanted quiet closed.cause
+answer-complete (Some line) sets files sink status (inr ran) names job told wanted quiet sink_quiet =
+    let same : ran.job ≡ job = ok-same ran.job job (sym (asked-contents line sets files names told (Ok ran.job) ran.asks) ∙ wanted) in
+    let P : Job → Type 0 = λ j. (status ≡ (outcome j).status) ⊎ (status ≡ Memory) in
+    subst P same (job-completes ran.job sink status sink_quiet ran.ends)

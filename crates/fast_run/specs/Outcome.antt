@@ -1,0 +1,62 @@
+-- What comes of a job: its answer, and the text that is written.
+use Rattle.std.specs.Prelude.{◌≡◌, ℕ, Bool, true, false, List, map}
+use Rattle.mono_model.specs.declared.setup.Setup.{Setup}
+use Rattle.mono_model.specs.declared.final_state.End.{End}
+use Rattle.mono_model.specs.declared.final_state.End.TheVariants as end
+use Rattle.mono_model.specs.Alone.{Alone, alone}
+use Rattle.mono_model.specs.Cycle.{mono}
+use Rattle.mono_model.specs.Report.{text}
+use Rattle.mono_model.specs.Split.{reach}
+use Rattle.split_core.specs.declared.event.Event.{Event}
+use Rattle.split_core.specs.Events.{event_in}
+use Rattle.report_text.specs.declared.status.Status.{Status}
+use Rattle.report_text.specs.declared.status.Status.TheVariants.{Pass, Fail, Limit, OutputFull, Running}
+use Rattle.report_text.specs.FuncText.{func_text}
+use Rattle.fast_run.specs.declared.job.Job.{Job}
+use Rattle.fast_run.specs.declared.job.Job.TheVariants.{Func, Run, Sched}
+
+-- the answer to an end
+abbrev pub status_for : End → Status
+status_for end.Pass = Pass
+status_for (end.Fail code) = Fail code
+status_for end.Limit = Limit
+status_for end.OutputFull = OutputFull
+status_for end.Running = Running
+
+-- the sequential run to its end
+unfoldable pub whole_run : Setup → Alone
+whole_run s = alone s s.cycles
+
+-- the cycle that a plan leads to: at whose start the machine stands after its events and the way to
+-- the next boundary
+unfoldable pub planned_cycle : Setup → List Event → ℕ
+planned_cycle s plan = reach s (map event_in plan)
+
+-- How a job ended. After as many cycles as its limit each run on the machine has ended, and it
+-- stands still from its end on; the cycle that a plan leads to may come before.
+abbrev pub job_end : Job → End
+job_end (Func s) = (whole_run s).end
+job_end (Run s) = (mono s s.cycles).end
+job_end (Sched s plan) = (mono s (planned_cycle s plan)).end
+
+-- what is written of it: its output and its report
+abbrev pub job_text : Job → List ℕ
+job_text (Func s) = func_text s
+job_text (Run s) = text s s.cycles
+job_text (Sched s plan) = text s (planned_cycle s plan)
+
+pub record Outcome : Type 0 where
+  pub status : Status
+  pub text : List ℕ
+
+abbrev pub outcome : Job → Outcome
+outcome job = record { status = status_for (job_end job); text = job_text job }
+
+-- a plan, and nothing else, may lead to a cycle at which the run goes on
+abbrev pub may_go_on : Job → Bool
+may_go_on (Func s) = false
+may_go_on (Run s) = false
+may_go_on (Sched s plan) = true
+
+abbrev pub MayEnd : Job → Type 0
+MayEnd job = job_end job ≡ end.Running → may_go_on job ≡ true

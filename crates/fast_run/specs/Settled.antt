@@ -1,0 +1,39 @@
+-- Where what the files hold is told, the words and the files have one answer.
+use Rattle.std.specs.Prelude.{◌≡◌, ◌≢◌, ℕ, Option, Some, None, Result, Ok, Err, ◌⊎◌}
+use Rattle.fsim_ports.specs.Files.{Names}
+use Rattle.report_text.specs.declared.status.Status.{Status}
+use Rattle.report_text.specs.declared.status.Status.TheVariants.{Usage, WriteFault, Memory}
+use Rattle.fast_cli.specs.declared.line.Line.{Line}
+use Rattle.fast_run.specs.declared.job.Job.{Job}
+use Rattle.fast_run.specs.Files.{files_of}
+use Rattle.fast_run.specs.Gives.{◌>>=◌}
+use Rattle.fast_run.specs.Job.{job_of}
+use Rattle.fast_run.specs.Outcome.{outcome}
+use Rattle.fast_run.specs.Call.{Reading, Writing, IsQuiet}
+use Rattle.fast_run.specs.Reading.{told_contents}
+
+-- what the words ask for, or the first refusal: that they are no line, file by file, and then of
+-- what the files hold
+abbrev pub asked_job : Option Line → ℕ → Names → Result Job Status
+asked_job None sets names = Err Usage
+asked_job (Some line) sets names = do
+  contents ← told_contents names (files_of line)
+  job_of line sets contents
+
+-- the refusal is the answer; a job is answered by its end, or by a fault of the sink
+abbrev pub Settles : Result Job Status → Status → Type 0
+Settles (Err refusal) status = status ≡ refusal
+Settles (Ok job) status = (status ≡ (outcome job).status) ⊎ (status ≡ WriteFault)
+
+-- where no fault of the files was counted and memory was found, words and files settle the answer
+abbrev pub IsSettled : Option Line → ℕ → Reading → Status → Type 0
+IsSettled asked sets files status =
+    (names : Names) → files.told ≡ Some names → IsQuiet files.faults → status ≢ Memory
+    → Settles (asked_job asked sets names) status
+
+-- where nothing is refused and no fault was counted, the answer is that of the job's end, or want
+-- of memory
+abbrev pub IsComplete : Option Line → ℕ → Reading → Writing → Status → Type 0
+IsComplete asked sets files sink status =
+    (names : Names) (job : Job) → files.told ≡ Some names → asked_job asked sets names ≡ Ok job
+    → IsQuiet files.faults → IsQuiet sink.faults → (status ≡ (outcome job).status) ⊎ (status ≡ Memory)
