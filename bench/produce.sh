@@ -8,16 +8,24 @@ millions=${1:-10}
 work=$(mktemp -d)
 trap 'rm -rf "$work"' EXIT
 mkdir -p "$work/crates/entry_speed/src" "$work/crates/entry_speed/specs" "$work/crates/entry_speed/proofs/trace/Trace/has_room"
-while IFS=: read -r crate below; do
-    case $crate in
-    fsim_ports | report_text | machine_file | fast_cli | fast_run | worked_examples | '') continue ;;
-    esac
+# the crates that func_model stands on, and itself
+needed=$(awk -F: '
+    function visit(crate,    below, number, place) {
+        if (!(crate in stands_on) || crate in seen) return
+        seen[crate]
+        print crate
+        number = split(stands_on[crate], below, " ")
+        for (place = 1; place <= number; place++) visit(below[place])
+    }
+    !/^#/ && split($1, words, " ") { stands_on[words[1]] = $2 }
+    END { visit("func_model") }' "$here/crates.txt")
+for crate in $needed; do
     mkdir "$work/crates/$crate"
     for part in src specs proofs; do
         [ -d "$here/crates/$crate/$part" ] && cp -r "$here/crates/$crate/$part" "$work/crates/$crate/"
     done
-    echo "$crate:$below" >>"$work/crates.txt"
-done <"$here/crates.txt"
+    grep "^$crate[: ]" "$here/crates.txt" >>"$work/crates.txt"
+done
 echo 'entry_speed: func_model undo_journal mono_model elf_image device_bus branch_predictor rollback_cmds fsim_base anyhow' >>"$work/crates.txt"
 echo '/out/' >"$work/.gitignore"
 (cd "$work" && git init -q)
