@@ -20,7 +20,7 @@ use Rattle.machine_laws.proofs.SplitArriving.{comes_to_boundary}
 use Rattle.split_core.specs.declared.event.Event.{Event}
 use Rattle.split_core.specs.Events.{event_in}
 use Rattle.fast_run.specs.Outcome.{planned_cycle}
-use Rattle.fast_run.proofs.Setups.{is_setup-steps, is_setup-ring}
+use Rattle.mono_model.proofs.Sound.{setup_facts}
 
 final-end : (s : Setup) (m : Machine) → (machine_final s m).end ≡ m.end
 unfolding machine_final
@@ -56,7 +56,7 @@ at_limit s x output last reached at machine is =
 
 pub has_ended-limit : (s : Setup) (x : Split) → is_setup s ≡ true → IsReached s x → is_boundary x ≡ true → x.place ≡ place s (step_bound s) → x.place.run.demand.machine ≡ mono s s.cycles → has_ended (mono s s.cycles).end ≡ true
 has_ended-limit s x sound reached at last machine =
-    let halts : Halts s = run_halts s (is_setup-steps s sound).0 in
+    let halts : Halts s = run_halts s (setup_facts s sound).some_cycle in
     let here : IsMono s x.place = boundary_mono s x reached at in
     ap (λ (m : Machine). has_ended m.end) (sym machine ∙ here.machine) ∙ here.over ∙ ap is_over (ap (λ (p : Place). p.run.at) last ∙ halts.at)
 
@@ -70,7 +70,7 @@ pub boundary-reached : (s : Setup) (x : Split) → IsReached s x → IsReached s
 boundary-reached s x reached = boundary_reached s (boundary_rounds s) x reached
 
 pub boundary-comes : (s : Setup) (x : Split) → is_setup s ≡ true → IsReached s x → is_boundary (to_boundary s x) ≡ true
-boundary-comes s x sound reached = comes_to_boundary s x (is_setup-ring s sound).0 reached
+boundary-comes s x sound reached = comes_to_boundary s x (setup_facts s sound).some_ring reached
 
 pub at_planned : (s : Setup) (plan : List Event) (output : List ℕ) (last : Final) → IsAt s (reach s (map event_in plan)) output last → IsAt s (planned_cycle s plan) output last
 unfolding planned_cycle

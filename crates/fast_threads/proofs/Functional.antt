@@ -8,7 +8,7 @@ use Rattle.mono_model.specs.declared.setup.Setup.{Setup}
 use Rattle.mono_model.specs.Setup.{is_setup}
 use Rattle.mono_model.specs.Path.{entry}
 use Rattle.mono_model.specs.Demand.{number_of, first, order, entry_in}
-use Rattle.machine_laws.proofs.SplitRanges.{in_range}
+use Rattle.mono_model.proofs.Sound.{setup_facts}
 use Rattle.machine_laws.proofs.NextOrder.{may_obey_next}
 use Rattle.machine_laws.proofs.OrderSteps.{told_named}
 use Rattle.side_laws.proofs.Goes.{along_start, along_produced, along_obeyed, along_end}
@@ -72,7 +72,7 @@ same_follows s last e f m n epoch number is =
 
 module _ {D : Type 0} (end : FuncAt) (side : Walk D) (computed : Option Entry) (is : IsFuncAt end side computed) where
   some_cycles : 1 ≤ end.setup.cycles
-  some_cycles = (in_range end.setup is.sound).some
+  some_cycles = (setup_facts end.setup is.sound).some_cycle
 
   pub func_may_produce : MayProduce side
   func_may_produce = may_produce end.setup is.orders side is.sound is.along
@@ -152,7 +152,7 @@ module _ {D : Type 0} (end : FuncAt) (side : Walk D) (is : IsFuncAt end side Non
       let s = end.setup in
       let made : IsProduced s is.orders side new (Some e) = produced s is.orders is.along.stands in
       let there : Entry = entry s is.orders side.position in
-      let named : HasName s is.orders side.position = told_named s is.orders side.position (in_range s is.sound).some is.along.told in
+      let named : HasName s is.orders side.position = told_named s is.orders side.position (setup_facts s is.sound).some_cycle is.along.told in
       let epoch : e.epoch ≡ side.epoch = ap (λ (x : Entry). x.epoch) made.entry_is ∙ named.epoch ∙ sym is.along.stands.holds.epoch in
       let number : e.number ≡ side.position = ap (λ (x : Entry). x.number) made.entry_is ∙ named.number in
       let P : Entry → Type 0 = λ x. x ≡ entry_in s x.epoch x.number in

@@ -12,7 +12,7 @@ use Rattle.mono_model.specs.Machine.{Machine, stats_of}
 use Rattle.mono_model.specs.Demand.{At, interrupting, committing, completing, issuing, trying, ending, stopping, halted, place, told, next, order, needs_entry, needed_entry}
 use Rattle.mono_model.specs.Split.{told_by, is_halted}
 use Rattle.machine_laws.specs.Telling.{with_order}
-use Rattle.machine_laws.proofs.SplitRanges.{in_range}
+use Rattle.mono_model.proofs.Sound.{setup_facts}
 use Rattle.machine_laws.proofs.Telling.{step_told}
 use Rattle.machine_laws.proofs.Whole.{order_is}
 use Rattle.machine_laws.proofs.OrderSteps.{needed_is}
@@ -83,7 +83,7 @@ module _ (end : TimeAt) (side : TimeState) (e : Entry) (hand : Option Order) (is
       let s = end.setup in
       let p = place s is.steps in
       let needs : needs_entry p ≡ true = (and_parts (needs_entry p) (is_none side.held) (sym (stands_wants s is.steps side is.stands) ∙ wants)).0 in
-      needed_is s is.steps e (in_range s is.sound).some needs named (epoch ∙ is.stands.epoch) number
+      needed_is s is.steps e (setup_facts s is.sound).some_cycle needs named (epoch ∙ is.stands.epoch) number
 
   pub time_right : IsRight e side
   time_right = record { setup = end.setup; sound = is.sound; steps = is.steps; stands = is.stands; needed = time_needs }
@@ -161,7 +161,7 @@ module _ (end : TimeAt) (side new : TimeState) (hand : Option Order) (is_halted 
         steps = suc is.steps;
         stands = it.stands;
         orders = ap (λ (os : List Order). length os) (step_told s is.steps) ∙ one_more o (told p) ∙ ap (λ (n : ℕ). n + in_hand o) orders_pushed;
-        next = in_place s o (length (told p)) end.pushed orders_pushed (order_is s is.steps (in_range s is.sound).some);
+        next = in_place s o (length (told p)) end.pushed orders_pushed (order_is s is.steps (setup_facts s is.sound).some_cycle);
         over = λ halts. cc (is.over halts, on);
       })
 
@@ -211,7 +211,7 @@ module _ (end : TimeAt) (side : TimeState) (hand : Option Order) (is : IsTimeAt 
   pub machine_at_end : (place end.setup is.steps).run.demand.machine ≡ mono end.setup end.setup.cycles
   machine_at_end =
       let p = place end.setup is.steps in
-      halted_machine end.setup is.steps (in_range end.setup is.sound).some (and_parts (is_halted p.run.at) (p.owed == 0) (is.over refl)).0
+      halted_machine end.setup is.steps (setup_facts end.setup is.sound).some_cycle (and_parts (is_halted p.run.at) (p.owed == 0) (is.over refl)).0
 
   pub end_at_end : (result : End) → ((s : Setup) (k : ℕ) → StandsAt s k side → result ≡ (place s k).run.demand.machine.end) → result ≡ (mono end.setup end.setup.cycles).end
   end_at_end result told = told end.setup is.steps is.stands ∙ ap (λ (m : Machine). m.end) machine_at_end

@@ -41,7 +41,6 @@ pub mod OutputRoom
 pub mod Owing
 pub mod Path
 pub mod Places
-pub mod RamAbove
 pub mod Serving
 pub mod SplitAhead
 pub mod SplitArriving

@@ -18,7 +18,8 @@ use Rattle.machine_laws.proofs.Epochs.{entry_of_epoch}
 use Rattle.machine_laws.proofs.Numbering.{orders_at_commit}
 use Rattle.machine_laws.proofs.SplitAhead.{entry_epoch, entry_number, needs_none}
 use Rattle.machine_laws.proofs.SplitBounds.{told_count}
-use Rattle.machine_laws.proofs.SplitRanges.{InRange, in_range}
+use Rattle.mono_model.specs.Sound.{IsSetup}
+use Rattle.mono_model.proofs.Sound.{setup_facts}
 use Rattle.machine_laws.proofs.Staying.{done_told}
 use Rattle.machine_laws.proofs.Telling.{step_told}
 use Rattle.machine_laws.proofs.Whole.{Grows, grows_on, orders_are}
@@ -103,14 +104,14 @@ told_at_commit s os told = subst AreAtCommit told.are (orders_at_commit s told.s
 
 pub told_small : (s : Setup) (os : List Order) → is_setup s ≡ true → AreTold s os → AreSmall s os
 told_small s os sound are =
-    let r : InRange s = in_range s sound in
-    let bounded = run_bounded s are.steps r.some in
+    let r : IsSetup s = setup_facts s sound in
+    let bounded = run_bounded s are.steps r.some_cycle in
     let commits : s.params.core_commit * s.cycles ≤ 8 * 1099511627776 = mul-le-mul r.commit r.cycles in
     let fetches : s.params.core_fetch + 6 ≤ 14 = omega (arith, r.fetch) in
     let steps : s.cycles * (s.params.core_fetch + 6) ≤ 1099511627776 * 14 = mul-le-mul r.cycles fetches in
     record {
       position = omega (arith, ap (λ (l : List Order). last_commit l) are.are, done_told s are.steps, bounded.done, commits, r.window, r.ring);
-      epoch = omega (arith, ap (λ (l : List Order). openings l) are.are, told_count s are.steps r.some, steps);
+      epoch = omega (arith, ap (λ (l : List Order). openings l) are.are, told_count s are.steps r.some_cycle, steps);
     }
 
 pub told_named : (s : Setup) (os : List Order) (n : ℕ) → 1 ≤ s.cycles → AreTold s os → HasName s os n

@@ -26,7 +26,7 @@ use Rattle.mono_model.specs.Cycle.{ticked}
 use Rattle.mono_model.specs.Demand.{Demand, demand_try, At, interrupting, committing, completing, issuing, trying, ending, stopping, halted, Run, turn_at, turn, Place, step_by, step, place}
 use Rattle.machine_laws.specs.Served.{IsServed, AreServed}
 use Rattle.machine_laws.proofs.TimeReads.{time_read_oldest}
-use Rattle.machine_laws.proofs.RamAbove.{ram_above}
+use Rattle.mono_model.proofs.Sound.{setup_facts}
 
 -- interrupt
 interrupt_served : (m : Machine) → AreServed m.window → AreServed (interrupt_phase m).window
@@ -258,4 +258,4 @@ place_served_at s zero above = start_served s
 place_served_at s (suc k) above = step_served s (place s k) above (place_served_at s k above)
 
 pub place_served : (s : Setup) (k : ℕ) → is_setup s ≡ true → AreServed (place s k).run.demand.machine.window
-place_served s k is = place_served_at s k (ram_above s is)
+place_served s k is = place_served_at s k (setup_facts s is).ram

@@ -1,5 +1,6 @@
 pub mod Ranges
 pub mod Setup
+pub mod Sound
 pub mod Arch
 pub mod Found
 pub mod Result

@@ -11,7 +11,7 @@ use Rattle.machine_laws.specs.Output.{IsInRoom}
 use Rattle.machine_laws.specs.NextOrder.{AreSmall, MayObeyNext}
 use Rattle.machine_laws.proofs.NextOrder.{may_obey_next}
 use Rattle.machine_laws.proofs.OrderSteps.{told_at_commit, told_small}
-use Rattle.machine_laws.proofs.SplitRanges.{in_range}
+use Rattle.mono_model.proofs.Sound.{setup_facts}
 use Rattle.func_model.specs.declared.walk.Walk.{Walk}
 use Rattle.func_model.specs.Walk.{Stands, HasRoom, bytes_before}
 use Rattle.func_model.proofs.Outputs.{bytes_before_is}
@@ -48,7 +48,7 @@ never false off on = cc
 
 pub may_obey : {D : Type 0} (s : Setup) (os : List Order) (o : Order) (side : Walk D) → is_setup s ≡ true → IsAlong s os side → order s (length os) ≡ Some o → MayObey o side
 may_obey s os o side sound along is =
-    let next : MayObeyNext s os o = may_obey_next s os o (in_range s sound).some along.told is in
+    let next : MayObeyNext s os o = may_obey_next s os o (setup_facts s sound).some_cycle along.told is in
     let small : AreSmall s os = told_small s os sound along.told in
     let committed : side.committed ≡ last_commit os = along_committed s os side along in
     let running : side.is_stopped ≡ false = along.stands.stopped ∙ next.running in

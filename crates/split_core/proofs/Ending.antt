@@ -19,7 +19,7 @@ use Rattle.machine_laws.proofs.Stopping.{stop_told, halted_last}
 use Rattle.split_core.specs.declared.state.SplitState.{SplitState}
 use Rattle.split_core.specs.Stands.{StandsFor, Leads, IsStanding, IsEnded}
 use Rattle.split_core.proofs.Standing.{Agrees, agrees, after_event, none_is}
-use Rattle.split_core.proofs.Ranges.{setup_ring_some, setup_cycles_some}
+use Rattle.mono_model.proofs.Sound.{setup_facts}
 use Rattle.split_core.proofs.Playing.{after_rounds}
 
 -- An event leaves the timing side at its place, or makes its step.
@@ -188,7 +188,7 @@ module _ {D : Type 0} (passed : ℕ) (old state there : SplitState D) (is : Goin
 
   at_boundary : (s : Setup) (x : Split) (sound : is_setup s ≡ true) (reached : IsReached s x) (h : StandsFor s x old) → is_boundary (arrived s x sound reached h).split ≡ true
   unfolding arrived
-  at_boundary s x sound reached h = let gone : Gone s passed state = is.on s x sound reached h in comes_to_boundary s gone.split (setup_ring_some s sound) gone.reached
+  at_boundary s x sound reached h = let gone : Gone s passed state = is.on s x sound reached h in comes_to_boundary s gone.split (setup_facts s sound).some_ring gone.reached
 
   pub stopped_ends : there.func.is_stopped ≡ true → (s : Setup) (x : Split) → is_setup s ≡ true → IsReached s x → StandsFor s x old → IsEnded s there
   stopped_ends stopped = λ s x sound reached h.
@@ -196,7 +196,7 @@ module _ {D : Type 0} (passed : ℕ) (old state there : SplitState D) (is : Goin
       let at : is_boundary gone.split ≡ true = at_boundary s x sound reached h in
       let here : AtBoundary s gone.split = boundary_is s gone.split gone.reached at in
       let same : Agrees gone.split there = agrees s gone.split there gone.reached gone.stands in
-      ended_at s gone.split there (setup_cycles_some s sound) gone.reached gone.stands at
+      ended_at s gone.split there (setup_facts s sound).some_cycle gone.reached gone.stands at
       (sym (stop_at s gone.stands.behind gone.split.place gone.stands.place) ∙ sym here.stopped ∙ sym same.stopped ∙ stopped)
 
   pub going_on : (new : SplitState D) → there.func.is_stopped ≡ false → Leads (λ s x. event_at s tick x) there new → Going (passed + 1) old new
@@ -224,7 +224,7 @@ module _ {D : Type 0} (passed : ℕ) (old state there : SplitState D) (is : Goin
   pub all_passed_ends : ((s : Setup) (x : Split) → StandsFor s x old → step_bound s ≤ passed) → (s : Setup) (x : Split) → is_setup s ≡ true → IsReached s x → StandsFor s x old → IsEnded s there
   all_passed_ends all = λ s x sound reached h.
       let gone : Gone s passed there = arrived s x sound reached h in
-      let limited : 1 ≤ s.cycles = setup_cycles_some s sound in
+      let limited : 1 ≤ s.cycles = (setup_facts s sound).some_cycle in
       let halts : Halts s = run_halts s limited in
       let least = gone.from.least in
       let most = all s x h in

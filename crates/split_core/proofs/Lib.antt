@@ -1,5 +1,4 @@
 pub mod Standing
-pub mod Ranges
 pub mod Computing
 pub mod Listing
 pub mod Obeying

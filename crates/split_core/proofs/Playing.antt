@@ -8,7 +8,7 @@ use Rattle.mono_model.specs.Split.{Split, event_at, played, round, rounds_to_bou
 use Rattle.machine_laws.specs.Reached.{IsReached}
 use Rattle.machine_laws.proofs.SplitReached.{event_reached, round_reached, boundary_reached}
 use Rattle.machine_laws.proofs.SplitArriving.{comes_to_boundary}
-use Rattle.split_core.proofs.Ranges.{setup_ring_some}
+use Rattle.mono_model.proofs.Sound.{setup_facts}
 use Rattle.split_core.specs.declared.event.Event.{Event}
 use Rattle.split_core.specs.declared.state.SplitState.{SplitState}
 use Rattle.split_core.specs.Events.{event_in}
@@ -163,7 +163,7 @@ at_next_boundary old new st made = record {
     reached = boundary_reached st.setup (boundary_rounds st.setup) st.split st.reached;
     stands = made st.setup st.split st.sound st.reached st.stands;
   };
-  boundary = comes_to_boundary st.setup st.split (setup_ring_some st.setup st.sound) st.reached;
+  boundary = comes_to_boundary st.setup st.split (setup_facts st.setup st.sound).some_ring st.reached;
 }
 
 pub at_the_end : {D : Type 0} (old new : SplitState D) → IsStanding old → ((s : Setup) (x : Split) → is_setup s ≡ true → IsReached s x → StandsFor s x old → IsEnded s new) → IsAtBoundary new

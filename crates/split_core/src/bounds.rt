@@ -6,7 +6,6 @@ ghost use Rattle.mono_model.specs.Split.{boundary_rounds};
 use mono_model::Setup;
 
 /// A boundary is never further than so many rounds.
-#[tactic(auto, using(crate::proofs::Ranges::setup_ring, crate::proofs::Ranges::setup_fetch))]
 pub fn rounds_to_boundary(setup: &Setup) -> u32
     requires sound { is_setup setup.now ≡ true }
     ensures rounds { result ≡ boundary_rounds setup.now }
@@ -15,7 +14,6 @@ pub fn rounds_to_boundary(setup: &Setup) -> u32
 }
 
 /// No run has more steps of the timing side.
-#[tactic(auto, using(crate::proofs::Ranges::setup_cycles, crate::proofs::Ranges::setup_fetch))]
 pub fn most_steps(setup: &Setup) -> u64
     requires sound { is_setup setup.now ≡ true }
     ensures steps { result ≡ step_bound setup.now }

@@ -18,6 +18,7 @@ use Rattle.reorder_buffer.specs.declared.slot.SlotState.TheVariants.{Waiting, Un
 use Rattle.mono_model.specs.declared.final_state.End.TheVariants.{OutputFull}
 use Rattle.mono_model.specs.declared.setup.Setup.{Setup}
 use Rattle.mono_model.specs.Setup.{caches_params}
+use Rattle.mono_model.specs.Sound.{IsSetup}
 use Rattle.mono_model.specs.Found.{is_fence_i}
 use Rattle.mono_model.specs.Demand.{At, interrupting, committing, completing, issuing, trying, ending, stopping, halted, place, needed_entry}
 use Rattle.timing_laws.specs.Slots.{found_in}
@@ -31,7 +32,6 @@ use Rattle.timing_laws.specs.Turn.{timing_turn, timing_tick}
 use Rattle.timing_laws.specs.Step.{TimingPlace, Stepped, timing_place_start, step_by, telling, timing_step}
 use Rattle.timing_laws.specs.Seen.{seen_at}
 use Rattle.timing_laws.proofs.Stepping.{starts, place_step}
-use Rattle.time_model.proofs.Ranges.{AreLimited}
 
 pub record IsBounded (t : Timing) : Type 0 where
   pub retired : t.retired ≤ t.done
@@ -114,11 +114,11 @@ issue_bounded s t is =
     (λ e. record { retired = is.retired; resume = omega arith }) (λ e. record { retired = is.retired; resume = is.resume })
 
 -- the cycles of a miss
-module _ (s : Setup) (limits : AreLimited s) where
+module _ (s : Setup) (facts : IsSetup s) where
   answered_most : (t : Touch) → miss_cycles (caches_params s.params) s.params.icache_miss t ≤ 1000
-  answered_most touch.None = limits.first
-  answered_most touch.Hit = limits.hit
-  answered_most (touch.Miss dropped) = limits.second
+  answered_most touch.None = facts.caches.icache.miss_most
+  answered_most touch.Hit = facts.caches.l2_hit_most
+  answered_most (touch.Miss dropped) = facts.caches.l2.miss_most
 
   followed_most : (addr : ℕ) (t : Touch) (c : CachesState) → (followed (caches_params s.params) s.params.icache_miss addr t c).cycles ≤ 1000
   followed_most addr touch.None c = omega arith

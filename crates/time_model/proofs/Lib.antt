@@ -1,7 +1,6 @@
 pub mod Bool
 pub mod Owing
 pub mod Numbers
-pub mod Ranges
 pub mod Bounded
 pub mod Small
 pub mod Steps

@@ -5,7 +5,7 @@ use Rattle.mono_model.specs.declared.setup.Setup.{Setup}
 use Rattle.mono_model.specs.Setup.{is_setup}
 use Rattle.mono_model.specs.Path.{openings}
 use Rattle.mono_model.specs.Demand.{Place, place, told, step_bound}
-use Rattle.machine_laws.proofs.SplitRanges.{in_range}
+use Rattle.mono_model.proofs.Sound.{setup_facts}
 use Rattle.machine_laws.proofs.SplitBounds.{told_count}
 use Rattle.machine_laws.proofs.Counting.{run_counted}
 use Rattle.machine_laws.proofs.Bounds.{run_bounded}
@@ -13,12 +13,11 @@ use Rattle.machine_laws.proofs.OutputRoom.{output_within}
 use Rattle.machine_laws.proofs.Halting.{run_halts}
 use Rattle.timing_laws.specs.Seen.{seen, seen_at}
 use Rattle.timing_core.specs.Small.{IsSmall}
-use Rattle.time_model.proofs.Ranges.{limited}
 use Rattle.time_model.proofs.Bounded.{IsBounded, seen_bounded}
 
 steps_small : (s : Setup) → is_setup s ≡ true → step_bound s ≤ 2 ^ 44
 steps_small s sound =
-    let r = in_range s sound in
+    let r = setup_facts s sound in
     let fetches : s.params.core_fetch + 6 ≤ 14 = omega (arith, r.fetch) in
     let steps : s.cycles * (s.params.core_fetch + 6) ≤ 1099511627776 * 14 = mul-le-mul r.cycles fetches in
     omega (arith, steps)
@@ -27,12 +26,11 @@ steps_small s sound =
 within_small : (s : Setup) (k : ℕ) → is_setup s ≡ true → k ≤ step_bound s → IsSmall (seen s (place s k).run.demand)
 unfolding seen seen_at
 within_small s k sound within =
-    let r = in_range s sound in
-    let l = limited s sound in
+    let r = setup_facts s sound in
     let steps = steps_small s sound in
     let counted = run_counted s k in
-    let bounded = run_bounded s k r.some in
-    let shown : IsBounded (seen s (place s k).run.demand) = seen_bounded s l k in
+    let bounded = run_bounded s k r.some_cycle in
+    let shown : IsBounded (seen s (place s k).run.demand) = seen_bounded s r k in
     let commits : s.params.core_commit * s.cycles ≤ 8 * 1099511627776 = mul-le-mul r.commit r.cycles in
     let done : (place s k).run.demand.done ≤ 8 * 1099511627776 = omega (arith, bounded.done, commits) in
     let cycle : (place s k).run.demand.machine.cycle ≤ 1099511627776 = omega (arith, bounded.cycle, r.cycles) in
@@ -48,7 +46,7 @@ within_small s k sound within =
       branches = omega (arith, done, counted.branches);
       mispredicted = omega (arith, steps, counted.mispredicted);
       retired = omega (arith, done, shown.retired);
-      output = omega (arith, l.output, output_within s k);
+      output = omega (arith, r.output, output_within s k);
     }
 
 pub place_small : (s : Setup) (k : ℕ) → is_setup s ≡ true → IsSmall (seen s (place s k).run.demand)
@@ -56,7 +54,7 @@ place_small s k sound = by_order (cases_lt k (step_bound s))
   where
     still : step_bound s ≤ k → IsSmall (seen s (place s k).run.demand)
     still more =
-        subst (λ (p : Place). IsSmall (seen s p.run.demand)) (sym ((run_halts s (in_range s sound).some).still k more))
+        subst (λ (p : Place). IsSmall (seen s p.run.demand)) (sym ((run_halts s (setup_facts s sound).some_cycle).still k more))
         (within_small s (step_bound s) sound (omega arith))
 
     by_order : (k < step_bound s) ⊎ (step_bound s ≤ k) → IsSmall (seen s (place s k).run.demand)
@@ -69,4 +67,4 @@ seen_small s k sound = place_small s k sound
 
 -- and so is the epoch
 pub epoch_small : (s : Setup) (k : ℕ) → is_setup s ≡ true → openings (told (place s k)) ≤ 2 ^ 44
-epoch_small s k sound = omega (arith, told_count s k (in_range s sound).some, steps_small s sound)
+epoch_small s k sound = omega (arith, told_count s k (setup_facts s sound).some_cycle, steps_small s sound)

@@ -1,5 +1,4 @@
 pub mod Sums
-pub mod Setups
 pub mod Keeping
 pub mod Phases
 pub mod Leaving

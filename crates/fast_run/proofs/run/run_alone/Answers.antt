@@ -3,15 +3,15 @@ use Rattle.mono_model.specs.Alone.{alone}
 use Rattle.func_model.proofs.Walking.{stands_output}
 use Rattle.fast_run.specs.declared.job.Job.TheVariants.{Func}
 use Rattle.fast_run.specs.Outcome.{whole_run}
-use Rattle.fast_run.proofs.Setups.{is_setup-steps}
+use Rattle.mono_model.proofs.Sound.{setup_facts}
 use Rattle.fast_run.proofs.Ends.{whole_run-ended, whole_run-end, whole_run-text}
 use Rattle.fast_run.proofs.run.run_alone.Goals as goal
 
 pub alone-last-requires-clause-some : goal.alone-last-requires-clause-some
-alone-last-requires-clause-some g c = (is_setup-steps c.args.setup.now c.requires.sound).0
+alone-last-requires-clause-some g c = (setup_facts c.args.setup.now c.requires.sound).some_cycle
 
 pub alone-last-requires-clause-bounded : goal.alone-last-requires-clause-bounded
-alone-last-requires-clause-bounded g c = omega (arith, (is_setup-steps c.args.setup.now c.requires.sound).1)
+alone-last-requires-clause-bounded g c = omega (arith, (setup_facts c.args.setup.now c.requires.sound).cycles)
 
 pub returns-clause-ends : goal.returns-clause-ends
 unfolding whole_run
@@ -19,7 +19,7 @@ returns-clause-ends g c =
     let setup = c.args.setup.now in
     let opened = c.in-Ok.ensures.stands in
     let last = c.alone-last.ensures.reported setup refl opened in
-    c.finish_alone.ensures.ends (Func setup) (λ on. absurd (whole_run-ended setup (omega (arith, (is_setup-steps setup c.requires.sound).0)) on))
+    c.finish_alone.ensures.ends (Func setup) (λ on. absurd (whole_run-ended setup (omega (arith, (setup_facts setup c.requires.sound).some_cycle)) on))
     (whole_run-end setup c.alone-last.result last)
     (whole_run-text setup c.output.result.now c.alone-last.result
     (c.output.ensures.output ∙ stands_output setup (alone setup setup.cycles).arch _ (c.alone-last.ensures.contents setup refl opened)) last)

@@ -4,7 +4,7 @@ use Rattle.mono_model.specs.Final.{has_ended}
 use Rattle.mono_model.specs.Machine.{Machine}
 use Rattle.mono_model.specs.Cycle.{mono, final}
 use Rattle.fast_run.specs.declared.job.Job.TheVariants.{Run}
-use Rattle.fast_run.proofs.Setups.{is_setup-steps}
+use Rattle.mono_model.proofs.Sound.{setup_facts}
 use Rattle.fast_run.proofs.Ending.{IsAt, at-end, at-text, not_running}
 use Rattle.fast_run.proofs.run.run_session.Goals as goal
 
@@ -16,7 +16,7 @@ returns-clause-ends g c =
       written = c.output.ensures.output ∙ ap (λ (u : Setup). (mono u u.cycles).arch.output) same;
       reported = c.result-last.ensures.reported ∙ ap (λ (u : Setup). final u u.cycles) same;
     } in
-    let once = c.run_ends_once.ensures.ends s (is_setup-steps s c.requires.sound).0 in
+    let once = c.run_ends_once.ensures.ends s (setup_facts s c.requires.sound).some_cycle in
     let ended : has_ended (mono s s.cycles).end ≡ true =
     ap (λ (m : Machine). has_ended m.end) (once.still s.cycles once.within) ∙ once.first.ended in
     c.finish_timed.ensures.ends (Run s)

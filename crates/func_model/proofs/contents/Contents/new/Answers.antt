@@ -2,14 +2,15 @@ use Rattle.std.proofs.Common.{arith, ℕ, length, ◌≤◌, ap, sym, ◌∙◌,
 use Rattle.device_bus.specs.Bus.{opening_devices}
 use Rattle.mono_model.specs.Arch.{start}
 use Rattle.func_model.specs.Hart.{arch_of}
-use Rattle.func_model.proofs.Reported.{setup_image, setup_input, setup_output, zeros_at}
+use Rattle.mono_model.proofs.Sound.{setup_facts}
+use Rattle.func_model.proofs.Reported.{zeros_at}
 use Rattle.func_model.proofs.contents.Contents.new.Goals as goal
 
 pub start-requires : goal.start-requires
-start-requires g c = let P : _ → Type 0 = λ xs. length {A = ℕ} xs ≤ 16777216 in subst P (sym c.as_slice.ensures.same) (setup_input c.args.setup.now c.requires.sound)
+start-requires g c = let P : _ → Type 0 = λ xs. length {A = ℕ} xs ≤ 16777216 in subst P (sym c.as_slice.ensures.same) (setup_facts c.args.setup.now c.requires.sound).input
 
 pub new-requires : goal.new-requires
-new-requires g c = setup_image c.args.setup.now c.requires.sound
+new-requires g c = (setup_facts c.args.setup.now c.requires.sound).image
 
 pub returns-clause-opened : goal.returns-clause-opened
 unfolding arch_of start
@@ -28,4 +29,4 @@ returns-clause-opened g c = record {
 }
 
 pub overflow_add-room : goal.overflow_add-room
-overflow_add-room g c = record { fits = omega (arith, setup_output c.args.setup.now c.requires.sound, c.requires.ahead) }
+overflow_add-room g c = record { fits = omega (arith, (setup_facts c.args.setup.now c.requires.sound).output, c.requires.ahead) }

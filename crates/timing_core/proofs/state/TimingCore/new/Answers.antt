@@ -9,17 +9,17 @@ use Rattle.cache_timing.specs.Params as caches
 use Rattle.cache_timing.specs.declared.params.AllCaches.{AllCaches}
 use Rattle.reorder_buffer.specs.Window.{Contents}
 use Rattle.timing_laws.specs.Timing.{timing_start}
-use Rattle.timing_core.proofs.Setups.{window_limit, predictor_in_range, caches_in_range}
+use Rattle.mono_model.proofs.Sound.{setup_facts}
 use Rattle.timing_core.proofs.state.TimingCore.new.Goals as goal
 
 pub new-requires : goal.new-requires
-new-requires c = record { limit = window_limit c.args.setup.now c.requires.sound }
+new-requires c = record { limit = (setup_facts c.args.setup.now c.requires.sound).window }
 
 pub new-requires-2 : goal.new-requires-2
-new-requires-2 c = record { in_range = subst predictor.IsInRange (sym c.predictor_params.ensures.sizes) (predictor_in_range c.args.setup.now c.requires.sound) }
+new-requires-2 c = record { in_range = subst predictor.IsInRange (sym c.predictor_params.ensures.sizes) (setup_facts c.args.setup.now c.requires.sound).predictor }
 
 pub new-requires-3 : goal.new-requires-3
-new-requires-3 c = record { in_range = subst caches.AreInRange (sym c.caches_params.ensures.sizes) (caches_in_range c.args.setup.now c.requires.sound) }
+new-requires-3 c = record { in_range = subst caches.AreInRange (sym c.caches_params.ensures.sizes) (setup_facts c.args.setup.now c.requires.sound).caches }
 
 pub returns : goal.returns
 unfolding timing_start
