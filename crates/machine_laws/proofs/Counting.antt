@@ -22,8 +22,9 @@ use Rattle.mono_model.specs.Complete.{completes, completed_by, complete_phase}
 use Rattle.mono_model.specs.Issue.{none_used, wants_time, replayed, issued, issue_phase}
 use Rattle.mono_model.specs.Fetch.{Try, misses, appends, turns, cache_read, missed, appended, new_record, predicted_next, tried, fetch_try}
 use Rattle.mono_model.specs.Cycle.{ticked}
-use Rattle.mono_model.specs.Demand.{Demand, At, interrupting, committing, completing, issuing, trying, ending, stopping, halted, Run, tried_turn, turn_at, turn, step_by, step, place}
+use Rattle.mono_model.specs.Demand.{Demand, At, interrupting, committing, completing, issuing, trying, ending, stopping, halted, tried_turn, turn_at, turn, place}
 use Rattle.machine_laws.specs.Counts.{AreCounted}
+use Rattle.machine_laws.proofs.Always.{at_each_turn}
 use Rattle.machine_laws.proofs.Phases.{completes_from, walk_length}
 
 -- From a machine to another one, with so many records gone and so many steps made.
@@ -262,12 +263,10 @@ turn_counted s k ending d are = counted_on k 0 d (turn_at s ending d).demand (om
 turn_counted s k stopping d are = counted_on k 0 d (turn_at s stopping d).demand (omega arith) (same_counts d.machine d.machine 1 refl refl) are
 turn_counted s k halted d are = counted_on k 0 d d (omega arith) (same_counts d.machine d.machine 1 refl refl) are
 
-step_counted : (s : Setup) (k owed : ℕ) (r : Run) → AreCounted k r.demand → AreCounted (suc k) (step_by s owed r).run.demand
-unfolding turn
-step_counted s k zero r are = turn_counted s k r.at r.demand are
-step_counted s k (suc owed) r are = counted_on k 0 r.demand r.demand (omega arith) (same_counts r.demand.machine r.demand.machine 1 refl refl) are
-
 pub run_counted : (s : Setup) (k : ℕ) → AreCounted k (place s k).run.demand
-unfolding place step machine_start
-run_counted s zero = record { records = refl; fetched = omega arith; interrupts = omega arith; replays = omega arith; mispredicted = omega arith; exceptions = omega arith; branches = omega arith }
-run_counted s (suc k) = step_counted s k (place s k).owed (place s k).run (run_counted s k)
+unfolding turn machine_start
+run_counted s =
+    at_each_turn s (λ k r owed. AreCounted k r.demand)
+    (record { records = refl; fetched = omega arith; interrupts = omega arith; replays = omega arith; mispredicted = omega arith; exceptions = omega arith; branches = omega arith })
+    (λ k r are. turn_counted s k r.at r.demand are)
+    (λ k owed r are. counted_on k 0 r.demand r.demand (omega arith) (same_counts r.demand.machine r.demand.machine 1 refl refl) are)

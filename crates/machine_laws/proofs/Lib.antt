@@ -1,4 +1,4 @@
-mod Always
+pub mod Always
 mod DemandRun
 mod Epochs
 mod FirstEnd

@@ -3,6 +3,7 @@ use Rattle.std.proofs.Common.{◌≡◌, ℕ, zero, suc, ◌+◌, ◌-◌, ◌�
 use Rattle.mono_model.specs.declared.setup.Setup.{Setup}
 use Rattle.mono_model.specs.Demand.{Demand, At, interrupting, committing, completing, issuing, trying, ending, stopping, halted, run_at, turn, Place, step, place, place-suc, step_bound}
 use Rattle.mono_model.specs.Split.{is_halted}
+use Rattle.machine_laws.proofs.Always.{at_each_place}
 use Rattle.machine_laws.proofs.Halting.{run_halts}
 use Rattle.machine_laws.proofs.SplitSteps.{Owes, owes_none, owes_one, step_stepped}
 
@@ -27,7 +28,7 @@ still_step s p over all =
     let none : length d.orders - length d.orders - 1 ≡ 0 = omega arith in
     ap (step s) here ∙ ap (place_with d halted) none ∙ sym here
 
-halted_owes : (p : Place) → is_halted p.run.at ≡ true → Owes p → p.owed ≡ 0
+pub halted_owes : (p : Place) → is_halted p.run.at ≡ true → Owes p → p.owed ≡ 0
 halted_owes p over (owes_none all) = all
 halted_owes p over (owes_one all m o os is opening on) = cc
 
@@ -39,9 +40,7 @@ step_owes s p owes = by_test (is_halted p.run.at) refl
     by_test false on = (step_stepped s p on owes).owes
 
 pub place_owes : (s : Setup) (k : ℕ) → Owes (place s k)
-unfolding place
-place_owes s zero = owes_none refl
-place_owes s (suc k) = step_owes s (place s k) (place_owes s k)
+place_owes s = at_each_place s (λ k p. Unit {0}) (λ k p. Owes p) (λ k. tt) (owes_none refl) (λ k p here there owes. step_owes s p owes)
 
 -- where it has halted all is told
 pub halted_told : (s : Setup) (k : ℕ) → is_halted (place s k).run.at ≡ true → (place s k).owed ≡ 0

@@ -1,14 +1,15 @@
 -- The relation at every place of the demand run.
-use Rattle.std.proofs.Common.{◌≡◌, ℕ, zero, suc, ◌∷◌, refl, ap, sym, ◌∙◌, subst}
+use Rattle.std.proofs.Common.{◌≡◌, ℕ, ◌∷◌, refl, ap, sym, ◌∙◌, subst}
 use Rattle.rollback_cmds.specs.declared.order.Order.TheVariants.{Stop}
 use Rattle.mono_model.specs.declared.setup.Setup.{Setup}
 use Rattle.mono_model.specs.Arch.{Arch, start}
 use Rattle.mono_model.specs.Path.{time_of}
 use Rattle.mono_model.specs.Machine.{machine_start}
 use Rattle.mono_model.specs.Cycle.{ticked}
-use Rattle.mono_model.specs.Demand.{Demand, At, interrupting, committing, completing, issuing, trying, ending, stopping, halted, Run, run_start, turn_at, turn, Place, step_by, step, place}
+use Rattle.mono_model.specs.Demand.{Demand, At, interrupting, committing, completing, issuing, trying, ending, stopping, halted, run_start, turn_at, place}
 use Rattle.machine_laws.specs.Relation.{Related, Tracks}
 use Rattle.mono_model.proofs.Path.{path_first, path_stop}
+use Rattle.machine_laws.proofs.Always.{always}
 use Rattle.machine_laws.proofs.Interrupt.{interrupt_related}
 use Rattle.machine_laws.proofs.Commit.{commit_phase_related}
 use Rattle.machine_laws.proofs.Complete.{complete_related}
@@ -45,30 +46,16 @@ stopped_related s d related =
     }
 
 -- each turn keeps it
-pub turn_related : (s : Setup) (r : Run) → Related s r.demand → Related s (turn s r).demand
-unfolding turn
-turn_related s r related = by_at r.at
-  where
-    by_at : (at : At) → Related s (turn_at s at r.demand).demand
-    by_at interrupting = interrupt_related s r.demand related
-    by_at committing = commit_phase_related s r.demand related
-    by_at completing = complete_related s r.demand related
-    by_at issuing = issue_related s r.demand related
-    by_at (trying more) = fetch_related s r.demand related
-    by_at ending = ticked_related s r.demand related
-    by_at stopping = stopped_related s r.demand related
-    by_at halted = related
-
-step_by_related : (s : Setup) (owed : ℕ) (r : Run) → Related s r.demand → Related s (step_by s owed r).run.demand
-step_by_related s zero r related = turn_related s r related
-step_by_related s (suc owed) r related = related
-
-step_related : (s : Setup) (p : Place) → Related s p.run.demand → Related s (step s p).run.demand
-unfolding step
-step_related s p related = step_by_related s p.owed p.run related
+turn_related : (s : Setup) (at : At) (d : Demand) → Related s d → Related s (turn_at s at d).demand
+turn_related s interrupting d related = interrupt_related s d related
+turn_related s committing d related = commit_phase_related s d related
+turn_related s completing d related = complete_related s d related
+turn_related s issuing d related = issue_related s d related
+turn_related s (trying more) d related = fetch_related s d related
+turn_related s ending d related = ticked_related s d related
+turn_related s stopping d related = stopped_related s d related
+turn_related s halted d related = related
 
 -- and so it holds at every place
 pub place_related : (s : Setup) (k : ℕ) → Related s (place s k).run.demand
-unfolding place
-place_related s zero = start_related s
-place_related s (suc k) = step_related s (place s k) (place_related s k)
+place_related s = always s (λ at d. Related s d) (start_related s) (turn_related s)

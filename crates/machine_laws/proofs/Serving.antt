@@ -23,8 +23,9 @@ use Rattle.mono_model.specs.Complete.{Completed, due, is_mispredicted, in_front,
 use Rattle.mono_model.specs.Issue.{Used, none_used, has_unit, is_oldest, class_allows, is_past_front, seen_from, result_with, ready_result, cached, Turned, unchanged, begun, begun_if, turn_of, walk, wants_time, wants_time_result, wants_time_first, replayed, issued, issue_phase}
 use Rattle.mono_model.specs.Fetch.{misses, appends, turns, missed, appended, new_record, predicted_next, cache_read, fetch_try}
 use Rattle.mono_model.specs.Cycle.{ticked}
-use Rattle.mono_model.specs.Demand.{Demand, demand_try, At, interrupting, committing, completing, issuing, trying, ending, stopping, halted, Run, turn_at, turn, Place, step_by, step, place}
+use Rattle.mono_model.specs.Demand.{Demand, demand_try, At, interrupting, committing, completing, issuing, trying, ending, stopping, halted, turn_at, place}
 use Rattle.machine_laws.specs.Served.{IsServed, AreServed}
+use Rattle.machine_laws.proofs.Always.{always}
 use Rattle.machine_laws.proofs.TimeReads.{time_read_oldest}
 use Rattle.mono_model.proofs.Sound.{setup_facts}
 
@@ -229,33 +230,16 @@ start_served : (s : Setup) → AreServed (machine_start s).window
 unfolding machine_start
 start_served s = tt
 
-turn_served_at : (s : Setup) (r : Run) → 0x20000000 ≤ (ram_range s.params).base → AreServed r.demand.machine.window → AreServed (turn s r).demand.machine.window
-unfolding turn
-turn_served_at s r above served = by_at r.at
-  where
-    by_at : (at : At) → AreServed (turn_at s at r.demand).demand.machine.window
-    by_at interrupting = interrupt_served r.demand.machine served
-    by_at committing = commit_served s r.demand.machine served
-    by_at completing = complete_served r.demand.machine served
-    by_at issuing = issue_served s r.demand.machine above served
-    by_at (trying more) = fetch_served s r.demand served
-    by_at ending = ticked_served s r.demand.machine served
-    by_at stopping = served
-    by_at halted = served
-
-step_by_served : (s : Setup) (owed : ℕ) (r : Run) → 0x20000000 ≤ (ram_range s.params).base → AreServed r.demand.machine.window → AreServed (step_by s owed r).run.demand.machine.window
-step_by_served s zero r above served = turn_served_at s r above served
-step_by_served s (suc owed) r above served = served
-
-step_served : (s : Setup) (p : Place) → 0x20000000 ≤ (ram_range s.params).base → AreServed p.run.demand.machine.window → AreServed (step s p).run.demand.machine.window
-unfolding step
-step_served s p above served = step_by_served s p.owed p.run above served
+turn_served_at : (s : Setup) → 0x20000000 ≤ (ram_range s.params).base → (at : At) (d : Demand) → AreServed d.machine.window → AreServed (turn_at s at d).demand.machine.window
+turn_served_at s above interrupting d served = interrupt_served d.machine served
+turn_served_at s above committing d served = commit_served s d.machine served
+turn_served_at s above completing d served = complete_served d.machine served
+turn_served_at s above issuing d served = issue_served s d.machine above served
+turn_served_at s above (trying more) d served = fetch_served s d served
+turn_served_at s above ending d served = ticked_served s d.machine served
+turn_served_at s above stopping d served = served
+turn_served_at s above halted d served = served
 
 -- at every place
-place_served_at : (s : Setup) (k : ℕ) → 0x20000000 ≤ (ram_range s.params).base → AreServed (place s k).run.demand.machine.window
-unfolding place
-place_served_at s zero above = start_served s
-place_served_at s (suc k) above = step_served s (place s k) above (place_served_at s k above)
-
 pub place_served : (s : Setup) (k : ℕ) → is_setup s ≡ true → AreServed (place s k).run.demand.machine.window
-place_served s k is = place_served_at s k (setup_facts s is).ram
+place_served s k is = always s (λ at d. AreServed d.machine.window) (start_served s) (turn_served_at s (setup_facts s is).ram) k

@@ -9,6 +9,7 @@ use Rattle.mono_model.specs.Cycle.{ticked}
 use Rattle.mono_model.specs.Fetch.{Try, misses, appends, turns, may_fetch, fetch_try}
 use Rattle.mono_model.specs.Demand.{Demand, ending_orders, commit_order, demand_commit, demand_issue, demand_try, At, interrupting, committing, completing, issuing, trying, ending, stopping, halted, try_or_end, at_after_commit, Run, tried_turn, turn_at, turn, Place, step_by, step, place}
 use Rattle.mono_model.specs.Split.{is_cycle_start, is_place_boundary}
+use Rattle.machine_laws.proofs.Always.{owed_behind, at_each_turn}
 use Rattle.machine_laws.proofs.Reaching.{interrupt_count, left_count, redirect_count, time_count, try_count}
 
 -- at most so many turns to the next start of a cycle, with one more for a second order of commit
@@ -79,13 +80,12 @@ start_left s ending d on = cc
 start_left s stopping d on = omega arith
 start_left s halted d on = omega arith
 
-by_start : (s : Setup) (owed : ℕ) (r : Run) → (b : Bool) → (owed == 0 && is_cycle_start r.at) ≡ b → owed + left_at s r.at ≤ s.params.core_fetch + 5 → steps_left s (step_by s owed r) ≤ s.params.core_fetch + 5
+turn_most : (s : Setup) (r : Run) (b : Bool) → is_cycle_start r.at ≡ b → left_at s r.at ≤ s.params.core_fetch + 5 → owed_behind s r + left_at s (turn s r).at ≤ s.params.core_fetch + 5
 unfolding turn
-by_start s owed r false on most = omega (arith, by_owed s owed r on)
-by_start s zero r true on most = start_left s r.at r.demand on
-by_start s (suc owed) r true on most = omega arith
+turn_most s r true on most = start_left s r.at r.demand on
+turn_most s r false on most = omega (arith, turn_left s r.at r.demand on)
 
 pub place_left : (s : Setup) (k : ℕ) → steps_left s (place s k) ≤ s.params.core_fetch + 5
-unfolding place step
-place_left s zero = omega arith
-place_left s (suc k) = by_start s (place s k).owed (place s k).run (is_place_boundary (place s k)) refl (place_left s k)
+place_left s =
+    at_each_turn s (λ k r owed. owed + left_at s r.at ≤ s.params.core_fetch + 5) (omega arith)
+    (λ k r most. turn_most s r (is_cycle_start r.at) refl (omega (arith, most))) (λ k owed r most. omega arith)

@@ -1,5 +1,5 @@
 -- How far the split state's numbers go in a run that is allowed.
-use Rattle.std.proofs.Common.{◌≡◌, ℕ, ◌+◌, ◌*◌, ◌≤◌, true, List, arith, mul-le-mul}
+use Rattle.std.proofs.Common.{◌≡◌, ◌+◌, ◌*◌, ◌≤◌, true, List, arith, mul-le-mul}
 use Rattle.mono_model.specs.Setup.{is_setup}
 use Rattle.mono_model.specs.declared.setup.Setup.{Setup}
 use Rattle.mono_model.specs.Split.{Split, Event, run}

@@ -13,6 +13,7 @@ use Rattle.mono_model.specs.Demand.{Demand, ending_orders, commit_order, demand_
 use Rattle.machine_laws.specs.Numbers.{last_commit}
 use Rattle.machine_laws.specs.Stays.{with_interrupts, StaysBelow, StaysAt}
 use Rattle.mono_model.proofs.Path.{path_below, path_at_interrupt, path_at_time}
+use Rattle.machine_laws.proofs.Always.{at_each_turn}
 use Rattle.machine_laws.proofs.Making.{IsLater, AreLater, turn_made}
 use Rattle.machine_laws.proofs.Numbering.{done_is}
 use Rattle.machine_laws.proofs.Reaching.{interrupt_count, left_count, redirect_count, time_count, try_count}
@@ -232,15 +233,11 @@ turn_first s halted d = first_of_one d.done d.orders d.orders (omega arith)
 abbrev OwedFrom : Place → Type 0
 OwedFrom p = FirstFrom p.run.demand.done p.owed p.run.demand.orders
 
-step_owed : (s : Setup) (owed : ℕ) (r : Run) → FirstFrom r.demand.done owed r.demand.orders → OwedFrom (step_by s owed r)
-unfolding turn
-step_owed s zero r from = turn_first s r.at r.demand
-step_owed s (suc owed) r from = one_fewer r.demand.done owed r.demand.orders from
-
 place_owed : (s : Setup) (k : ℕ) → OwedFrom (place s k)
-unfolding place step
-place_owed s zero = tt
-place_owed s (suc k) = step_owed s (place s k).owed (place s k).run (place_owed s k)
+unfolding turn
+place_owed s =
+    at_each_turn s (λ k r owed. FirstFrom r.demand.done owed r.demand.orders) tt (λ k r from. turn_first s r.at r.demand)
+    (λ k owed r from. one_fewer r.demand.done owed r.demand.orders from)
 
 -- the path below what is committed is the same with them and without
 below_owed : (s : Setup) (n k : ℕ) (os : List Order) → FirstFrom n k os → (i : ℕ) → i < n → path s os i ≡ path s (drop k os) i

@@ -7,7 +7,7 @@ use Rattle.mono_model.specs.Demand.{next, Run, turn_at, turn, step_by, step, pla
 use Rattle.mono_model.specs.Split.{newest, told_by}
 use Rattle.machine_laws.specs.Telling.{with_order, OpensAt}
 use Rattle.machine_laws.proofs.Making.{AllOpenAt, turn_made}
-use Rattle.machine_laws.proofs.Staying.{onto}
+use Rattle.machine_laws.proofs.Always.{owed_behind, at_each_turn, owed_within}
 
 -- one more order, which opens an epoch at this number, if it opens one but Stop
 record OneMore (n : ℕ) (os behind : List Order) : Type 0 where
@@ -73,20 +73,19 @@ turn_tells n (x ∷ made) os behind opens is k e =
 abbrev OwedOpenAt : Place → Type 0
 OwedOpenAt p = FirstOpenAt (next p.run.demand) p.owed p.run.demand.orders
 
-step_owed : (s : Setup) (owed : ℕ) (r : Run) → FirstOpenAt (next r.demand) owed r.demand.orders → OwedOpenAt (step_by s owed r)
+turn_owed : (s : Setup) (r : Run) → FirstOpenAt (next (turn s r).demand) (owed_behind s r) (turn s r).demand.orders
 unfolding turn
-step_owed s zero r opens =
+turn_owed s r =
     let behind = (turn_at s r.at r.demand).demand in
     let made = turn_made s r.at r.demand in
     let owed = length behind.orders - length r.demand.orders - 1 in
     subst (λ (os : List Order). FirstOpenAt (next behind) owed os) (sym made.orders)
     (first_made (next behind) owed made.made r.demand.orders made.opens (omega (arith, ap (λ (os : List Order). length os) made.orders, length-append made.made r.demand.orders)))
-step_owed s (suc owed) r opens = one_fewer (next r.demand) owed r.demand.orders opens
 
 place_owed : (s : Setup) (k : ℕ) → OwedOpenAt (place s k)
-unfolding place step
-place_owed s zero = tt
-place_owed s (suc k) = step_owed s (place s k).owed (place s k).run (place_owed s k)
+place_owed s =
+    at_each_turn s (λ k r owed. FirstOpenAt (next r.demand) owed r.demand.orders) tt (λ k r opens. turn_owed s r)
+    (λ k owed r opens. one_fewer (next r.demand) owed r.demand.orders opens)
 
 step_tells : (s : Setup) (owed : ℕ) (r : Run) → FirstOpenAt (next r.demand) owed r.demand.orders → owed ≤ length r.demand.orders → TellsOne (record { run = r; owed = owed }) (step_by s owed r)
 unfolding turn
@@ -95,12 +94,6 @@ step_tells s zero r opens within =
     let made = turn_made s r.at r.demand in
     turn_tells (next behind) made.made r.demand.orders behind.orders made.opens made.orders (length behind.orders - length r.demand.orders - 1) refl
 step_tells s (suc owed) r opens within = inr (oldest_of (next r.demand) owed r.demand.orders opens within)
-
-owed_within : (s : Setup) (k : ℕ) → (place s k).owed ≤ length (place s k).run.demand.orders
-unfolding place
-owed_within s k =
-    let o = onto s 0 k (omega arith) in
-    omega (arith, o.owed, ap (λ (os : List Order). length os) o.orders, length-append o.later (place s 0).run.demand.orders)
 
 place_tells : (s : Setup) (k : ℕ) → TellsOne (place s k) (place s (suc k))
 unfolding place step

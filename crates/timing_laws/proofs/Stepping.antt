@@ -10,6 +10,7 @@ use Rattle.mono_model.specs.Machine.{machine_start, stats_of}
 use Rattle.mono_model.specs.Demand.{At, interrupting, committing, completing, issuing, trying, ending, stopping, halted, is_try, next, Run, turn, Place, place_start, moved, step_by, step, place, told, needs_entry, needed_entry}
 use Rattle.mono_model.specs.Split.{told_by}
 use Rattle.machine_laws.specs.Relation.{Related}
+use Rattle.machine_laws.proofs.Always.{owed_within}
 use Rattle.machine_laws.proofs.Places.{place_related}
 use Rattle.machine_laws.proofs.Telling.{by_none, by_one}
 use Rattle.timing_laws.specs.Timing.{Timing, timing_start, timing_stats}
@@ -113,21 +114,11 @@ step_seen s (suc owed) r e within entry_is related = owing r.demand.orders withi
     owing [] within is = absurd (omega arith)
     owing (o ∷ os) within is = is
 
--- no more orders are owed than were made
-step_owes : (s : Setup) (owed : ℕ) (r : Run) → owed ≤ length r.demand.orders → (step_by s owed r).owed ≤ length (step_by s owed r).run.demand.orders
-step_owes s zero r within = omega arith
-step_owes s (suc owed) r within = omega arith
-
-owes : (s : Setup) (k : ℕ) → (place s k).owed ≤ length (place s k).run.demand.orders
-unfolding place step
-owes s zero = omega arith
-owes s (suc k) = step_owes s (place s k).owed (place s k).run (owes s k)
-
 pub place_step : (s : Setup) (k : ℕ) →
     timing_step s (needed_entry s (place s k)) (seen_at s (place s k)) ≡ record { place = seen_at s (place s (suc k)); told = told_by (place s k) (place s (suc k)) }
 unfolding place step timing_step seen_at
 place_step s k =
-    step_seen s (place s k).owed (place s k).run (needed_entry s (place s k)) (owes s k) (λ is. refl) (place_related s k)
+    step_seen s (place s k).owed (place s k).run (needed_entry s (place s k)) (owed_within s k) (λ is. refl) (place_related s k)
 
 -- the entry that is needed has the address where fetch stands
 pub place_stands : (s : Setup) (k : ℕ) → (needed_entry s (place s k)).addr ≡ (place s k).run.demand.machine.fetch_addr
@@ -142,7 +133,7 @@ wanted_by (suc owed) (o ∷ os) at within =
 
 pub place_wants : (s : Setup) (k : ℕ) → wants_entry (seen_at s (place s k)) ≡ needs_entry (place s k)
 unfolding seen_at
-place_wants s k = wanted_by (place s k).owed (place s k).run.demand.orders (place s k).run.at (owes s k)
+place_wants s k = wanted_by (place s k).owed (place s k).run.demand.orders (place s k).run.at (owed_within s k)
 
 -- and else it is the same for every entry
 turn_free : (s : Setup) (e f : Entry) (at : At) (t : Timing) → is_try at ≡ false → timing_turn s e at t ≡ timing_turn s f at t
