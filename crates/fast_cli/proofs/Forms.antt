@@ -13,6 +13,9 @@ use Rattle.clap.specs.declared.error.kind.ErrorKind.TheVariants.{MissingRequired
 use Rattle.fast_cli.specs.Words.{◌>>=◌, Form, Text, Values, has_names, rest_names, values_in}
 use Rattle.fast_cli.specs.Command.{ReadsAs, accepted, command_by, parsed, values_among}
 use Rattle.fast_cli.specs.Line.{back_form, func_form, inorder_form, plan_form, run_form, sched_form, soak_form, sweep_form}
+use Rattle.fast_cli.specs.Table.{command_in}
+use Rattle.fast_cli.specs.declared.table.Name.{Name}
+use Rattle.fast_cli.specs.declared.table.Name.TheVariants as names
 use Rattle.fast_cli.proofs.Rows.{AreGiven, is_given-values}
 use Rattle.fast_cli.proofs.Uses.{AreRulesOf, NoDefaults, built_shape, option_arg, rest_arg}
 use Rattle.fast_cli.proofs.Walks.{IfGiven, outcome}
@@ -199,11 +202,11 @@ reads-free form free builds same_words rules = record {
       ∙ parsed-form form (rules_of form) rules words text;
 }
 
-pub func_reads : ReadsAs func_form
+func_reads : ReadsAs func_form
 unfolding clap_on_literals
 func_reads = reads-free func_form refl refl (λ words. refl) func_rules
 
-pub run_reads : ReadsAs run_form
+run_reads : ReadsAs run_form
 unfolding clap_on_literals
 run_reads = reads-free run_form refl refl (λ words. refl) run_rules
 
@@ -211,20 +214,29 @@ plan_reads : (word : Text) → ReadsAs (plan_form word)
 unfolding clap_on_literals
 plan_reads word = reads-free (plan_form word) refl refl (λ words. refl) (plan_rules word)
 
-pub sched_reads : ReadsAs sched_form
+sched_reads : ReadsAs sched_form
 sched_reads = plan_reads (codes "sched")
 
-pub inorder_reads : ReadsAs inorder_form
+inorder_reads : ReadsAs inorder_form
 inorder_reads = plan_reads (codes "inorder")
 
-pub soak_reads : ReadsAs soak_form
+soak_reads : ReadsAs soak_form
 unfolding clap_on_literals
 soak_reads = reads-free soak_form refl refl (λ words. refl) soak_rules
 
-pub back_reads : ReadsAs back_form
+back_reads : ReadsAs back_form
 unfolding clap_on_literals
 back_reads = reads-free back_form refl refl (λ words. refl) back_rules
 
-pub sweep_reads : ReadsAs sweep_form
+sweep_reads : ReadsAs sweep_form
 unfolding clap_on_literals
 sweep_reads = reads-free sweep_form refl refl (λ words. refl) sweep_rules
+
+pub command_reads : (name : Name) → ReadsAs (command_in name).form
+command_reads names.Func = func_reads
+command_reads names.Run = run_reads
+command_reads names.Sched = sched_reads
+command_reads names.Soak = soak_reads
+command_reads names.Back = back_reads
+command_reads names.Inorder = inorder_reads
+command_reads names.Sweep = sweep_reads

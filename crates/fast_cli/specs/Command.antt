@@ -21,8 +21,8 @@ names_rule name = record (new_rule name) { required = true; action = Some Append
 abbrev pub option_rule : Text → Rule
 option_rule name = record (new_rule name) { long = Some name }
 
--- a command with these names, in this order, and these options; `--help` and `--version` are none, and the first of
--- its words isn't the program's name
+-- a command with these names, in this order, and these options; `--help` and `--version` are none,
+-- and the first of its words isn't the program's name
 abbrev pub command_of : Text → List Text → List Text → App
 command_of word names options = record {
   top = record (new_shape word) {
@@ -60,4 +60,5 @@ parsed command words = accepted (fault_of command words) (values_among (matches_
 -- clap takes commands of the form, and gives what the words give by it
 pub record ReadsAs (form : Form) : Type 0 where
   pub is_read : is_simple_and_free (command_by form) ≡ true
-  pub gives : (words : List Text) → AreText words → parsed (command_by form) words ≡ values_in form words
+  pub gives : (words : List Text) → AreText words
+      → parsed (command_by form) words ≡ values_in form words

@@ -14,4 +14,5 @@ before_first byte (word ∷ words) = (byte ∷ word) ∷ words
 -- the words of a text, which is cut at each space
 abbrev pub words_of : Text → List Text
 words_of [] = [] ∷ []
-words_of (byte ∷ text) = if byte == 32 then [] ∷ words_of text else before_first byte (words_of text)
+words_of (byte ∷ text) =
+    if byte == 32 then [] ∷ words_of text else before_first byte (words_of text)

@@ -4,6 +4,7 @@ pub mod Form
 pub mod Command
 pub mod Values
 pub mod Line
+pub mod Table
 pub mod Ranges
 pub mod Examples
 pub mod Given

@@ -4,7 +4,8 @@ use Rattle.std.specs.Str.{bytes_eq}
 use Rattle.fast_cli.specs.Words.{◌>>=◌, Form, Text, Values, values_in}
 use Rattle.fast_cli.specs.Values.{given_number_at, name_at, names_at, number_at, options_at}
 use Rattle.fast_cli.specs.declared.line.Line.{Line}
-use Rattle.fast_cli.specs.declared.line.Line.TheVariants.{Back, Func, Inorder, Run, Sched, Soak, Sweep}
+use Rattle.fast_cli.specs.declared.line.Line.TheVariants.{Back, Func, Inorder, Run, Sched, Soak}
+use Rattle.fast_cli.specs.declared.line.Line.TheVariants.{Sweep}
 
 -- a command: what its words are, and the line that they make
 pub record Command : Type 0 where
@@ -154,7 +155,9 @@ abbrev pub sweep_command : Command
 sweep_command = record { form = sweep_form; read = sweep_at }
 
 abbrev pub commands : List Command
-commands = func_command ∷ run_command ∷ sched_command ∷ soak_command ∷ back_command ∷ inorder_command ∷ sweep_command ∷ []
+commands =
+    func_command ∷ run_command ∷ sched_command ∷ soak_command ∷ back_command ∷ inorder_command
+    ∷ sweep_command ∷ []
 
 -- the command that a word names
 abbrev pub named_command : Text → Option Command

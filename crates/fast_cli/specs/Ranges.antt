@@ -1,7 +1,8 @@
 -- The ranges in which the numbers of each line are.
 use Rattle.std.specs.Prelude.{ℕ, ◌≤◌, length}
 use Rattle.fast_cli.specs.declared.line.Line.{Line}
-use Rattle.fast_cli.specs.declared.line.Line.TheVariants.{Back, Func, Inorder, Run, Sched, Soak, Sweep}
+use Rattle.fast_cli.specs.declared.line.Line.TheVariants.{Back, Func, Inorder, Run, Sched, Soak}
+use Rattle.fast_cli.specs.declared.line.Line.TheVariants.{Sweep}
 use Rattle.fast_cli.specs.declared.line.Options.{Options}
 
 abbrev pub IsFrom : ℕ → ℕ → ℕ → Type 0

@@ -1,5 +1,7 @@
--- What a line takes from the values that its words give: names, numbers in their ranges, and defaults.
-use Rattle.std.specs.Prelude.{ℕ, Bool, List, Option, Some, None, ◌&&◌, ◌==◌, codes, if◌then◌else◌, length, not}
+-- What a line takes from the values that its words give: names, numbers in their ranges, and
+-- defaults.
+use Rattle.std.specs.Prelude.{ℕ, Bool, List, Option, Some, None, ◌&&◌, ◌==◌, codes, if◌then◌else◌}
+use Rattle.std.specs.Prelude.{length, not}
 use Rattle.std.specs.Prelude.{option_map, slice_get}
 use Rattle.std.specs.List.{list_all}
 use Rattle.fast_cli.specs.Number.{is_between, number_in}
@@ -19,7 +21,8 @@ name_in text = if is_name text then Some text else None
 
 -- from 1 to 64 names
 unfoldable pub names_in : List Text → Option (List Text)
-names_in texts = if is_between 1 64 (length texts) && list_all is_name texts then Some texts else None
+names_in texts =
+    if is_between 1 64 (length texts) && list_all is_name texts then Some texts else None
 
 -- the name that must be there
 unfoldable pub name_at : Text → Values → Option Text
@@ -37,7 +40,8 @@ abbrev pub number_or : ℕ → ℕ → ℕ → Option Text → Option ℕ
 number_or least most default None = Some default
 number_or least most default (Some text) = number_in least most text
 
--- the number of the option `id`, from `least` to `most`, or its default where the words leave it out
+-- the number of the option `id`, from `least` to `most`, or its default where the words leave it
+-- out
 unfoldable pub number_at : Text → ℕ → ℕ → ℕ → Values → Option ℕ
 number_at id least most default values = number_or least most default (first_at id values)
 

@@ -1,5 +1,7 @@
--- The words behind a command: names in their order, and options with their values anywhere between them.
-use Rattle.std.specs.Prelude.{ℕ, Bool, true, false, List, [], ◌∷◌, ◌++◌, Option, Some, None, ◌==◌, if◌then◌else◌}
+-- The words behind a command: names in their order, and options with their values anywhere between
+-- them.
+use Rattle.std.specs.Prelude.{ℕ, Bool, true, false, List, [], ◌∷◌, ◌++◌, Option, Some, None, ◌==◌}
+use Rattle.std.specs.Prelude.{if◌then◌else◌}
 use Rattle.std.specs.Prelude.{find, is_some, unwrap_or}
 use Rattle.std.specs.List.{AllByRecursion, after_first, before_first, list_all, list_any}
 use Rattle.std.specs.Str.{IsUtf8, bytes_eq}
@@ -19,8 +21,8 @@ Some value >>= next = next value
 
 -- ---- what a command takes
 
--- the command's word; its names in their order; a name that stands for all names behind those, of which one must be
--- there; and its options, each of which has a value
+-- the command's word; its names in their order; a name that stands for all names behind those, of
+-- which one must be there; and its options, each of which has a value
 pub record Form : Type 0 where
   pub word : Text
   pub names : List Text
@@ -64,7 +66,8 @@ is_equals byte = byte == 61
 abbrev pub look_behind_dashes : Text → Look
 look_behind_dashes [] = dashes
 look_behind_dashes (byte ∷ bytes) = long (before_first is_equals (byte ∷ bytes))
-    (if list_any is_equals (byte ∷ bytes) then Some (after_first is_equals (byte ∷ bytes)) else None)
+    (if list_any is_equals (byte ∷ bytes) then Some (after_first is_equals (byte ∷ bytes))
+    else None)
 
 abbrev pub look_of : Text → Look
 look_of [] = plain
@@ -143,10 +146,16 @@ rest_names (Some name) = name ∷ []
 
 -- each name has a value
 abbrev pub has_names : Form → Values → Bool
-has_names form values = list_all (λ name. is_some (values name)) (form.names ++ rest_names form.rest)
+has_names form values =
+    list_all (λ name. is_some (values name)) (form.names ++ rest_names form.rest)
 
 -- the values of the words, or none where they aren't of the form
 unfoldable pub values_in : Form → List Text → Option Values
 values_in form words = do
-  values ← values_from form (record { names = form.names; waiting = None; only_names = false; values = no_values }) words
+  values ← values_from form (record {
+    names = form.names;
+    waiting = None;
+    only_names = false;
+    values = no_values;
+  }) words
   if has_names form values then Some values else None

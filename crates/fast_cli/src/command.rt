@@ -3,7 +3,8 @@ ghost use Rattle.std.specs.Prelude.{◌≡◌, ◌≢◌, ◌↔◌, IfOk, [], m
 ghost use Rattle.clap.specs.Values.{kind_of};
 ghost use Rattle.clap.specs.Words.{app_of, is_simple_and_free, with_rule};
 ghost use Rattle.fast_cli.specs.Words.{AreText, values_in};
-ghost use Rattle.fast_cli.specs.Command.{ReadsAs, command_by, command_of, name_rule, names_rule, option_rule, parsed};
+ghost use Rattle.fast_cli.specs.Command.{ReadsAs, command_by, command_of, name_rule, names_rule};
+ghost use Rattle.fast_cli.specs.Command.{option_rule, parsed};
 ghost use Rattle.fast_cli.specs.Command.{values_of, with_rest};
 ghost use Rattle.fast_cli.specs.Form.{form_of};
 
@@ -28,7 +29,8 @@ fn with_name<'a>(
     command: Command<'a>,
     name: &'a str,
 ) -> Result<Command<'a>, AllocError>
-    ensures { IfOk result (λ c. app_of c ≡ with_rule (app_of command.entry) (name_rule name.entry.now)) }
+    ensures { IfOk result (λ c. app_of c
+        ≡ with_rule (app_of command.entry) (name_rule name.entry.now)) }
 {
     let arg = Arg::new(alloc, name).required(true);
     command.arg(arg)
@@ -39,7 +41,8 @@ fn with_option<'a>(
     command: Command<'a>,
     name: &'a str,
 ) -> Result<Command<'a>, AllocError>
-    ensures { IfOk result (λ c. app_of c ≡ with_rule (app_of command.entry) (option_rule name.entry.now)) }
+    ensures { IfOk result (λ c. app_of c
+        ≡ with_rule (app_of command.entry) (option_rule name.entry.now)) }
 {
     let arg = Arg::new(alloc, name).long(name);
     command.arg(arg)
@@ -50,7 +53,8 @@ fn with_names<'a>(
     command: Command<'a>,
     name: &'a str,
 ) -> Result<Command<'a>, AllocError>
-    ensures { IfOk result (λ c. app_of c ≡ with_rule (app_of command.entry) (names_rule name.entry.now)) }
+    ensures { IfOk result (λ c. app_of c
+        ≡ with_rule (app_of command.entry) (names_rule name.entry.now)) }
 {
     let arg = Arg::new(alloc, name)
         .required(true)
@@ -95,8 +99,9 @@ fn refusal(error: &Error) -> UsageFault
 }
 
 fn parse<'a>(command: Command<'a>, words: &'a [&'a str]) -> Result<ArgMatches<'a>, UsageFault>
-    requires { is_simple_and_free (app_of command) ≡ true }
-    ensures ok { IfOk result (λ m. parsed (app_of command.entry) (map (λ w. w.now) words.entry.now) ≡ Some (values_of m)) }
+    requires simple { is_simple_and_free (app_of command) ≡ true }
+    ensures ok { IfOk result (λ m. parsed (app_of command.entry) (map (λ w. w.now) words.entry.now)
+        ≡ Some (values_of m)) }
     ensures words { result ≡ Err UsageFault.Words
         → parsed (app_of command.entry) (map (λ w. w.now) words.entry.now) ≡ None }
 {
@@ -114,12 +119,10 @@ pub(crate) fn parse_form<'a>(
 ) -> Result<ArgMatches<'a>, UsageFault>
     requires reads { ReadsAs (form_of form.now) }
     requires text { AreText (map (λ w. w.now) words.now) }
-    ensures ok { IfOk result (λ m. values_in (form_of form.now) (map (λ w. w.now) words.entry.now) ≡ Some (values_of m)) }
+    ensures ok { IfOk result (λ m. values_in (form_of form.now) (map (λ w. w.now) words.entry.now)
+        ≡ Some (values_of m)) }
     ensures words { result ≡ Err UsageFault.Words
         → values_in (form_of form.now) (map (λ w. w.now) words.entry.now) ≡ None }
 {
-    match make_command(alloc, form) {
-        Ok(command) => parse(command, words),
-        Err(_) => Err(UsageFault::Memory),
-    }
+    parse(make_command(alloc, form)?, words)
 }

@@ -1,8 +1,9 @@
-//! Lines at words that are written out. Each clause is computed by the checker from the definition of `line`, so it says
-//! of `read_words` what it answers at these words.
+//! Lines at words that are written out. Each clause is computed by the checker from the definition
+//! of `line`, so it says of `read_words` what it answers at these words.
 ghost use Rattle.std.specs.Prelude.{◌≡◌, [], ◌∷◌, ◌++◌, Some, None, codes, replicate};
 ghost use Rattle.fast_cli.specs.Line.{line};
-ghost use Rattle.fast_cli.specs.declared.line.Line.TheVariants.{Back, Func, Inorder, Run, Sched, Soak, Sweep};
+ghost use Rattle.fast_cli.specs.declared.line.Line.TheVariants.{Back, Func, Inorder, Run, Sched};
+ghost use Rattle.fast_cli.specs.declared.line.Line.TheVariants.{Soak, Sweep};
 ghost use Rattle.fast_cli.specs.Examples.{defaults, words_of};
 
 /// Each command with its names alone, and so with each default.
@@ -11,12 +12,15 @@ pub fn commands_with_names_alone()
     ensures func { line (words_of (codes "func a")) ≡ Some (Func (codes "a") defaults) }
     ensures run { line (words_of (codes "run a m"))
         ≡ Some (Run (codes "a") (codes "m") 2 defaults) }
-    ensures sched { line (words_of (codes "sched a m p")) ≡ Some (Sched (codes "a") (codes "m") (codes "p") defaults) }
+    ensures sched { line (words_of (codes "sched a m p"))
+        ≡ Some (Sched (codes "a") (codes "m") (codes "p") defaults) }
     ensures soak { line (words_of (codes "soak 7")) ≡ Some (Soak 7) }
-    ensures back { line (words_of (codes "back a s")) ≡ Some (Back (codes "a") (codes "s") 65536 defaults) }
+    ensures back { line (words_of (codes "back a s"))
+        ≡ Some (Back (codes "a") (codes "s") 65536 defaults) }
     ensures inorder { line (words_of (codes "inorder a m p"))
         ≡ Some (Inorder (codes "a") (codes "m") (codes "p") defaults) }
-    ensures sweep_one { line (words_of (codes "sweep a m")) ≡ Some (Sweep (codes "a") (codes "m" ∷ []) defaults) }
+    ensures sweep_one { line (words_of (codes "sweep a m"))
+        ≡ Some (Sweep (codes "a") (codes "m" ∷ []) defaults) }
     ensures sweep_three { line (words_of (codes "sweep a m n m"))
         ≡ Some (Sweep (codes "a") (codes "m" ∷ codes "n" ∷ codes "m" ∷ []) defaults) }
     ensures named_help { line (words_of (codes "func help")) ≡ Some (Func (codes "help") defaults) }
@@ -26,7 +30,11 @@ pub fn commands_with_names_alone()
 #[tactic(auto, unfolding(crate::proofs::OnWords::line_on_words))]
 pub fn each_option()
     ensures func { line (words_of (codes "func a --cycles 2 --input i --output 3"))
-        ≡ Some (Func (codes "a") (record defaults { cycles = 2; input = Some (codes "i"); output = 3 })) }
+        ≡ Some (Func (codes "a") (record defaults {
+          cycles = 2;
+          input = Some (codes "i");
+          output = 3;
+        })) }
     ensures run { line (words_of (codes "run a m --ring 1 --cycles 2 --input i --output 3"))
         ≡ Some (Run (codes "a") (codes "m") 2
         (record { ring = 1; cycles = 2; input = Some (codes "i"); output = 3 })) }
@@ -53,7 +61,8 @@ pub fn each_option()
     ensures sweep_has_no_threads { line (words_of (codes "sweep a m --threads 1")) ≡ None }
 {}
 
-/// Options stand before, between and after the names, with their value in the next word or behind `=`, each at most once.
+/// Options stand before, between and after the names, with their value in the next word or behind
+/// `=`, each at most once.
 #[tactic(auto, unfolding(crate::proofs::OnWords::line_on_words))]
 pub fn options_anywhere()
     ensures before { line (words_of (codes "run --ring 8 a m"))
@@ -68,7 +77,8 @@ pub fn options_anywhere()
         ≡ Some (Run (codes "a") (codes "m") 2
         (record defaults { ring = 8; cycles = 2; output = 3 })) }
     ensures among_machines { line (words_of (codes "sweep a m --ring 8 n --cycles=2 m"))
-        ≡ Some (Sweep (codes "a") (codes "m" ∷ codes "n" ∷ codes "m" ∷ []) (record defaults { ring = 8; cycles = 2 })) }
+        ≡ Some (Sweep (codes "a") (codes "m" ∷ codes "n" ∷ codes "m" ∷ [])
+        (record defaults { ring = 8; cycles = 2 })) }
     ensures before_the_command { line (words_of (codes "--ring 8 run a m")) ≡ None }
     ensures twice { line (words_of (codes "run a m --ring 8 --ring 8")) ≡ None }
     ensures twice_with_names_between { line (words_of (codes "run --ring=8 a --ring=9 m")) ≡ None }
@@ -109,7 +119,8 @@ pub fn numbers()
     ensures threads_below { line (words_of (codes "run a m --threads 0")) ≡ None }
     ensures threads_above { line (words_of (codes "run a m --threads 3")) ≡ None }
     ensures seed_least { line (words_of (codes "soak 0")) ≡ Some (Soak 0) }
-    ensures seed_most { line (words_of (codes "soak 18446744073709551615")) ≡ Some (Soak 18446744073709551615) }
+    ensures seed_most { line (words_of (codes "soak 18446744073709551615"))
+        ≡ Some (Soak 18446744073709551615) }
     ensures seed_above { line (words_of (codes "soak 18446744073709551616")) ≡ None }
 {}
 
@@ -120,7 +131,8 @@ pub fn numerals()
         ≡ Some (Run (codes "a") (codes "m") 2 (record defaults { ring = 8 })) }
     ensures twenty_digits { line (words_of (codes "run a m --ring 00000000000000000008"))
         ≡ Some (Run (codes "a") (codes "m") 2 (record defaults { ring = 8 })) }
-    ensures twenty_one_digits { line (words_of (codes "run a m --ring 000000000000000000008")) ≡ None }
+    ensures twenty_one_digits { line (words_of (codes "run a m --ring 000000000000000000008"))
+        ≡ None }
     ensures plus { line (words_of (codes "run a m --ring +8")) ≡ None }
     ensures attached_plus { line (words_of (codes "run a m --ring=+8")) ≡ None }
     ensures minus { line (words_of (codes "soak -1")) ≡ None }

@@ -9,6 +9,7 @@ mod lines;
 mod number;
 mod own;
 mod read;
+mod table;
 #[cfg(test)]
 mod tests;
 mod texts;

@@ -5,7 +5,8 @@ use fsim_base::Text;
 use std::alloc::AllocError;
 use thiserror::Error;
 
-/// What a command line asks for: its command, with the names of files and the options that it gives.
+/// What a command line asks for: its command, with the names of files and the options that it
+/// gives.
 #[derive(Debug, Drop)]
 pub enum Line {
     /// Executes the image sequentially.
@@ -13,8 +14,8 @@ pub enum Line {
         image: Text,
         options: Options,
     },
-    /// Runs the image on the machine, with 1 or 2 `threads`: with 2 each side has a thread of its own,
-    /// with 1 both are played in turn on one.
+    /// Runs the image on the machine, with 1 or 2 `threads`: with 2 each side has a thread of its
+    /// own, with 1 both are played in turn on one.
     Run {
         image: Text,
         machine: Text,

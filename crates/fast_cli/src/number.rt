@@ -19,7 +19,8 @@ fn is_numeral(text: &str) -> bool
     has_only_digits(text.as_bytes())
 }
 
-/// The number that a text writes in one to twenty decimal digits, where it is from `least` to `most`.
+/// The number that a text writes in one to twenty decimal digits, where it is from `least` to
+/// `most`.
 #[tactic(auto, unfolding(crate::specs::Number::number_in))]
 pub(crate) fn number_in(text: &str, least: u64, most: u64) -> Option<u64>
     ensures value { result ≡ number_in least most text.now }

@@ -5,7 +5,8 @@ ghost use Rattle.fast_cli.specs.Command.{values_of};
 ghost use Rattle.fast_cli.specs.Given.{options_in};
 ghost use Rattle.fast_cli.specs.Number.{is_between};
 ghost use Rattle.fast_cli.specs.Ranges.{HasRanges, IsFrom};
-ghost use Rattle.fast_cli.specs.Values.{first_at, given_number_at, input_at, is_name, name_at, name_in, names_at, number_at, options_at};
+ghost use Rattle.fast_cli.specs.Values.{first_at, given_number_at, input_at, is_name, name_at};
+ghost use Rattle.fast_cli.specs.Values.{name_in, names_at, number_at, options_at};
 
 use crate::number::number_in;
 use clap::ArgMatches;
@@ -30,10 +31,7 @@ fn name_in<'a>(text: &'a str) -> Option<&'a str>
 pub(crate) fn name_at<'a>(matches: &ArgMatches<'a>, id: &str) -> Option<&'a str>
     ensures { option_map (λ s. s.now) result ≡ name_at id.now (values_of matches.now) }
 {
-    match value_at(matches, id) {
-        Some(text) => name_in(text),
-        None => None,
-    }
+    name_in(value_at(matches, id)?)
 }
 
 fn values_at<'m, 'a>(matches: &'m ArgMatches<'a>, id: &str) -> Option<&'m [&'a str]>
@@ -49,7 +47,8 @@ fn have_bytes(texts: &[&str]) -> bool
 }
 
 fn are_names(texts: &[&str]) -> bool
-    ensures { result ≡ (is_between 1 64 (length texts.now) && list_all (λ t. is_name t.now) texts.now) }
+    ensures { result ≡ (is_between 1 64 (length texts.now)
+        && list_all (λ t. is_name t.now) texts.now) }
 {
     if texts.is_empty() || 64 < texts.len() {
         return false;
@@ -80,10 +79,7 @@ pub(crate) fn given_number_at(
 ) -> Option<u64>
     ensures { result ≡ given_number_at id.now least most (values_of matches.now) }
 {
-    match value_at(matches, id) {
-        Some(text) => number_in(text, least, most),
-        None => None,
-    }
+    number_in(value_at(matches, id)?, least, most)
 }
 
 /// The number of an option, or its default where the words leave it out.
@@ -114,10 +110,7 @@ fn input_at<'a>(matches: &ArgMatches<'a>) -> Option<Option<&'a str>>
         ≡ input_at (values_of matches.now) }
 {
     match value_at(matches, "input") {
-        Some(text) => match name_in(text) {
-            Some(name) => Some(Some(name)),
-            None => None,
-        },
+        Some(text) => Some(Some(name_in(text)?)),
         None => Some(None),
     }
 }
@@ -137,22 +130,14 @@ pub(crate) fn options_at<'a>(matches: &ArgMatches<'a>) -> Option<GivenOptions<'a
     ensures options { option_map options_in result ≡ options_at (values_of matches.now) }
     ensures ranges { IfSome result (λ given. HasRanges (options_in given)) }
 {
-    let Some(ring) = number_at(matches, "ring", 1, 65_536, 64) else {
-        return None;
-    };
-    let Some(cycles) = number_at(matches, "cycles", 1, 1_099_511_627_776, 10_000_000) else {
-        return None;
-    };
-    let Some(output) = number_at(matches, "output", 0, 16_777_216, 16_777_216) else {
-        return None;
-    };
-    match input_at(matches) {
-        Some(input) => Some(GivenOptions {
-            ring: ring as u32,
-            cycles,
-            output: output as u32,
-            input,
-        }),
-        None => None,
-    }
+    let ring = number_at(matches, "ring", 1, 65_536, 64)?;
+    let cycles = number_at(matches, "cycles", 1, 1_099_511_627_776, 10_000_000)?;
+    let output = number_at(matches, "output", 0, 16_777_216, 16_777_216)?;
+    let input = input_at(matches)?;
+    Some(GivenOptions {
+        ring: ring as u32,
+        cycles,
+        output: output as u32,
+        input,
+    })
 }

@@ -1,0 +1,14 @@
+-- The commands as the code names them.
+use Rattle.fast_cli.specs.Line.{Command, back_command, func_command, inorder_command, run_command}
+use Rattle.fast_cli.specs.Line.{sched_command, soak_command, sweep_command}
+use Rattle.fast_cli.specs.declared.table.Name.{Name}
+use Rattle.fast_cli.specs.declared.table.Name.TheVariants as name
+
+abbrev pub command_in : Name → Command
+command_in name.Func = func_command
+command_in name.Run = run_command
+command_in name.Sched = sched_command
+command_in name.Soak = soak_command
+command_in name.Back = back_command
+command_in name.Inorder = inorder_command
+command_in name.Sweep = sweep_command
