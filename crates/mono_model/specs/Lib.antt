@@ -1,6 +1,7 @@
 pub mod Ranges
 pub mod Setup
 pub mod Sound
+pub mod Plain
 pub mod Arch
 pub mod Found
 pub mod Result

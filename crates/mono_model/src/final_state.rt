@@ -29,13 +29,13 @@ pub struct Stats {
     pub interrupts: u64,
     /// Time reads that were sent back to fetch to be given a time.
     pub replays: u64,
-    /// Records appended to the window, on wrong paths too.
+    /// Instructions that were fetched into the window, on wrong paths too.
     pub fetched: u64,
-    /// Records removed from the window by a flush.
+    /// Instructions that were taken out of the window by a flush.
     pub squashed: u64,
     /// Branches, jumps and MRETs that retired.
     pub branches: u64,
-    /// Records whose next address wasn't the predicted one, found at their completion.
+    /// Instructions whose next address wasn't the predicted one, found at their completion.
     pub mispredicted: u64,
     pub icache_accesses: u64,
     pub icache_misses: u64,
