@@ -1,4 +1,5 @@
--- Counts that are kept in 64 bits, as those of faults: a count that has to rise stands still at its end.
+-- Counts that are kept in 64 bits, as those of faults: a count that has to rise stands still at its
+-- end.
 use Rattle.std.specs.Prelude.{ℕ, ◌+◌, ◌-◌, ◌^◌, ◌≤◌, min}
 
 -- the count has risen, or stands at its end

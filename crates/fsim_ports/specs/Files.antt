@@ -1,5 +1,6 @@
 -- What files hold, and what one read of them gives.
-use Rattle.std.specs.Prelude.{◌≡◌, ℕ, ◌+◌, ◌≤◌, List, length, take, drop, Option, Some, None, find, option_map, bytes_eq}
+use Rattle.std.specs.Prelude.{◌≡◌, ℕ, ◌+◌, ◌≤◌, List, length, take, drop, Option, Some, None, find}
+use Rattle.std.specs.Prelude.{option_map, bytes_eq}
 use Rattle.fsim_ports.specs.Count.{HasRisen}
 use Rattle.fsim_ports.specs.declared.outside.Part.{Part}
 use Rattle.fsim_ports.specs.declared.outside.Part.TheVariants.{Bytes, End, Missing, Failed}

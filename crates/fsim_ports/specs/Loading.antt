@@ -14,8 +14,8 @@ pub record IsWhole (holding : Holding) (limit : ℕ) (bytes : List ℕ) : Type 0
 pub record IsLonger (holding : Holding) (limit : ℕ) : Type 0 where
   pub content : MayHold holding (λ file. limit < length file)
 
--- what reading a file of at most `limit` bytes whole may answer; want of memory is free, but never at a name that is
--- told to be absent
+-- what reading a file of at most `limit` bytes whole may answer; want of memory is free, but never
+-- at a name that is told to be absent
 abbrev pub IsLoad : Holding → ℕ → ℕ → ℕ → Result (Vec ℕ Global) LoadFault → Type 0
 IsLoad holding limit before after (Ok bytes) = IsWhole holding limit bytes.items
 IsLoad holding limit before after (Err Missing) = IsGone holding before after

@@ -1,5 +1,6 @@
 -- Files and a sink in memory.
-use Rattle.std.specs.Prelude.{ℕ, ◌-◌, Bool, ◌&&◌, ◌||◌, List, [], ◌∷◌, ◌++◌, length, is_some, nat_lt, if◌then◌else◌}
+use Rattle.std.specs.Prelude.{ℕ, ◌-◌, Bool, ◌&&◌, ◌||◌, List, [], ◌∷◌, ◌++◌, length, is_some}
+use Rattle.std.specs.Prelude.{nat_lt, if◌then◌else◌}
 use Rattle.fsim_ports.specs.Files.{Names, lookup}
 use Rattle.fsim_ports.specs.Plan.{Plan, empty_plan, is_due, called, faulted}
 
@@ -18,7 +19,8 @@ read_fails files name = is_due files.plan && is_some (lookup files.names name)
 
 -- the plan after a read
 abbrev pub plan_after_read : FilesInMemory → List ℕ → Plan
-plan_after_read files name = if read_fails files name then faulted (called files.plan) else called files.plan
+plan_after_read files name =
+    if read_fails files name then faulted (called files.plan) else called files.plan
 
 -- the bytes that were written, how many have room in all, and which calls are to fail
 pub record SinkInMemory : Type 0 where

@@ -1,5 +1,6 @@
 -- What a sink was given.
-use Rattle.std.specs.Prelude.{◌≡◌, ℕ, ◌<◌, ◌≤◌, List, ◌++◌, length, take, Option, Some, None, Result, Ok, Err, ◌⊎◌}
+use Rattle.std.specs.Prelude.{◌≡◌, ℕ, ◌<◌, ◌≤◌, List, ◌++◌, length, take, Option, Some, None}
+use Rattle.std.specs.Prelude.{Result, Ok, Err, ◌⊎◌}
 use Rattle.fsim_ports.specs.Count.{HasRisen}
 use Rattle.fsim_ports.specs.declared.outside.Failed.{Failed}
 
@@ -8,8 +9,10 @@ abbrev pub grown : Option (List ℕ) → List ℕ → Option (List ℕ)
 grown None text = None
 grown (Some written) text = Some (written ++ text)
 
--- the first `count` bytes of a piece were written; none of a piece that has some only where the count of faults rose
-pub record Takes (piece : List ℕ) (before after : ℕ) (old new : Option (List ℕ)) (count : ℕ) : Type 0 where
+-- the first `count` bytes of a piece were written; none of a piece that has some only where the
+-- count of faults rose
+pub record Takes (piece : List ℕ) (before after : ℕ) (old new : Option (List ℕ))
+    (count : ℕ) : Type 0 where
   pub bound : count ≤ length piece
   pub written : new ≡ grown old (take count piece)
   pub stalled : count ≡ 0 → 0 < length piece → HasRisen before after
@@ -32,7 +35,8 @@ pub record Breaks (text : List ℕ) (before after : ℕ) (old new : Option (List
   pub rose : HasRisen before after
 
 -- what writing a whole text may answer, whatever the error is
-abbrev pub Puts : {E : Type 0} → List ℕ → ℕ → ℕ → Option (List ℕ) → Option (List ℕ) → Result (Unit {0}) E → Type 0
+abbrev pub Puts : {E : Type 0} → List ℕ → ℕ → ℕ → Option (List ℕ) → Option (List ℕ)
+    → Result (Unit {0}) E → Type 0
 Puts text before after old new (Ok done) = new ≡ grown old text
 Puts text before after old new (Err fault) = Breaks text before after old new
 

@@ -10,9 +10,11 @@ use std::io::{ErrorKind, Read, Seek, SeekFrom};
 use std::marker::Model;
 use std::rt::Files as FileSystem;
 
-/// The files of the host, read by their paths. Nothing is told of them; a contract sees the count of faults alone.
+/// The files of the host, read by their paths. Nothing is told of them; a contract sees the count
+/// of faults alone.
 ///
-/// The last file that was read stays open, so that a file that is read in order is opened once and needs no seek.
+/// The last file that was read stays open, so that a file that is read in order is opened once and
+/// needs no seek.
 #[derive(Drop)]
 pub struct HostFiles<R: FileSystem> {
     alloc: Global,
@@ -114,7 +116,8 @@ impl<R: FileSystem + Drop> Files for HostFiles<R> {
     }
 }
 
-/// The standard output of the host. Nothing is told of it; a contract sees the count of faults alone.
+/// The standard output of the host. Nothing is told of it; a contract sees the count of faults
+/// alone.
 #[derive(Drop)]
 pub struct HostSink<R: Print> {
     host: R,

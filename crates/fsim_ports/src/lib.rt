@@ -1,4 +1,5 @@
-//! The outside of the program: files that are read, a sink that is written, and gates that threads pass.
+//! The outside of the program: files that are read, a sink that is written, and gates that threads
+//! pass.
 #![tactic(auto)]
 
 mod host;

@@ -24,8 +24,9 @@ const PART_SIZE: usize = 65_536;
 
 /// Reads a file of at most `limit` bytes whole.
 ///
-/// Of told files, `Missing` comes exactly where no file has the name, and `TooLong` and the bytes only where the file
-/// is so. `Failed`, and `Missing` of files that aren't told, come only where the count of faults rose. `Memory` is free.
+/// Of told files, `Missing` comes exactly where no file has the name, and `TooLong` and the bytes
+/// only where the file is so. `Failed`, and `Missing` of files that aren't told, come only where
+/// the count of faults rose. `Memory` is free.
 /// Each read takes at least one byte, so there are at most `limit` + 2 of them.
 pub fn load_file<F: Files>(
     alloc: Global,
@@ -35,7 +36,8 @@ pub fn load_file<F: Files>(
 ) -> Result<Vec<u8>, LoadFault>
     ensures same { F.told files.new ≡ F.told files.old }
     ensures count { F.faults files.old ≤ F.faults files.new }
-    ensures load { IsLoad (holding_of (F.told files.old) name.now) limit (F.faults files.old) (F.faults files.new) result }
+    ensures load { IsLoad (holding_of (F.told files.old) name.now) limit (F.faults files.old)
+        (F.faults files.new) result }
 {
     let mut bytes = Vec::new(alloc);
     let mut part = [0; PART_SIZE];

@@ -36,7 +36,8 @@ impl MemoryFiles {
 
     /// Puts bytes under a name. A name that is added again has its new bytes.
     pub fn add(&mut self, name: &str, bytes: &[u8]) -> Result<(), NoMemory>
-        ensures ok { OnOk result (self.new ≡ record self.old { names = with_file self.old.names name.now bytes.now }) }
+        ensures ok { OnOk result (self.new
+            ≡ record self.old { names = with_file self.old.names name.now bytes.now }) }
         ensures err { OnErr result (self.new ≡ self.old) }
     {
         self.table.add(name, bytes)
@@ -44,7 +45,8 @@ impl MemoryFiles {
 
     /// Lets one more call of `read` fail, at a name that is there. Calls are counted from 1.
     pub fn fail_at(&mut self, call: u64) -> Result<(), NoMemory>
-        ensures ok { OnOk result (self.new ≡ record self.old { plan = with_failing self.old.plan call }) }
+        ensures ok { OnOk result (self.new
+            ≡ record self.old { plan = with_failing self.old.plan call }) }
         ensures err { OnErr result (self.new ≡ self.old) }
     {
         self.plan.fail_at(call)
@@ -61,7 +63,8 @@ impl Files for MemoryFiles {
         requires room { 0 < length buf.old }
         ensures same { Some self.new.names ≡ Some self.old.names }
         ensures count { self.old.plan.faults ≤ self.new.plan.faults }
-        ensures part { IsPart (holding_of (Some self.old.names) name.now) at self.old.plan.faults self.new.plan.faults buf.new result }
+        ensures part { IsPart (holding_of (Some self.old.names) name.now) at self.old.plan.faults
+            self.new.plan.faults buf.new result }
         ensures fails { (result ≡ Part.Failed) ↔ IsTrue (read_fails self.old name.now) }
         ensures plan { self.new.plan ≡ plan_after_read self.old name.now }
     {

@@ -1,4 +1,5 @@
-ghost use Rattle.std.specs.Prelude.{◌≡◌, ◌≤◌, ◌↔◌, length, Some, vec_len, vec_capacity, IsTrue, IsErr, IfOk, OnOk, OnErr};
+ghost use Rattle.std.specs.Prelude.{◌≡◌, ◌≤◌, ◌↔◌, length, Some, vec_len, vec_capacity, IsTrue};
+ghost use Rattle.std.specs.Prelude.{IsErr, IfOk, OnOk, OnErr};
 ghost use Rattle.fsim_ports.specs.Plan.{with_failing};
 ghost use Rattle.fsim_ports.specs.Memory.{SinkInMemory, empty_sink, put_fails, after_put};
 ghost use Rattle.fsim_ports.specs.Sink.{IsPut};
@@ -9,8 +10,8 @@ use fsim_base::NoMemory;
 use std::alloc::Global;
 use std::marker::Model;
 
-/// A sink that keeps what it is given in memory, up to a room that it takes when it is made. Its puts fail where
-/// a list says so and where a piece doesn't fit.
+/// A sink that keeps what it is given in memory, up to a room that it takes when it is made. Its
+/// puts fail where a list says so and where a piece doesn't fit.
 #[derive(Debug, Drop)]
 pub struct MemorySink {
     bytes: Vec<u8>,
@@ -51,7 +52,8 @@ impl MemorySink {
 
     /// Lets one more call of `put` fail. Calls are counted from 1.
     pub fn fail_at(&mut self, call: u64) -> Result<(), NoMemory>
-        ensures ok { OnOk result (self.new ≡ record self.old { plan = with_failing self.old.plan call }) }
+        ensures ok { OnOk result (self.new
+            ≡ record self.old { plan = with_failing self.old.plan call }) }
         ensures err { OnErr result (self.new ≡ self.old) }
     {
         self.plan.fail_at(call)
@@ -63,11 +65,12 @@ impl Sink for MemorySink {
 
     ghost faults = { λ s. s.plan.faults };
 
-    /// Takes the piece whole, without memory. Fails, and counts a fault, exactly where the call is in the list or
-    /// the piece doesn't fit in what is left of the room.
+    /// Takes the piece whole, without memory. Fails, and counts a fault, exactly where the call is
+    /// in the list or the piece doesn't fit in what is left of the room.
     fn put(&mut self, bytes: &[u8]) -> Result<usize, Failed>
         ensures count { self.old.plan.faults ≤ self.new.plan.faults }
-        ensures put { IsPut bytes.now self.old.plan.faults self.new.plan.faults (Some self.old.bytes) (Some self.new.bytes) result }
+        ensures put { IsPut bytes.now self.old.plan.faults self.new.plan.faults
+            (Some self.old.bytes) (Some self.new.bytes) result }
         ensures fails { IsErr result ↔ IsTrue (put_fails self.old bytes.now) }
         ensures whole { IfOk result (λ count. count ≡ length bytes.now) }
         ensures after { self.new ≡ after_put self.old bytes.now }

@@ -1,4 +1,5 @@
-ghost use Rattle.std.specs.Prelude.{◌≡◌, ◌≢◌, ℕ, ◌<◌, [], length, None, Some, MatchOption, OnOk, OnErr, IfOk};
+ghost use Rattle.std.specs.Prelude.{◌≡◌, ◌≢◌, ℕ, ◌<◌, [], length, None, Some, MatchOption, OnOk};
+ghost use Rattle.std.specs.Prelude.{OnErr, IfOk};
 ghost use Rattle.fsim_ports.specs.Files.{Names, Holds, lookup, IsPart};
 ghost use Rattle.fsim_ports.specs.Memory.{with_file};
 
@@ -45,7 +46,8 @@ impl NameTable {
 
     /// The bytes under a name.
     pub fn find(&self, name: &str) -> Option<&[u8]>
-        ensures found { MatchOption result (lookup self.now name.now ≡ None) (λ bytes. lookup self.now name.now ≡ Some bytes.now) }
+        ensures found { MatchOption result (lookup self.now name.now ≡ None)
+            (λ bytes. lookup self.now name.now ≡ Some bytes.now) }
     {
         for (held, bytes) in self.files.as_slice() {
             if held.as_str() == name {

@@ -1,4 +1,5 @@
-// What no clause says: that calls succeed where memory is ample, and that faults in mid-stream stay where they are.
+// What no clause says: that calls succeed where memory is ample, and that faults in mid-stream stay
+// where they are.
 ghost use Rattle.std.specs.Prelude.{[], Some};
 
 use super::*;
