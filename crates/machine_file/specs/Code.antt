@@ -1,10 +1,12 @@
 -- The table and what is read as the code has them.
 use Rattle.std.specs.Prelude.{[], ◌∷◌, option_map}
 use Rattle.toml.specs.View.{view}
-use Rattle.machine_file.specs.Table.{Wanted, number, power, pages, pages_of_ram, text, Key, Row, key_text}
+use Rattle.machine_file.specs.Table.{Wanted, number, power, pages, pages_of_ram, text, Key, Row}
+use Rattle.machine_file.specs.Table.{key_text}
 use Rattle.machine_file.specs.File.{Held, left_out, held_value, no_section}
 use Rattle.machine_file.specs.declared.table.Wanted.{Wanted as WantedInCode}
-use Rattle.machine_file.specs.declared.table.Wanted.TheVariants.{Number, Power, Pages, PagesOfRam, TextOfTwo, TextOfThree}
+use Rattle.machine_file.specs.declared.table.Wanted.TheVariants.{Number, Power, Pages, PagesOfRam}
+use Rattle.machine_file.specs.declared.table.Wanted.TheVariants.{TextOfTwo, TextOfThree}
 use Rattle.machine_file.specs.declared.table.Key.{Key as KeyInCode}
 use Rattle.machine_file.specs.declared.table.Row.{Row as RowInCode}
 use Rattle.machine_file.specs.declared.held_value.Held.{Held as HeldInCode}

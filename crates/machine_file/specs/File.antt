@@ -1,6 +1,9 @@
--- Which bytes are a machine file, and the parameters that it gives: a document of TOML 1.1 whose keys have the values of
--- the table in docs/MACHINE.md (`Table`).
-use Rattle.std.specs.Prelude.{◌≡◌, ℕ, ◌+◌, ◌^◌, ◌%◌, ◌==◌, Bool, true, false, not, ◌&&◌, ◌||◌, if◌then◌else◌, nat_le, int_le, ◌-◌, ℤ, pos, negsuc, List, [], ◌∷◌, length, Option, Some, None, is_some, option_map, option_and_then, unwrap_or, codes, find, slice_index_or}
+-- Which bytes are a machine file, and the parameters that it gives: a document of TOML 1.1 whose
+-- keys have the values of the table in docs/MACHINE.md (`Table`).
+use Rattle.std.specs.Prelude.{◌≡◌, ℕ, ◌+◌, ◌^◌, ◌%◌, ◌==◌, Bool, true, false, not, ◌&&◌, ◌||◌}
+use Rattle.std.specs.Prelude.{if◌then◌else◌, nat_le, int_le, ◌-◌, ℤ, pos, negsuc, List, [], ◌∷◌}
+use Rattle.std.specs.Prelude.{length, Option, Some, None, is_some, option_map, option_and_then}
+use Rattle.std.specs.Prelude.{unwrap_or, codes, find, slice_index_or}
 use Rattle.std.specs.Int.{is_power_of_two}
 use Rattle.std.specs.List.{list_any, position_from}
 use Rattle.std.specs.Option.{option_or, option_map_or}
@@ -8,11 +11,14 @@ use Rattle.std.specs.Str.{bytes_eq, is_utf8}
 use Rattle.branch_predictor.specs.declared.params.PredKind.{PredKind}
 use Rattle.branch_predictor.specs.declared.params.PredKind.TheVariants.{Static, Bimodal, Gshare}
 use Rattle.mono_model.specs.declared.params.Params.{Params}
-use Rattle.toml.specs.Data.{Data, Members, no_members, member, get_member, as_integer, as_str, as_table}
+use Rattle.toml.specs.Data.{Data, Members, no_members, member, get_member, as_integer, as_str}
+use Rattle.toml.specs.Data.{as_table}
 use Rattle.toml.specs.Parse.{parse_document}
 use Rattle.machine_file.specs.declared.fault.MachineFault.{MachineFault}
-use Rattle.machine_file.specs.declared.fault.MachineFault.TheVariants.{NotToml, Unknown, Kind, Range, Power}
-use Rattle.machine_file.specs.Table.{Wanted, number, power, pages, pages_of_ram, text, Key, Row, first_rows, rows, key_text}
+use Rattle.machine_file.specs.declared.fault.MachineFault.TheVariants.{NotToml, Unknown, Kind}
+use Rattle.machine_file.specs.declared.fault.MachineFault.TheVariants.{Range, Power}
+use Rattle.machine_file.specs.Table.{Wanted, number, power, pages, pages_of_ram, text, Key, Row}
+use Rattle.machine_file.specs.Table.{first_rows, rows, key_text}
 
 -- the table that the bytes write, if they are TOML
 unfoldable pub document : List ℕ → Option Members
@@ -51,16 +57,19 @@ unknown_inside known section (member name value others) =
     if list_any (has_inside section name) known then unknown_inside known section others
     else Some (record { top = section; inside = Some name })
 
--- the first unknown name below a known top-level name: only a table of a section's name has names inside
+-- the first unknown name below a known top-level name: only a table of a section's name has names
+-- inside
 abbrev pub unknown_in : List Row → List ℕ → Option Members → Option Key
 unknown_in known top None = None
-unknown_in known top (Some inside) = if list_any (has_section top) known then unknown_inside known top inside else None
+unknown_in known top (Some inside) =
+    if list_any (has_section top) known then unknown_inside known top inside else None
 
 -- the first name that no row has, each name with those inside before the next
 abbrev pub unknown_key : List Row → Members → Option Key
 unknown_key known no_members = None
 unknown_key known (member top value others) =
-    if list_any (has_top top) known then option_or (unknown_in known top (as_table value)) (unknown_key known others)
+    if list_any (has_top top) known then option_or (unknown_in known top (as_table value))
+    (unknown_key known others)
     else Some (record { top = top; inside = None })
 
 -- what a file holds for a key: nothing, a value, or no table where the section is to be
@@ -88,7 +97,8 @@ held_at inside (Some value) = held_below inside value
 unfoldable pub held : Members → Key → Held
 held file key = held_at key.inside (get_member key.top file)
 
--- the number that a value stands for, if it is of the kind that is wanted: a whole number, or one of the texts
+-- the number that a value stands for, if it is of the kind that is wanted: a whole number, or one
+-- of the texts
 abbrev pub place_of : List (List ℕ) → List ℕ → Option ℤ
 place_of texts s = option_map (λ k. pos k) (position_from (λ t. bytes_eq t s) 0 texts)
 
@@ -134,7 +144,8 @@ abbrev pub is_in_range : ℕ → Wanted → ℤ → Bool
 is_in_range base (number low high) z = lies_between low high z
 is_in_range base (power low high) z = lies_between low high z
 is_in_range base (pages low high) z = lies_between low high z && natural z % 4096 == 0
-is_in_range base (pages_of_ram low high) z = (lies_between low high z && natural z % 4096 == 0) && nat_le (base + natural z) (2 ^ 32)
+is_in_range base (pages_of_ram low high) z =
+    (lies_between low high z && natural z % 4096 == 0) && nat_le (base + natural z) (2 ^ 32)
 is_in_range base (text texts) z = lies_between 0 (length texts - 1) z
 
 abbrev pub is_power : Wanted → ℤ → Bool
@@ -167,8 +178,8 @@ abbrev pub first_failing : Members → List Row → Option MachineFault
 first_failing file [] = None
 first_failing file (r ∷ rs) = option_or (row_fault file r) (first_failing file rs)
 
--- the first fault of a file, if there is one. All rows are tested: a file of version 1 without an unknown name leaves out
--- the keys of version 2, and their defaults have no fault
+-- the first fault of a file, if there is one. All rows are tested: a file of version 1 without an
+-- unknown name leaves out the keys of version 2, and their defaults have no fault
 abbrev pub fault_by : Members → Option Key → Option MachineFault
 fault_by file (Some key) = Some (Unknown (key_text key))
 fault_by file None = first_failing file rows

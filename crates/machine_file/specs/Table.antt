@@ -22,10 +22,13 @@ pub record Row : Type 0 where
 
 abbrev pub row : List ℕ → List ℕ → Wanted → ℕ → Row
 row section name wanted default =
-    record { key = record { top = section; inside = Some name }; wanted = wanted; default = default }
+    record { key = record { top = section; inside = Some name }; wanted = wanted;
+    default = default }
 
 abbrev pub version_row : Row
-version_row = record { key = record { top = codes "version"; inside = None }; wanted = number 1 2; default = 1 }
+version_row =
+    record { key = record { top = codes "version"; inside = None }; wanted = number 1 2;
+    default = 1 }
 
 -- the keys of both versions
 unfoldable pub first_rows : List Row
@@ -46,7 +49,8 @@ first_rows =
     ∷ row (codes "div") (codes "latency") (number 1 64) 1
     ∷ row (codes "mem") (codes "count") (number 1 8) 1
     ∷ row (codes "mem") (codes "latency") (number 1 64) 1
-    ∷ row (codes "predictor") (codes "kind") (text (codes "static" ∷ codes "bimodal" ∷ codes "gshare" ∷ [])) 0
+    ∷ row (codes "predictor") (codes "kind")
+    (text (codes "static" ∷ codes "bimodal" ∷ codes "gshare" ∷ [])) 0
     ∷ row (codes "predictor") (codes "counters") (power 1 65536) 1024
     ∷ row (codes "predictor") (codes "history") (number 0 16) 8
     ∷ row (codes "predictor") (codes "targets") (power 0 65536) 0

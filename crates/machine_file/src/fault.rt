@@ -1,6 +1,7 @@
 use fsim_base::Bytes;
 
-/// Why bytes are no machine file. A key is the section's name, a dot and the name inside it, or a top-level name alone.
+/// Why bytes are no machine file. A key is the section's name, a dot and the name inside it, or a
+/// top-level name alone.
 #[derive(Debug, Drop)]
 pub enum MachineFault {
     /// The bytes aren't TOML.

@@ -11,7 +11,7 @@ use toml::Value;
 
 /// The place of a text.
 fn place(texts: &[&str], text: &str) -> Option<i64>
-    requires { length texts.now ≤ 3 }
+    requires few { length texts.now ≤ 3 }
     ensures { result ≡ place_of (map (λ t. t.now) texts.now) text.now }
 {
     for (i, candidate) in texts.iter().enumerate() {
@@ -24,8 +24,9 @@ fn place(texts: &[&str], text: &str) -> Option<i64>
 
 /// The place of the text that a value is.
 fn place_in(texts: &[&str], value: &Value) -> Option<i64>
-    requires { length texts.now ≤ 3 }
-    ensures { result ≡ option_and_then (place_of (map (λ t. t.now) texts.now)) (as_str (view value.now)) }
+    requires few { length texts.now ≤ 3 }
+    ensures { result ≡ option_and_then (place_of (map (λ t. t.now) texts.now))
+        (as_str (view value.now)) }
 {
     match value.as_str() {
         Some(text) => place(texts, text),

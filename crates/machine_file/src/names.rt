@@ -3,7 +3,8 @@ ghost use Rattle.std.specs.Prelude.{◌≡◌, map, option_map, string_bytes};
 ghost use Rattle.std.specs.List.{list_any};
 ghost use Rattle.toml.specs.Data.{as_table};
 ghost use Rattle.toml.specs.View.{table_view, view};
-ghost use Rattle.machine_file.specs.File.{has_inside, has_section, has_top, unknown_in, unknown_inside, unknown_key};
+ghost use Rattle.machine_file.specs.File.{has_inside, has_section, has_top, unknown_in};
+ghost use Rattle.machine_file.specs.File.{unknown_inside, unknown_key};
 ghost use Rattle.machine_file.specs.Code.{key_of, row_of};
 
 use crate::table::{Key, Row};
@@ -65,7 +66,8 @@ fn is_inside(rows: &[Row], section: &str, name: &str) -> bool
 
 /// The first name inside a section that isn't known.
 fn unknown_inside<'a>(rows: &[Row], section: &'a str, names: &'a Table) -> Option<Key<'a>>
-    ensures { option_map key_of result ≡ unknown_inside (map row_of rows.now) section.now (table_view names.now) }
+    ensures { option_map key_of result ≡ unknown_inside (map row_of rows.now) section.now
+        (table_view names.now) }
 {
     for (name, _) in names.iter() {
         if !is_inside(rows, section, name.as_str()) {
@@ -80,7 +82,8 @@ fn unknown_inside<'a>(rows: &[Row], section: &'a str, names: &'a Table) -> Optio
 
 /// The first unknown name below a known top-level name.
 fn unknown_below<'a>(rows: &[Row], top: &'a str, value: &'a Value) -> Option<Key<'a>>
-    ensures { option_map key_of result ≡ unknown_in (map row_of rows.now) top.now (as_table (view value.now)) }
+    ensures { option_map key_of result ≡ unknown_in (map row_of rows.now) top.now
+        (as_table (view value.now)) }
 {
     match value.as_table() {
         Some(names) if is_section(rows, top) => unknown_inside(rows, top, names),
@@ -88,7 +91,8 @@ fn unknown_below<'a>(rows: &[Row], top: &'a str, value: &'a Value) -> Option<Key
     }
 }
 
-/// The first name that isn't known: names in the order of their bytes, each with those inside before the next.
+/// The first name that isn't known: names in the order of their bytes, each with those inside
+/// before the next.
 pub(crate) fn unknown_key<'a>(rows: &[Row], file: &'a Table) -> Option<Key<'a>>
     ensures { option_map key_of result ≡ unknown_key (map row_of rows.now) (table_view file.now) }
 {

@@ -2,7 +2,8 @@
 ghost use Rattle.std.specs.Prelude.{◌≡◌, IfOk, IfErr, map, pos, Some, None};
 ghost use Rattle.toml.specs.View.{table_view};
 ghost use Rattle.machine_file.specs.Table.{rows};
-ghost use Rattle.machine_file.specs.File.{first_failing, natural, number_fault, ram_base, row_fault, value_of, whole};
+ghost use Rattle.machine_file.specs.File.{first_failing, natural, number_fault, ram_base};
+ghost use Rattle.machine_file.specs.File.{row_fault, value_of, whole};
 ghost use Rattle.machine_file.specs.Code.{fault_of, row_of};
 
 use crate::cause::{Cause, kind};
@@ -32,7 +33,7 @@ fn checked(row: &Row, base: u64, number: i64) -> Result<u32, Cause<'static>>
 /// The number of a row's key.
 #[tactic(auto, unfolding(crate::specs::File::given, crate::specs::File::row_fault))]
 fn number(row: &Row, base: u64, file: &Table) -> Result<u32, Cause<'static>>
-    requires { base ≡ ram_base (table_view file.now) }
+    requires base { base ≡ ram_base (table_view file.now) }
     ensures value { IfOk result (λ n. n ≡ value_of (table_view file.now) (row_of row.now)) }
     ensures clear { IfOk result (λ _. row_fault (table_view file.now) (row_of row.now) ≡ None) }
     ensures fault { IfErr result (λ cause.
@@ -68,8 +69,10 @@ pub(crate) fn numbers(
     rows: &[Row; ROW_COUNT],
     file: &Table,
 ) -> Result<[u32; ROW_COUNT], Cause<'static>>
-    ensures values { IfOk result (λ ns. ns ≡ map (value_of (table_view file.now)) (map row_of rows.now)) }
-    ensures clear { IfOk result (λ _. first_failing (table_view file.now) (map row_of rows.now) ≡ None) }
+    ensures values { IfOk result (λ ns. ns
+        ≡ map (value_of (table_view file.now)) (map row_of rows.now)) }
+    ensures clear { IfOk result (λ _. first_failing (table_view file.now) (map row_of rows.now)
+        ≡ None) }
     ensures fault { IfErr result (λ cause.
         first_failing (table_view file.now) (map row_of rows.now) ≡ Some (fault_of cause)) }
 {

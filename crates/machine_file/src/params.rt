@@ -20,7 +20,8 @@ fn predictor_kind(place: u32) -> PredKind
 
 /// The parameters of which these are the numbers, in the order of the table.
 pub(crate) fn params(numbers: [u32; ROW_COUNT]) -> Params
-    ensures { (file : Members) → numbers ≡ map (value_of file) rows → result ≡ params_by (value_at file) }
+    ensures { (file : Members) → numbers ≡ map (value_of file) rows
+        → result ≡ params_by (value_at file) }
 {
     let [
         version,

@@ -20,7 +20,8 @@ fn between(low: u32, high: u32, number: i64) -> Option<u32>
 
 /// The same for a multiple of 4,096.
 fn pages_between(low: u32, high: u32, number: i64) -> Option<u32>
-    ensures { result ≡ (if lies_between low high number && natural number % 4096 == 0 then Some (natural number) else None) }
+    ensures { result ≡ (if lies_between low high number && natural number % 4096 == 0
+        then Some (natural number) else None) }
 {
     match between(low, high, number) {
         Some(n) if n % PAGE_SIZE == 0 => Some(n),
@@ -30,7 +31,8 @@ fn pages_between(low: u32, high: u32, number: i64) -> Option<u32>
 
 /// The number, where it is in a key's range and RAM begins at `base`.
 pub(crate) fn in_range(base: u64, wanted: &Wanted, number: i64) -> Option<u32>
-    ensures { result ≡ (if is_in_range base (wanted_of wanted.now) number then Some (natural number) else None) }
+    ensures { result ≡ (if is_in_range base (wanted_of wanted.now) number then Some (natural number)
+        else None) }
 {
     match *wanted {
         Wanted::Number { low, high } | Wanted::Power { low, high } => between(low, high, number),

@@ -1,9 +1,11 @@
-ghost use Rattle.std.specs.Prelude.{◌≡◌, ◌≢◌, ◌↔◌, map, None, Some, Err, IfOk, IfErr, IfSome, IsErr, true};
+ghost use Rattle.std.specs.Prelude.{◌≡◌, ◌≢◌, ◌↔◌, map, None, Some, Err, IfOk, IfErr, IfSome};
+ghost use Rattle.std.specs.Prelude.{IsErr, true};
 ghost use Rattle.mono_model.specs.Setup.{are_params};
 ghost use Rattle.toml.specs.Errors.{IsBlank, IsMemory};
 ghost use Rattle.toml.specs.View.{table_view};
 ghost use Rattle.machine_file.specs.Table.{rows};
-ghost use Rattle.machine_file.specs.File.{document, file_fault, IsMachine, known_rows, machine_fault, params_by, value_at};
+ghost use Rattle.machine_file.specs.File.{document, file_fault, IsMachine, known_rows};
+ghost use Rattle.machine_file.specs.File.{machine_fault, params_by, value_at};
 ghost use Rattle.machine_file.specs.Code.{fault_of, row_of};
 
 use crate::cause::{Cause, fault};
@@ -35,8 +37,10 @@ fn refusal(error: &Error) -> MachineFault
 #[tactic(auto, unfolding(crate::specs::File::document))]
 fn document(alloc: Global, bytes: &[u8]) -> Result<Table, MachineFault>
     ensures ok { IfOk result (λ file. document bytes.now ≡ Some (table_view file)) }
-    ensures cause { IfErr result (λ fault. fault ≢ MachineFault.Memory → fault ≡ MachineFault.NotToml) }
-    ensures fault { IfErr result (λ fault. fault ≢ MachineFault.Memory → document bytes.now ≡ None) }
+    ensures cause { IfErr result (λ fault. fault ≢ MachineFault.Memory
+        → fault ≡ MachineFault.NotToml) }
+    ensures fault { IfErr result (λ fault. fault ≢ MachineFault.Memory
+        → document bytes.now ≡ None) }
     ensures memory { result ≡ Err MachineFault.Memory → ¬ IsBlank bytes.now }
 {
     match toml::table_from_slice(alloc, bytes) {
@@ -47,7 +51,7 @@ fn document(alloc: Global, bytes: &[u8]) -> Result<Table, MachineFault>
 
 /// The rows of the names that may stand in a file.
 fn known_rows<'a>(all: &'a [Row; ROW_COUNT], file: &Table) -> &'a [Row]
-    requires { map row_of all.now ≡ rows }
+    requires rows { map row_of all.now ≡ rows }
     ensures { map row_of result.now ≡ known_rows (table_view file.now) }
 {
     if is_second(file) {
@@ -86,16 +90,18 @@ fn told(alloc: Global, cause: Cause<'_>) -> MachineFault
     }
 }
 
-/// The parameters that a machine file gives, or the first fault that applies. The names that the table of keys lacks come
-/// first, in the order of their bytes, and then the faults of the keys in the order of the table. A key that is left out
-/// has its default, which is tested too. A key's kind is tested before its range, and its range before the power of two.
+/// The parameters that a machine file gives, or the first fault that applies. The names that the
+/// table of keys lacks come first, in the order of their bytes, and then the faults of the keys in
+/// the order of the table. A key that is left out has its default, which is tested too. A key's
+/// kind is tested before its range, and its range before the power of two.
 ///
 /// Takes time that grows with the length of the file, and memory for its table.
 ///
 /// # Errors
 ///
-/// The cases of `MachineFault`. That of memory comes only where memory was wanted and not found: where TOML says so, and for
-/// the text of a fault's key. A file of white space and comments takes none.
+/// The cases of `MachineFault`. That of memory comes only where memory was wanted and not found:
+/// where TOML says so, and for the text of a fault's key. A file of white space and comments takes
+/// none.
 #[tactic(auto, using(crate::proofs::Blanks::blank_clear), unfolding(crate::specs::File::machine_fault, crate::specs::File::params_of))]
 pub fn read(alloc: Global, bytes: &[u8]) -> Result<Params, MachineFault>
     ensures params { IfOk result (λ params. IsMachine bytes.now params) }

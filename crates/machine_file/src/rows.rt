@@ -16,7 +16,7 @@ pub(crate) fn all_rows() -> [Row; ROW_COUNT]
 /// The keys of version 1 among all.
 #[tactic(auto, unfolding(crate::specs::Table::first_rows, crate::specs::Table::second_rows, crate::specs::Table::rows))]
 pub(crate) fn first_rows(all: &[Row; ROW_COUNT]) -> &[Row]
-    requires { map row_of all.now ≡ rows }
+    requires rows { map row_of all.now ≡ rows }
     ensures { map row_of result.now ≡ first_rows }
 {
     &all[..FIRST_COUNT]

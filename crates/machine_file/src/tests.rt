@@ -5,44 +5,6 @@ use mono_model::Params;
 use std::alloc::{AllocError, Global};
 use std::test::Fail;
 
-/// The machine of an empty file.
-const PLAIN: Params = Params {
-    version: 1,
-    ram_base: 0x8000_0000,
-    ram_size: 16_777_216,
-    core_fetch: 1,
-    core_commit: 1,
-    core_front: 1,
-    core_window: 1,
-    core_stations: 256,
-    alu_count: 1,
-    alu_latency: 1,
-    mul_count: 1,
-    mul_latency: 1,
-    div_count: 1,
-    div_latency: 1,
-    mem_count: 1,
-    mem_latency: 1,
-    predictor_kind: PredKind::Static,
-    predictor_counters: 1024,
-    predictor_history: 8,
-    predictor_targets: 0,
-    icache_line: 64,
-    icache_sets: 64,
-    icache_ways: 0,
-    icache_miss: 20,
-    dcache_line: 64,
-    dcache_sets: 64,
-    dcache_ways: 0,
-    dcache_miss: 20,
-    dcache_back: false,
-    l2_line: 64,
-    l2_sets: 512,
-    l2_ways: 0,
-    l2_hit: 10,
-    l2_miss: 100,
-};
-
 /// A file with another value for each key.
 const ALL_KEYS: &str = "
 version = 2
@@ -274,30 +236,33 @@ fn answer(alloc: Global, file: &str) -> Result<String, AllocError> {
 }
 
 #[test]
-fn machines(rt: HostRuntime) -> Result<(), Fail> {
+fn files_give_their_machines(rt: HostRuntime) -> Result<(), Fail> {
+    let plain = Params::plain();
     let wide = Params {
         core_fetch: 2,
         core_window: 16,
-        ..PLAIN
+        ..plain
     };
     for (file, wanted) in [
-        ("", PLAIN),
-        ("# nothing\n", PLAIN),
+        ("", plain),
+        ("# nothing\n", plain),
         (
             "version = 2",
             Params {
                 version: 2,
-                ..PLAIN
+                ..plain
             },
         ),
-        ("[core]\n[alu]\n", PLAIN),
+        ("[core]\n[alu]\n", plain),
         ("core.fetch = 2\ncore.window = 16\n", wide),
         ("[core]\r\nfetch = 2\r\nwindow = 16\r\n", wide),
         ("core = { window = 16, fetch = 2 }", wide),
         ("\"core\".'window' = 0x10\ncore.fetch = +2", wide),
         ("core.window = 1_6\ncore.fetch = 0b10", wide),
         (
-            "version = 1\n\n[core] # four wide\nfetch = 4\ncommit = 4\nwindow = 64\n\n[predictor]\nkind = \"bimodal\"\ntargets = 64\n\n[icache]\nways = 4\n\n[dcache]\nways = 4\nmiss = 1000\n",
+            "version = 1\n\n[core] # four wide\nfetch = 4\ncommit = 4\nwindow = 64\n\n\
+             [predictor]\nkind = \"bimodal\"\ntargets = 64\n\n\
+             [icache]\nways = 4\n\n[dcache]\nways = 4\nmiss = 1000\n",
             Params {
                 core_fetch: 4,
                 core_commit: 4,
@@ -307,7 +272,7 @@ fn machines(rt: HostRuntime) -> Result<(), Fail> {
                 icache_ways: 4,
                 dcache_ways: 4,
                 dcache_miss: 1000,
-                ..PLAIN
+                ..plain
             },
         ),
         (ALL_KEYS, ALL_OTHERS),
@@ -324,7 +289,7 @@ fn machines(rt: HostRuntime) -> Result<(), Fail> {
 }
 
 #[test]
-fn refused_files(rt: HostRuntime) -> Result<(), Fail> {
+fn files_are_refused_with_their_first_fault(rt: HostRuntime) -> Result<(), Fail> {
     for (file, wanted) in REFUSED {
         let text = answer(rt.alloc(), file)?;
         assert_eq!(rt; text.as_str(), wanted, "the file {file}");
@@ -333,7 +298,7 @@ fn refused_files(rt: HostRuntime) -> Result<(), Fail> {
 }
 
 #[test]
-fn ends_of_ranges(rt: HostRuntime) -> Result<(), Fail> {
+fn both_ends_of_a_range_are_in_it(rt: HostRuntime) -> Result<(), Fail> {
     let alloc = rt.alloc();
     for (key, low, high) in RANGES {
         let version = if key.starts_with("l2") {
@@ -357,7 +322,7 @@ fn ends_of_ranges(rt: HostRuntime) -> Result<(), Fail> {
 }
 
 #[test]
-fn places_of_ram(rt: HostRuntime) -> Result<(), Fail> {
+fn ram_lies_within_the_addresses(rt: HostRuntime) -> Result<(), Fail> {
     let alloc = rt.alloc();
     for (keys, wanted) in RAMS {
         let file = format!(in alloc; "[ram]\n{keys}")?;
@@ -368,7 +333,7 @@ fn places_of_ram(rt: HostRuntime) -> Result<(), Fail> {
 }
 
 #[test]
-fn hostile_bytes(rt: HostRuntime) -> Result<(), Fail> {
+fn bytes_that_are_no_document_are_refused(rt: HostRuntime) -> Result<(), Fail> {
     assert!(rt; matches!(read(rt.alloc(), &[0xff]), Err(MachineFault::NotToml)));
     assert!(rt;
         matches!(
@@ -392,11 +357,11 @@ fn hostile_bytes(rt: HostRuntime) -> Result<(), Fail> {
 
 /// How long a file may be is the program's to say: this crate reads one of any length.
 #[test]
-fn comment_of_65_537_bytes(rt: HostRuntime) -> Result<(), Fail> {
+fn comment_of_65_537_bytes_is_the_plain_machine(rt: HostRuntime) -> Result<(), Fail> {
     let mut comment = Vec::new(rt.alloc());
     for _ in 0..65_537 {
         comment.push(b'#')?;
     }
-    assert!(rt; matches!(read(rt.alloc(), comment.as_slice()), Ok(params) if params == PLAIN));
+    assert!(rt; matches!(read(rt.alloc(), comment.as_slice()), Ok(params) if params == Params::plain()));
     Ok(())
 }

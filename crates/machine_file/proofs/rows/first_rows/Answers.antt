@@ -10,4 +10,4 @@ unfolding first_rows second_rows rows
 begins = refl
 
 pub returns : goal.returns
-returns c = sym (take-map row_of 28 c.args.all.now) ∙ ap (take 28) c.requires ∙ begins
+returns c = sym (take-map row_of 28 c.args.all.now) ∙ ap (take 28) c.requires.rows ∙ begins
