@@ -3,7 +3,9 @@
 -- RV32I, M and Zicsr; privileged manual, section 3.3).
 use Rattle.std.specs.Prelude.{ℕ, ◌-◌, ◌*◌, ◌^◌, true, false}
 use Rattle.rv_decode.specs.declared.insn.Insn.{Insn}
-use Rattle.rv_decode.specs.declared.insn.Insn.TheVariants.{Lui, Auipc, Jal, Jalr, Branch, Load, Store, OpImm, Op, MulDiv, Ecall, Mret, Csr}
+use Rattle.rv_decode.specs.declared.insn.Insn.TheVariants.{Lui, Auipc, Jal, Jalr, Branch, Load}
+use Rattle.rv_decode.specs.declared.insn.Insn.TheVariants.{Store, OpImm, Op, MulDiv, Ecall, Mret}
+use Rattle.rv_decode.specs.declared.insn.Insn.TheVariants.{Csr}
 
 -- a negative immediate
 abbrev pub minus : ℕ → ℕ

@@ -8,7 +8,9 @@ use Rattle.rand_pcg.specs.Lcg.{Lcg, started, increment_of}
 use Rattle.rand_pcg.specs.Pcg.{multiplier_64}
 use Rattle.rv_decode.specs.declared.insn.Insn.{Insn}
 use Rattle.rv_decode.specs.Encode.{encode_of}
-use Rattle.gen_image.specs.Assembly.{minus, upper, lui, auipc, addi, andi, add, sub, sll, sltu, xor, or, mul, divu, lw, sw, bne, blt, jal, jalr, csrrw, csrrs, csrrsi, ecall, mret, mstatus, mie, mtvec, mepc, mcause}
+use Rattle.gen_image.specs.Assembly.{minus, upper, lui, auipc, addi, andi, add, sub, sll, sltu, xor}
+use Rattle.gen_image.specs.Assembly.{or, mul, divu, lw, sw, bne, blt, jal, jalr, csrrw, csrrs}
+use Rattle.gen_image.specs.Assembly.{csrrsi, ecall, mret, mstatus, mie, mtvec, mepc, mcause}
 use Rattle.gen_image.specs.Draws.{Code, with_draw, with_register, plain, in_turn, each}
 
 -- The beginning. The handler goes on behind an exception's instruction, and at a timer interrupt

@@ -1,7 +1,9 @@
 ghost use Rattle.std.specs.Prelude.{◌≡◌, ◌<◌};
 ghost use Rattle.rv_decode.specs.Encode.{encode_of};
 ghost use Rattle.rv_decode.specs.Fits.{Fits};
-ghost use Rattle.gen_image.specs.Assembly.{minus, lui, auipc, addi, andi, add, sub, sll, sltu, xor, or, mul, divu, lw, sw, bne, blt, jal, jalr, csrrw, csrrs, csrrsi, ecall, mret};
+ghost use Rattle.gen_image.specs.Assembly.{minus, lui, auipc, addi, andi, add, sub, sll, sltu, xor};
+ghost use Rattle.gen_image.specs.Assembly.{or, mul, divu, lw, sw, bne, blt, jal, jalr, csrrw};
+ghost use Rattle.gen_image.specs.Assembly.{csrrs, csrrsi, ecall, mret};
 
 use rv_decode::{Insn, encode};
 
@@ -18,28 +20,28 @@ pub const MCAUSE: u16 = 0x342;
 
 /// A negative immediate.
 pub fn minus(number: u32) -> u32
-    requires { 0 < number }
+    requires positive { 0 < number }
     ensures { result ≡ minus number }
 {
     u32::MAX - number + 1
 }
 
 pub fn lui(rd: u8, imm: u32) -> u32
-    requires { Fits (lui rd imm) }
+    requires fits { Fits (lui rd imm) }
     ensures { result ≡ encode_of (lui rd imm) }
 {
     encode(Insn::Lui { rd, imm })
 }
 
 pub fn auipc(rd: u8, imm: u32) -> u32
-    requires { Fits (auipc rd imm) }
+    requires fits { Fits (auipc rd imm) }
     ensures { result ≡ encode_of (auipc rd imm) }
 {
     encode(Insn::Auipc { rd, imm })
 }
 
 pub fn addi(rd: u8, rs1: u8, imm: u32) -> u32
-    requires { Fits (addi rd rs1 imm) }
+    requires fits { Fits (addi rd rs1 imm) }
     ensures { result ≡ encode_of (addi rd rs1 imm) }
 {
     encode(Insn::OpImm {
@@ -52,7 +54,7 @@ pub fn addi(rd: u8, rs1: u8, imm: u32) -> u32
 }
 
 pub fn andi(rd: u8, rs1: u8, imm: u32) -> u32
-    requires { Fits (andi rd rs1 imm) }
+    requires fits { Fits (andi rd rs1 imm) }
     ensures { result ≡ encode_of (andi rd rs1 imm) }
 {
     encode(Insn::OpImm {
@@ -65,7 +67,7 @@ pub fn andi(rd: u8, rs1: u8, imm: u32) -> u32
 }
 
 pub fn add(rd: u8, rs1: u8, rs2: u8) -> u32
-    requires { Fits (add rd rs1 rs2) }
+    requires fits { Fits (add rd rs1 rs2) }
     ensures { result ≡ encode_of (add rd rs1 rs2) }
 {
     encode(Insn::Op {
@@ -78,7 +80,7 @@ pub fn add(rd: u8, rs1: u8, rs2: u8) -> u32
 }
 
 pub fn sub(rd: u8, rs1: u8, rs2: u8) -> u32
-    requires { Fits (sub rd rs1 rs2) }
+    requires fits { Fits (sub rd rs1 rs2) }
     ensures { result ≡ encode_of (sub rd rs1 rs2) }
 {
     encode(Insn::Op {
@@ -91,7 +93,7 @@ pub fn sub(rd: u8, rs1: u8, rs2: u8) -> u32
 }
 
 pub fn sll(rd: u8, rs1: u8, rs2: u8) -> u32
-    requires { Fits (sll rd rs1 rs2) }
+    requires fits { Fits (sll rd rs1 rs2) }
     ensures { result ≡ encode_of (sll rd rs1 rs2) }
 {
     encode(Insn::Op {
@@ -104,7 +106,7 @@ pub fn sll(rd: u8, rs1: u8, rs2: u8) -> u32
 }
 
 pub fn sltu(rd: u8, rs1: u8, rs2: u8) -> u32
-    requires { Fits (sltu rd rs1 rs2) }
+    requires fits { Fits (sltu rd rs1 rs2) }
     ensures { result ≡ encode_of (sltu rd rs1 rs2) }
 {
     encode(Insn::Op {
@@ -117,7 +119,7 @@ pub fn sltu(rd: u8, rs1: u8, rs2: u8) -> u32
 }
 
 pub fn xor(rd: u8, rs1: u8, rs2: u8) -> u32
-    requires { Fits (xor rd rs1 rs2) }
+    requires fits { Fits (xor rd rs1 rs2) }
     ensures { result ≡ encode_of (xor rd rs1 rs2) }
 {
     encode(Insn::Op {
@@ -130,7 +132,7 @@ pub fn xor(rd: u8, rs1: u8, rs2: u8) -> u32
 }
 
 pub fn or(rd: u8, rs1: u8, rs2: u8) -> u32
-    requires { Fits (or rd rs1 rs2) }
+    requires fits { Fits (or rd rs1 rs2) }
     ensures { result ≡ encode_of (or rd rs1 rs2) }
 {
     encode(Insn::Op {
@@ -143,7 +145,7 @@ pub fn or(rd: u8, rs1: u8, rs2: u8) -> u32
 }
 
 pub fn mul(rd: u8, rs1: u8, rs2: u8) -> u32
-    requires { Fits (mul rd rs1 rs2) }
+    requires fits { Fits (mul rd rs1 rs2) }
     ensures { result ≡ encode_of (mul rd rs1 rs2) }
 {
     encode(Insn::MulDiv {
@@ -155,7 +157,7 @@ pub fn mul(rd: u8, rs1: u8, rs2: u8) -> u32
 }
 
 pub fn divu(rd: u8, rs1: u8, rs2: u8) -> u32
-    requires { Fits (divu rd rs1 rs2) }
+    requires fits { Fits (divu rd rs1 rs2) }
     ensures { result ≡ encode_of (divu rd rs1 rs2) }
 {
     encode(Insn::MulDiv {
@@ -168,7 +170,7 @@ pub fn divu(rd: u8, rs1: u8, rs2: u8) -> u32
 
 /// `lw rd, imm(rs1)`
 pub fn lw(rd: u8, imm: u32, rs1: u8) -> u32
-    requires { Fits (lw rd imm rs1) }
+    requires fits { Fits (lw rd imm rs1) }
     ensures { result ≡ encode_of (lw rd imm rs1) }
 {
     encode(Insn::Load {
@@ -181,7 +183,7 @@ pub fn lw(rd: u8, imm: u32, rs1: u8) -> u32
 
 /// `sw rs2, imm(rs1)`
 pub fn sw(rs2: u8, imm: u32, rs1: u8) -> u32
-    requires { Fits (sw rs2 imm rs1) }
+    requires fits { Fits (sw rs2 imm rs1) }
     ensures { result ≡ encode_of (sw rs2 imm rs1) }
 {
     encode(Insn::Store {
@@ -193,7 +195,7 @@ pub fn sw(rs2: u8, imm: u32, rs1: u8) -> u32
 }
 
 pub fn bne(rs1: u8, rs2: u8, imm: u32) -> u32
-    requires { Fits (bne rs1 rs2 imm) }
+    requires fits { Fits (bne rs1 rs2 imm) }
     ensures { result ≡ encode_of (bne rs1 rs2 imm) }
 {
     encode(Insn::Branch {
@@ -205,7 +207,7 @@ pub fn bne(rs1: u8, rs2: u8, imm: u32) -> u32
 }
 
 pub fn blt(rs1: u8, rs2: u8, imm: u32) -> u32
-    requires { Fits (blt rs1 rs2 imm) }
+    requires fits { Fits (blt rs1 rs2 imm) }
     ensures { result ≡ encode_of (blt rs1 rs2 imm) }
 {
     encode(Insn::Branch {
@@ -217,7 +219,7 @@ pub fn blt(rs1: u8, rs2: u8, imm: u32) -> u32
 }
 
 pub fn jal(rd: u8, imm: u32) -> u32
-    requires { Fits (jal rd imm) }
+    requires fits { Fits (jal rd imm) }
     ensures { result ≡ encode_of (jal rd imm) }
 {
     encode(Insn::Jal { rd, imm })
@@ -225,14 +227,14 @@ pub fn jal(rd: u8, imm: u32) -> u32
 
 /// `jalr rd, imm(rs1)`
 pub fn jalr(rd: u8, imm: u32, rs1: u8) -> u32
-    requires { Fits (jalr rd imm rs1) }
+    requires fits { Fits (jalr rd imm rs1) }
     ensures { result ≡ encode_of (jalr rd imm rs1) }
 {
     encode(Insn::Jalr { rd, rs1, imm })
 }
 
 pub fn csrrw(rd: u8, csr: u16, rs1: u8) -> u32
-    requires { Fits (csrrw rd csr rs1) }
+    requires fits { Fits (csrrw rd csr rs1) }
     ensures { result ≡ encode_of (csrrw rd csr rs1) }
 {
     encode(Insn::Csr {
@@ -244,7 +246,7 @@ pub fn csrrw(rd: u8, csr: u16, rs1: u8) -> u32
 }
 
 pub fn csrrs(rd: u8, csr: u16, rs1: u8) -> u32
-    requires { Fits (csrrs rd csr rs1) }
+    requires fits { Fits (csrrs rd csr rs1) }
     ensures { result ≡ encode_of (csrrs rd csr rs1) }
 {
     encode(Insn::Csr {
@@ -256,7 +258,7 @@ pub fn csrrs(rd: u8, csr: u16, rs1: u8) -> u32
 }
 
 pub fn csrrsi(rd: u8, csr: u16, imm: u8) -> u32
-    requires { Fits (csrrsi rd csr imm) }
+    requires fits { Fits (csrrsi rd csr imm) }
     ensures { result ≡ encode_of (csrrsi rd csr imm) }
 {
     encode(Insn::Csr {

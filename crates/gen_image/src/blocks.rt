@@ -1,7 +1,8 @@
 ghost use Rattle.std.specs.Prelude.{◌≡◌, ◌<◌, get_or, map};
 ghost use Rattle.rv_decode.specs.Encode.{encode_of};
 ghost use Rattle.gen_image.specs.Assembly.{add};
-ghost use Rattle.gen_image.specs.Soak.{first_value, operation, operations, skip, memory, turns, call};
+ghost use Rattle.gen_image.specs.Soak.{first_value, operation, operations, skip, memory, turns};
+ghost use Rattle.gen_image.specs.Soak.{call};
 
 use crate::assembly::{
     add, addi, andi, bne, divu, jal, jalr, lw, minus, mul, or, sll, sltu, sub, sw, xor,
@@ -11,7 +12,7 @@ use rand_pcg::Lcg64Xsh32;
 
 /// The first value of a register.
 pub fn first_value(x: u8, rng: &mut Lcg64Xsh32) -> [u32; 1]
-    requires { x < 32 }
+    requires register { x < 32 }
     ensures code { result ≡ map encode_of (first_value x rng.old).0 }
     ensures next { rng.new ≡ (first_value x rng.old).1 }
 {

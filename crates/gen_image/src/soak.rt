@@ -4,7 +4,8 @@ ghost use Rattle.elf_image.specs.Write.{IsNumbered, words};
 ghost use Rattle.rv_decode.specs.Encode.{encode_of};
 ghost use Rattle.gen_image.specs.Draws.{each};
 ghost use Rattle.gen_image.specs.Made.{Adds};
-ghost use Rattle.gen_image.specs.Soak.{handler, opening, first_value, operation, block, ending, soak_code, generator, program_at, soak_image, plain_ram};
+ghost use Rattle.gen_image.specs.Soak.{handler, opening, first_value, operation, block, ending};
+ghost use Rattle.gen_image.specs.Soak.{soak_code, generator, program_at, soak_image, plain_ram};
 
 use crate::assembly::{
     MCAUSE, MEPC, MIE, MSTATUS, MTVEC, addi, auipc, blt, csrrs, csrrsi, csrrw, ecall, jal, lui, lw,
