@@ -9,7 +9,11 @@ use Rattle.mono_model.specs.Report.{line_feed}
 use Rattle.report_text.specs.declared.status.Role.{Role}
 use Rattle.report_text.specs.declared.status.Role.TheVariants as role
 use Rattle.report_text.specs.declared.status.Status.{Status}
-use Rattle.report_text.specs.declared.status.Status.TheVariants.{Pass, Fail, Limit, OutputFull, Running, Shown, Usage, Image, Machine, Missing, ReadFault, WriteFault, Memory, TooLong, BadPlan, Later, BadScript, Sets}
+use Rattle.report_text.specs.declared.status.Status.TheVariants.{Pass, Fail, Limit, OutputFull}
+use Rattle.report_text.specs.declared.status.Status.TheVariants.{Running, Shown, Usage, Image}
+use Rattle.report_text.specs.declared.status.Status.TheVariants.{Machine, Missing, ReadFault}
+use Rattle.report_text.specs.declared.status.Status.TheVariants.{WriteFault, Memory, TooLong}
+use Rattle.report_text.specs.declared.status.Status.TheVariants.{BadPlan, Later, BadScript, Sets}
 
 -- the exit status
 abbrev pub status_number : Status → ℕ
@@ -32,7 +36,8 @@ status_number (Later command) = 20
 status_number (BadScript line) = 21
 status_number (Sets named) = 22
 
--- what is wrong with an image or a machine file has a line; want of memory is an answer of its own and no fault of theirs
+-- what is wrong with an image or a machine file has a line; want of memory is an answer of its own
+-- and no fault of theirs
 abbrev pub has_image_line : ImageFault → Bool
 has_image_line image.Memory = false
 has_image_line fault = true
@@ -81,15 +86,18 @@ abbrev pub machine_fault_text : MachineFault → List ℕ
 machine_fault_text machine.NotToml = codes "not toml"
 machine_fault_text (machine.Unknown key) = codes "unknown " ++ key
 machine_fault_text (machine.Kind key) = codes "kind " ++ key
-machine_fault_text (machine.Range key value) = codes "range " ++ key ++ codes " " ++ signed_decimal value
-machine_fault_text (machine.Power key value) = codes "power " ++ key ++ codes " " ++ signed_decimal value
+machine_fault_text (machine.Range key value) =
+    codes "range " ++ key ++ codes " " ++ signed_decimal value
+machine_fault_text (machine.Power key value) =
+    codes "power " ++ key ++ codes " " ++ signed_decimal value
 machine_fault_text machine.Memory = []
 
 -- the line of words that are none, with all commands
 unfoldable pub usage_text : List ℕ
 usage_text =
-    codes "fast: usage: fast func IMAGE, run IMAGE MACHINE, sched IMAGE MACHINE PLAN, soak SEED, back IMAGE SCRIPT, "
-    ++ codes "inorder IMAGE MACHINE PLAN, sweep IMAGE MACHINES" ++ line_feed
+    codes "fast: usage: fast func IMAGE, run IMAGE MACHINE, sched IMAGE MACHINE PLAN, "
+    ++ codes "soak SEED, back IMAGE SCRIPT, inorder IMAGE MACHINE PLAN, sweep IMAGE MACHINES"
+    ++ line_feed
 
 -- the line of an answer that has one
 unfoldable pub fault_text : Status → List ℕ
@@ -99,7 +107,8 @@ fault_text (Machine fault) = codes "fast: machine: " ++ machine_fault_text fault
 fault_text (Missing role) = codes "fast: missing: " ++ role_text role ++ line_feed
 fault_text (ReadFault role) = codes "fast: read fault: " ++ role_text role ++ line_feed
 fault_text Memory = codes "fast: no memory" ++ line_feed
-fault_text (TooLong role limit) = codes "fast: too long: " ++ role_text role ++ codes " " ++ decimal limit ++ line_feed
+fault_text (TooLong role limit) =
+    codes "fast: too long: " ++ role_text role ++ codes " " ++ decimal limit ++ line_feed
 fault_text (BadPlan place) = codes "fast: bad plan: " ++ decimal place ++ line_feed
 fault_text (Later command) = codes "fast: later: " ++ command ++ line_feed
 fault_text (BadScript line) = codes "fast: bad script: " ++ decimal line ++ line_feed

@@ -7,4 +7,5 @@ use Rattle.mono_model.specs.Report.{closed_output, func_report_text}
 -- the output of the run to its end, closed by a line feed where it ends open, and the report
 unfoldable pub func_text : Setup → List ℕ
 func_text s =
-    let run = alone s s.cycles in closed_output run.arch.output ++ func_report_text (alone_final run)
+    let run = alone s s.cycles in closed_output run.arch.output
+    ++ func_report_text (alone_final run)

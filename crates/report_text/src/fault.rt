@@ -2,7 +2,9 @@ ghost use Rattle.std.specs.Prelude.{◌≡◌, true, ◌+◌, ◌≤◌, ◌++�
 ghost use Rattle.std.specs.Fmt.{signed_decimal};
 ghost use Rattle.fsim_ports.specs.Sink.{Puts};
 ghost use Rattle.mono_model.specs.Report.{line, line_feed};
-ghost use Rattle.report_text.specs.FaultText.{role_text, image_fault_text, machine_fault_text, usage_text, has_image_line, has_machine_line, has_line, fault_text};
+ghost use Rattle.report_text.specs.FaultText.{role_text, image_fault_text, machine_fault_text};
+ghost use Rattle.report_text.specs.FaultText.{usage_text, has_image_line, has_machine_line};
+ghost use Rattle.report_text.specs.FaultText.{has_line, fault_text};
 
 use crate::keyed::keyed_line;
 use crate::line::Line;
@@ -15,7 +17,7 @@ use machine_file::MachineFault;
 
 /// A line's beginning and a file's role.
 fn role_head(head: &[u8], role: Role) -> Line
-    requires { length head.now ≤ 40 }
+    requires head { length head.now ≤ 40 }
     ensures text { result ≡ head.now ++ role_text role }
     ensures len { length result ≤ length head.now + 7 }
 {
@@ -32,7 +34,7 @@ fn role_head(head: &[u8], role: Role) -> Line
 }
 
 fn role_line(head: &[u8], role: Role) -> Line
-    requires { length head.now ≤ 40 }
+    requires head { length head.now ≤ 40 }
     ensures text { result ≡ line head.now (role_text role) }
 {
     let mut line = role_head(head, role);
@@ -41,7 +43,8 @@ fn role_line(head: &[u8], role: Role) -> Line
 }
 
 fn too_long_line(role: Role, limit: u64) -> Line
-    ensures text { result ≡ codes "fast: too long: " ++ role_text role ++ codes " " ++ decimal limit ++ line_feed }
+    ensures text { result ≡ codes "fast: too long: " ++ role_text role ++ codes " " ++ decimal limit
+        ++ line_feed }
 {
     let mut line = role_head(b"fast: too long: ", role);
     line.byte(b' ');
@@ -102,9 +105,10 @@ fn image_line(fault: ImageFault) -> Line
 
 /// Writes a name and a number as a line.
 fn put_count<K: Sink>(name: &[u8], number: u64, sink: &mut K) -> Result<(), WriteFault>
-    requires { length name.now ≤ 40 }
+    requires name { length name.now ≤ 40 }
     ensures count { K.faults sink.old ≤ K.faults sink.new }
-    ensures written { Puts (name.now ++ decimal number ++ line_feed) (K.faults sink.old) (K.faults sink.new) (K.written sink.old) (K.written sink.new) result }
+    ensures written { Puts (name.now ++ decimal number ++ line_feed) (K.faults sink.old)
+        (K.faults sink.new) (K.written sink.old) (K.written sink.new) result }
 {
     put_piece(count_line(name, number).as_slice(), sink)
 }
@@ -135,7 +139,9 @@ fn put_key<K: Sink>(head: &[u8], key: &[u8], tail: &[u8], sink: &mut K) -> Resul
 /// Writes a beginning, a key and its value. The key may have any length.
 fn put_value<K: Sink>(head: &[u8], key: &[u8], value: &i64, sink: &mut K) -> Result<(), WriteFault>
     ensures count { K.faults sink.old ≤ K.faults sink.new }
-    ensures written { Puts (head.now ++ key.now ++ codes " " ++ signed_decimal value.now ++ line_feed) (K.faults sink.old) (K.faults sink.new) (K.written sink.old) (K.written sink.new) result }
+    ensures written { Puts (head.now ++ key.now ++ codes " " ++ signed_decimal value.now
+        ++ line_feed) (K.faults sink.old) (K.faults sink.new) (K.written sink.old)
+        (K.written sink.new) result }
 {
     let tail = value_tail(*value);
     put_key(head, key, tail.as_slice(), sink)
@@ -145,7 +151,8 @@ fn put_value<K: Sink>(head: &[u8], key: &[u8], value: &i64, sink: &mut K) -> Res
 fn machine_line<K: Sink>(fault: &MachineFault, sink: &mut K) -> Result<(), WriteFault>
     requires told { has_machine_line fault.now ≡ true }
     ensures count { K.faults sink.old ≤ K.faults sink.new }
-    ensures written { Puts (line (codes "fast: machine: ") (machine_fault_text fault.now)) (K.faults sink.old) (K.faults sink.new) (K.written sink.old) (K.written sink.new) result }
+    ensures written { Puts (line (codes "fast: machine: ") (machine_fault_text fault.now))
+        (K.faults sink.old) (K.faults sink.new) (K.written sink.old) (K.written sink.new) result }
 {
     match fault {
         MachineFault::NotToml => put_piece(b"fast: machine: not toml\n", sink),
@@ -167,24 +174,27 @@ fn machine_line<K: Sink>(fault: &MachineFault, sink: &mut K) -> Result<(), Write
 #[tactic(auto, unfolding(crate::specs::FaultText::usage_text))]
 fn usage_line<K: Sink>(sink: &mut K) -> Result<(), WriteFault>
     ensures count { K.faults sink.old ≤ K.faults sink.new }
-    ensures written { Puts usage_text (K.faults sink.old) (K.faults sink.new) (K.written sink.old) (K.written sink.new) result }
+    ensures written { Puts usage_text (K.faults sink.old) (K.faults sink.new) (K.written sink.old)
+        (K.written sink.new) result }
 {
     put_piece(
-        b"fast: usage: fast func IMAGE, run IMAGE MACHINE, sched IMAGE MACHINE PLAN, soak SEED, back IMAGE SCRIPT, inorder IMAGE MACHINE PLAN, sweep IMAGE MACHINES\n",
+        b"fast: usage: fast func IMAGE, run IMAGE MACHINE, sched IMAGE MACHINE PLAN, \
+          soak SEED, back IMAGE SCRIPT, inorder IMAGE MACHINE PLAN, sweep IMAGE MACHINES\n",
         sink,
     )
 }
 
-/// Writes the line of an answer that has one, by one `put_all`. Only a key that no machine file within its limit has is
-/// put in pieces.
+/// Writes the line of an answer that has one, by one `put_all`. Only a key that no machine file
+/// within its limit has is put in pieces.
 ///
-/// Ok says that the whole line was written. A fault comes only where the sink's count of faults rose, and then a proper
-/// prefix of the line was written. It takes no memory.
+/// Ok says that the whole line was written. A fault comes only where the sink's count of faults
+/// rose, and then a proper prefix of the line was written. It takes no memory.
 #[tactic(auto, unfolding(crate::specs::FaultText::fault_text))]
 pub fn fault_line<K: Sink>(status: &Status, sink: &mut K) -> Result<(), WriteFault>
     requires line { has_line status.now ≡ true }
     ensures count { K.faults sink.old ≤ K.faults sink.new }
-    ensures written { Puts (fault_text status.now) (K.faults sink.old) (K.faults sink.new) (K.written sink.old) (K.written sink.new) result }
+    ensures written { Puts (fault_text status.now) (K.faults sink.old) (K.faults sink.new)
+        (K.written sink.old) (K.written sink.new) result }
 {
     match status {
         Status::Usage => usage_line(sink),

@@ -1,4 +1,5 @@
-//! What the program writes: the reports of its runs and the lines of its faults, none of which takes memory.
+//! What the program writes: the reports of its runs and the lines of its faults, none of which
+//! takes memory.
 #![tactic(auto)]
 
 mod fault;

@@ -9,7 +9,8 @@ use std::marker::Model;
 /// How many bytes a line has room for.
 const ROOM: usize = 160;
 
-/// A line of text while it is written, which takes no memory. Contracts see it as the list of its bytes.
+/// A line of text while it is written, which takes no memory. Contracts see it as the list of its
+/// bytes.
 #[derive(Drop)]
 pub struct Line {
     text: ArrayVec<u8, ROOM>,
@@ -25,7 +26,7 @@ impl Model for Line {
 
 /// A hexadecimal digit in small letters.
 fn hex_digit(value: u8) -> u8
-    requires { value < 16 }
+    requires digit { value < 16 }
     ensures digit { result ≡ hex_digit value }
 {
     if value < 10 {

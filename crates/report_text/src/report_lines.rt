@@ -1,7 +1,9 @@
 ghost use Rattle.std.specs.Prelude.{◌≡◌, ◌+◌, ◌≤◌, ◌<◌, length, codes, decimal, ◌++◌, slice_index};
-ghost use Rattle.mono_model.specs.Report.{line, count_line, misses_line, status_text, register_text, register_line, hex};
+ghost use Rattle.mono_model.specs.Report.{line, count_line, misses_line, status_text};
+ghost use Rattle.mono_model.specs.Report.{register_text, register_line, hex};
 ghost use Rattle.machine_csr.specs.Csr.{flag};
-ghost use Rattle.report_text.specs.Lines.{output_line, pc_line, interrupt_csrs_line, trap_csrs_line};
+ghost use Rattle.report_text.specs.Lines.{output_line, pc_line, interrupt_csrs_line};
+ghost use Rattle.report_text.specs.Lines.{trap_csrs_line};
 
 use crate::line::Line;
 use machine_csr::Csrs;
@@ -29,7 +31,7 @@ pub fn status_line(end: End) -> Line
 
 /// A name and a number.
 pub fn count_line(name: &[u8], number: u64) -> Line
-    requires { length name.now ≤ 40 }
+    requires name { length name.now ≤ 40 }
     ensures text { result ≡ count_line name.now number }
 {
     let mut line = Line::new();
@@ -41,7 +43,7 @@ pub fn count_line(name: &[u8], number: u64) -> Line
 
 /// A name, and how many accesses there were and how many of them missed.
 pub fn misses_line(name: &[u8], accesses: u64, misses: u64) -> Line
-    requires { length name.now ≤ 40 }
+    requires name { length name.now ≤ 40 }
     ensures text { result ≡ misses_line name.now accesses misses }
 {
     let mut line = Line::new();
@@ -90,7 +92,7 @@ fn register(line: &mut Line, regs: &[u32; 32], number: usize)
 
 /// Four registers, from this one on.
 pub fn register_line(regs: &[u32; 32], first: usize) -> Line
-    requires { first + 3 < 32 }
+    requires registers { first + 3 < 32 }
     ensures text { result ≡ register_line regs.now first }
 {
     let mut line = Line::new();

@@ -156,7 +156,8 @@ fn report_breaks_off_at_each_put(rt: HostRuntime) -> Result<(), Fail> {
     Ok(())
 }
 
-/// Writes the line of a status over a sink whose second put fails, and compares it and the number: a line is one put.
+/// Writes the line of a status over a sink whose second put fails, and compares it and the number:
+/// a line is one put.
 fn check(
     rt: &impl Abort,
     alloc: Global,
@@ -183,7 +184,8 @@ fn bytes_of(alloc: Global, text: &[u8]) -> Result<Bytes, AllocError> {
 fn lines_of_words_and_commands(rt: HostRuntime) -> Result<(), Fail> {
     let alloc = rt.alloc();
     let text =
-        b"fast: usage: fast func IMAGE, run IMAGE MACHINE, sched IMAGE MACHINE PLAN, soak SEED, back IMAGE SCRIPT, inorder IMAGE MACHINE PLAN, sweep IMAGE MACHINES\n";
+        b"fast: usage: fast func IMAGE, run IMAGE MACHINE, sched IMAGE MACHINE PLAN, \
+          soak SEED, back IMAGE SCRIPT, inorder IMAGE MACHINE PLAN, sweep IMAGE MACHINES\n";
     check(&rt, alloc, Status::Usage, 10, text)?;
     let text = b"fast: no memory\n";
     check(&rt, alloc, Status::Memory, 16, text)?;

@@ -1,7 +1,8 @@
 ghost use Rattle.std.specs.Prelude.{◌≡◌, ◌≤◌, ◌++◌};
 ghost use Rattle.fsim_ports.specs.Sink.{Puts};
 ghost use Rattle.mono_model.specs.Report.{closed_output, report_text};
-ghost use Rattle.report_text.specs.Lines.{progress_text, costs_text, second_level_text, place_text, registers_text, csrs_text};
+ghost use Rattle.report_text.specs.Lines.{progress_text, costs_text, second_level_text, place_text};
+ghost use Rattle.report_text.specs.Lines.{registers_text, csrs_text};
 
 use crate::put::{WriteFault, put_lines, put_piece};
 use crate::report_lines::{count_line, misses_line, output_line, pc_line, status_line};
@@ -12,7 +13,8 @@ use mono_model::Final;
 /// How the run stands, its cycles, and what retired, trapped and was fetched.
 fn put_progress<K: Sink>(f: &Final, sink: &mut K) -> Result<(), WriteFault>
     ensures count { K.faults sink.old ≤ K.faults sink.new }
-    ensures written { Puts (progress_text f.now) (K.faults sink.old) (K.faults sink.new) (K.written sink.old) (K.written sink.new) result }
+    ensures written { Puts (progress_text f.now) (K.faults sink.old) (K.faults sink.new)
+        (K.written sink.old) (K.written sink.new) result }
 {
     let lines = [
         status_line(f.end),
@@ -30,7 +32,8 @@ fn put_progress<K: Sink>(f: &Final, sink: &mut K) -> Result<(), WriteFault>
 /// What was predicted, and what the first level of the caches missed.
 fn put_costs<K: Sink>(f: &Final, sink: &mut K) -> Result<(), WriteFault>
     ensures count { K.faults sink.old ≤ K.faults sink.new }
-    ensures written { Puts (costs_text f.now) (K.faults sink.old) (K.faults sink.new) (K.written sink.old) (K.written sink.new) result }
+    ensures written { Puts (costs_text f.now) (K.faults sink.old) (K.faults sink.new)
+        (K.written sink.old) (K.written sink.new) result }
 {
     let lines = [
         count_line(b"branches: ", f.stats.branches),
@@ -44,7 +47,8 @@ fn put_costs<K: Sink>(f: &Final, sink: &mut K) -> Result<(), WriteFault>
 /// What the second level missed, and the write-backs: under a machine file of version 2 alone.
 fn put_second_level<K: Sink>(f: &Final, sink: &mut K) -> Result<(), WriteFault>
     ensures count { K.faults sink.old ≤ K.faults sink.new }
-    ensures written { Puts (second_level_text f.now) (K.faults sink.old) (K.faults sink.new) (K.written sink.old) (K.written sink.new) result }
+    ensures written { Puts (second_level_text f.now) (K.faults sink.old) (K.faults sink.new)
+        (K.written sink.old) (K.written sink.new) result }
 {
     if f.stats.version != 2 {
         return put_piece(b"", sink);
@@ -59,7 +63,8 @@ fn put_second_level<K: Sink>(f: &Final, sink: &mut K) -> Result<(), WriteFault>
 /// The size of the output and the next address.
 fn put_place<K: Sink>(f: &Final, sink: &mut K) -> Result<(), WriteFault>
     ensures count { K.faults sink.old ≤ K.faults sink.new }
-    ensures written { Puts (place_text f.now) (K.faults sink.old) (K.faults sink.new) (K.written sink.old) (K.written sink.new) result }
+    ensures written { Puts (place_text f.now) (K.faults sink.old) (K.faults sink.new)
+        (K.written sink.old) (K.written sink.new) result }
 {
     let lines = [output_line(f.stats.output), pc_line(f.pc)];
     put_lines(&lines, sink)
@@ -68,57 +73,55 @@ fn put_place<K: Sink>(f: &Final, sink: &mut K) -> Result<(), WriteFault>
 /// The report from the size of the output on.
 fn put_state<K: Sink>(f: &Final, sink: &mut K) -> Result<(), WriteFault>
     ensures count { K.faults sink.old ≤ K.faults sink.new }
-    ensures written { Puts (place_text f.now ++ (registers_text f.now ++ csrs_text f.now)) (K.faults sink.old) (K.faults sink.new) (K.written sink.old) (K.written sink.new) result }
+    ensures written { Puts (place_text f.now ++ (registers_text f.now ++ csrs_text f.now))
+        (K.faults sink.old) (K.faults sink.new) (K.written sink.old) (K.written sink.new) result }
 {
-    match put_place(f, sink) {
-        Ok(()) => put_values(f, sink),
-        Err(fault) => Err(fault),
-    }
+    put_place(f, sink)?;
+    put_values(f, sink)
 }
 
 /// The report from the second level on.
 fn put_levels<K: Sink>(f: &Final, sink: &mut K) -> Result<(), WriteFault>
     ensures count { K.faults sink.old ≤ K.faults sink.new }
-    ensures written { Puts (second_level_text f.now ++ (place_text f.now ++ (registers_text f.now ++ csrs_text f.now))) (K.faults sink.old) (K.faults sink.new) (K.written sink.old) (K.written sink.new) result }
+    ensures written { Puts (second_level_text f.now
+        ++ (place_text f.now ++ (registers_text f.now ++ csrs_text f.now))) (K.faults sink.old)
+        (K.faults sink.new) (K.written sink.old) (K.written sink.new) result }
 {
-    match put_second_level(f, sink) {
-        Ok(()) => put_state(f, sink),
-        Err(fault) => Err(fault),
-    }
+    put_second_level(f, sink)?;
+    put_state(f, sink)
 }
 
 /// The report from the branches on.
 fn put_rest<K: Sink>(f: &Final, sink: &mut K) -> Result<(), WriteFault>
     ensures count { K.faults sink.old ≤ K.faults sink.new }
-    ensures written { Puts (costs_text f.now ++ (second_level_text f.now ++ (place_text f.now ++ (registers_text f.now ++ csrs_text f.now)))) (K.faults sink.old) (K.faults sink.new) (K.written sink.old) (K.written sink.new) result }
+    ensures written { Puts (costs_text f.now
+        ++ (second_level_text f.now ++ (place_text f.now
+        ++ (registers_text f.now ++ csrs_text f.now)))) (K.faults sink.old) (K.faults sink.new)
+        (K.written sink.old) (K.written sink.new) result }
 {
-    match put_costs(f, sink) {
-        Ok(()) => put_levels(f, sink),
-        Err(fault) => Err(fault),
-    }
+    put_costs(f, sink)?;
+    put_levels(f, sink)
 }
 
 /// The report without the output.
 fn put_report<K: Sink>(f: &Final, sink: &mut K) -> Result<(), WriteFault>
     ensures count { K.faults sink.old ≤ K.faults sink.new }
-    ensures written { Puts (report_text f.now) (K.faults sink.old) (K.faults sink.new) (K.written sink.old) (K.written sink.new) result }
+    ensures written { Puts (report_text f.now) (K.faults sink.old) (K.faults sink.new)
+        (K.written sink.old) (K.written sink.new) result }
 {
-    match put_progress(f, sink) {
-        Ok(()) => put_rest(f, sink),
-        Err(fault) => Err(fault),
-    }
+    put_progress(f, sink)?;
+    put_rest(f, sink)
 }
 
 /// Writes the output and the report of a run under a machine file, each line by itself.
 ///
-/// Ok says that the whole text was written. A fault comes only where the sink's count of faults rose, and then a proper
-/// prefix of the text was written. It takes no memory.
+/// Ok says that the whole text was written. A fault comes only where the sink's count of faults
+/// rose, and then a proper prefix of the text was written. It takes no memory.
 pub fn report<K: Sink>(f: &Final, output: &[u8], sink: &mut K) -> Result<(), WriteFault>
     ensures count { K.faults sink.old ≤ K.faults sink.new }
-    ensures written { Puts (closed_output output.now ++ report_text f.now) (K.faults sink.old) (K.faults sink.new) (K.written sink.old) (K.written sink.new) result }
+    ensures written { Puts (closed_output output.now ++ report_text f.now) (K.faults sink.old)
+        (K.faults sink.new) (K.written sink.old) (K.written sink.new) result }
 {
-    match put_output(output, sink) {
-        Ok(()) => put_report(f, sink),
-        Err(fault) => Err(fault),
-    }
+    put_output(output, sink)?;
+    put_report(f, sink)
 }

@@ -21,7 +21,8 @@ fn ends_open(output: &[u8]) -> bool
 /// The output, with a line feed behind it where it isn't empty and doesn't end in one.
 pub fn put_output<K: Sink>(output: &[u8], sink: &mut K) -> Result<(), WriteFault>
     ensures count { K.faults sink.old ≤ K.faults sink.new }
-    ensures written { Puts (closed_output output.now) (K.faults sink.old) (K.faults sink.new) (K.written sink.old) (K.written sink.new) result }
+    ensures written { Puts (closed_output output.now) (K.faults sink.old) (K.faults sink.new)
+        (K.written sink.old) (K.written sink.new) result }
 {
     if ends_open(output) {
         put_two(output, b"\n", sink)
@@ -33,7 +34,8 @@ pub fn put_output<K: Sink>(output: &[u8], sink: &mut K) -> Result<(), WriteFault
 /// How the run stands, what retired and trapped, the size of the output and the next address.
 fn put_counts<K: Sink>(f: &Final, sink: &mut K) -> Result<(), WriteFault>
     ensures count { K.faults sink.old ≤ K.faults sink.new }
-    ensures written { Puts (counts_text f.now) (K.faults sink.old) (K.faults sink.new) (K.written sink.old) (K.written sink.new) result }
+    ensures written { Puts (counts_text f.now) (K.faults sink.old) (K.faults sink.new)
+        (K.written sink.old) (K.written sink.new) result }
 {
     let lines = [
         status_line(f.end),
@@ -49,7 +51,8 @@ fn put_counts<K: Sink>(f: &Final, sink: &mut K) -> Result<(), WriteFault>
 /// The registers.
 fn put_registers<K: Sink>(f: &Final, sink: &mut K) -> Result<(), WriteFault>
     ensures count { K.faults sink.old ≤ K.faults sink.new }
-    ensures written { Puts (registers_text f.now) (K.faults sink.old) (K.faults sink.new) (K.written sink.old) (K.written sink.new) result }
+    ensures written { Puts (registers_text f.now) (K.faults sink.old) (K.faults sink.new)
+        (K.written sink.old) (K.written sink.new) result }
 {
     let lines = [
         register_line(&f.regs, 0),
@@ -67,7 +70,8 @@ fn put_registers<K: Sink>(f: &Final, sink: &mut K) -> Result<(), WriteFault>
 /// The CSRs.
 fn put_csrs<K: Sink>(f: &Final, sink: &mut K) -> Result<(), WriteFault>
     ensures count { K.faults sink.old ≤ K.faults sink.new }
-    ensures written { Puts (csrs_text f.now) (K.faults sink.old) (K.faults sink.new) (K.written sink.old) (K.written sink.new) result }
+    ensures written { Puts (csrs_text f.now) (K.faults sink.old) (K.faults sink.new)
+        (K.written sink.old) (K.written sink.new) result }
 {
     let lines = [interrupt_csrs_line(&f.csrs), trap_csrs_line(&f.csrs, f.cmp)];
     put_lines(&lines, sink)
@@ -76,35 +80,32 @@ fn put_csrs<K: Sink>(f: &Final, sink: &mut K) -> Result<(), WriteFault>
 /// Registers and CSRs.
 pub fn put_values<K: Sink>(f: &Final, sink: &mut K) -> Result<(), WriteFault>
     ensures count { K.faults sink.old ≤ K.faults sink.new }
-    ensures written { Puts (registers_text f.now ++ csrs_text f.now) (K.faults sink.old) (K.faults sink.new) (K.written sink.old) (K.written sink.new) result }
+    ensures written { Puts (registers_text f.now ++ csrs_text f.now) (K.faults sink.old)
+        (K.faults sink.new) (K.written sink.old) (K.written sink.new) result }
 {
-    match put_registers(f, sink) {
-        Ok(()) => put_csrs(f, sink),
-        Err(fault) => Err(fault),
-    }
+    put_registers(f, sink)?;
+    put_csrs(f, sink)
 }
 
 /// The report without the output.
 fn put_report<K: Sink>(f: &Final, sink: &mut K) -> Result<(), WriteFault>
     ensures count { K.faults sink.old ≤ K.faults sink.new }
-    ensures written { Puts (func_report_text f.now) (K.faults sink.old) (K.faults sink.new) (K.written sink.old) (K.written sink.new) result }
+    ensures written { Puts (func_report_text f.now) (K.faults sink.old) (K.faults sink.new)
+        (K.written sink.old) (K.written sink.new) result }
 {
-    match put_counts(f, sink) {
-        Ok(()) => put_values(f, sink),
-        Err(fault) => Err(fault),
-    }
+    put_counts(f, sink)?;
+    put_values(f, sink)
 }
 
 /// Writes the output and the report of a run without a machine file, each line by itself.
 ///
-/// Ok says that the whole text was written. A fault comes only where the sink's count of faults rose, and then a proper
-/// prefix of the text was written. It takes no memory.
+/// Ok says that the whole text was written. A fault comes only where the sink's count of faults
+/// rose, and then a proper prefix of the text was written. It takes no memory.
 pub fn func_report<K: Sink>(f: &Final, output: &[u8], sink: &mut K) -> Result<(), WriteFault>
     ensures count { K.faults sink.old ≤ K.faults sink.new }
-    ensures written { Puts (closed_output output.now ++ func_report_text f.now) (K.faults sink.old) (K.faults sink.new) (K.written sink.old) (K.written sink.new) result }
+    ensures written { Puts (closed_output output.now ++ func_report_text f.now) (K.faults sink.old)
+        (K.faults sink.new) (K.written sink.old) (K.written sink.new) result }
 {
-    match put_output(output, sink) {
-        Ok(()) => put_report(f, sink),
-        Err(fault) => Err(fault),
-    }
+    put_output(output, sink)?;
+    put_report(f, sink)
 }

@@ -1,10 +1,13 @@
 use Rattle.std.proofs.Common.{arith}
+use Rattle.std.proofs.lemmas.Result.{err_from_is_err_and}
 use Rattle.fsim_ports.proofs.Writing.{puts_second, breaks_first}
 use Rattle.report_text.proofs.put.put_two.Goals as goal
 
-pub returns-in-Ok-clause-written : goal.returns-in-Ok-clause-written
-returns-in-Ok-clause-written g c =
-    puts_second c.args.first.now c.args.second.now (g.K.Sink.faults c.put_piece-in-Ok.new.sink) (g.K.Sink.written c.args.sink.now) (g.K.Sink.written c.put_piece-in-Ok.new.sink) c.put_piece-in-Ok.result c.in-Ok.ensures.written c.in-Ok.ensures.count c.put_piece-in-Ok.ensures.written
+pub returns-clause-written : goal.returns-clause-written
+returns-clause-written g c =
+    puts_second c.args.first.now c.args.second.now (g.K.Sink.faults c.put_piece-2.new.sink) (g.K.Sink.written c.args.sink.now) (g.K.Sink.written c.put_piece-2.new.sink) c.put_piece-2.result c.in_ok-put_piece.ensures.written c.in_ok-put_piece.ensures.count c.put_piece-2.ensures.written
 
-pub returns-in-Err-clause-written : goal.returns-in-Err-clause-written
-returns-in-Err-clause-written g c = breaks_first c.args.second.now (omega arith) c.in-Err.ensures.written
+pub returns-in_err-put_piece-clause-written : goal.returns-in_err-put_piece-clause-written
+returns-in_err-put_piece-clause-written g c =
+    let left = err_from_is_err_and c.from_residual.result c.from_residual.ensures.1 in
+    rw (left.1) (breaks_first c.args.second.now (omega arith) c.in_err-put_piece.ensures.written)
