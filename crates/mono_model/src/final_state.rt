@@ -16,7 +16,7 @@ pub enum End {
 }
 
 /// What is counted in a run.
-#[derive(Clone, Copy, Debug, PartialEq, Eq)]
+#[derive(Clone, Copy, Debug, Default, PartialEq, Eq)]
 pub struct Stats {
     /// The version of the machine file: 1 or 2, and 0 for a run without one.
     pub version: u32,

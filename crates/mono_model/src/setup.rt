@@ -1,4 +1,5 @@
 use crate::params::Params;
+use device_bus::INPUT_LIMIT;
 use elf_image::Image;
 use fsim_base::{Bytes, RamRange};
 
@@ -33,7 +34,7 @@ impl Setup {
         };
         self.image.sound(ram)
             && self.params.in_range()
-            && self.input.as_slice().len() <= 16_777_216
+            && self.input.as_slice().len() <= INPUT_LIMIT
             && 1 <= self.cycles
             && self.cycles <= 1 << 40
             && self.output <= 16_777_216

@@ -3,4 +3,4 @@
 
 mod order;
 
-pub use order::Order;
+pub use order::{ORDER_ROOM, Order};

@@ -1,5 +1,8 @@
 ghost use Rattle.std.specs.Prelude.{◌≡◌};
 
+/// How many orders are on their way to the functional side at most.
+pub const ORDER_ROOM: usize = 64;
+
 /// An order to the functional side. `n` is the number of an instruction along its path.
 ///
 /// Each order but [`Order::Commit`] takes the functional side to instruction `n`, whatever it had done
