@@ -1,5 +1,5 @@
--- The order rule. The orders in the queue are those of the demand run in the places from the count taken up to, and without,
--- the count pushed.
+-- The order rule. The orders in the queue are those of the demand run in the places from the count
+-- taken up to, and without, the count pushed.
 use Rattle.std.specs.Prelude.{◌≡◌, ◌⊎◌, ℕ, ◌+◌, Some, List, [], ◌∷◌, length}
 use Rattle.rollback_cmds.specs.declared.order.Order.{Order}
 use Rattle.mono_model.specs.declared.setup.Setup.{Setup}
@@ -35,8 +35,10 @@ pub record OrdersBetween (items : List Order) (views : List OrderView) : Type 0 
   pub setup : Setup
   -- how many orders were taken
   pub taken : ℕ
-  -- the functional end takes, the timing end pushes: the count pushed is the count taken and the orders between
-  pub passes : views ≡ order_view Takes setup taken ∷ order_view Pushes setup (taken + length items) ∷ []
+  -- the functional end takes, the timing end pushes: the count pushed is the count taken and the
+  -- orders between
+  pub passes : views ≡ order_view Takes setup taken ∷ order_view Pushes setup (taken + length items)
+      ∷ []
   -- from the count taken up to, and without, the count pushed
   pub run : IsRun setup taken items
 

@@ -1,6 +1,7 @@
--- A run that the tests hand over: no program is loaded and the entry address is 0, so every fetch fails and its trap leads to
--- address 0 again, while fetch goes on along 0, 4, 8 and so on. No instruction is through the front of the pipeline before
--- the run ends in cycle 9. So each of the 72 instructions that are fetched gives one order: that the next one stands 4 further.
+-- A run that the tests hand over: no program is loaded and the entry address is 0, so every fetch
+-- fails and its trap leads to address 0 again, while fetch goes on along 0, 4, 8 and so on. No
+-- instruction is through the front of the pipeline before the run ends in cycle 9. So each of the
+-- 72 instructions that are fetched gives one order: that the next one stands 4 further.
 use Rattle.std.specs.Prelude.{ℕ, zero, suc, ◌+◌, ◌*◌, ◌^◌, ◌-◌, false, Option, None, Some}
 use Rattle.fsim_base.specs.declared.access.Access.TheVariants.{Nothing}
 use Rattle.fsim_base.specs.declared.cause.Cause.TheVariants.{InstructionAccess}
@@ -10,32 +11,18 @@ use Rattle.rollback_cmds.specs.declared.order.Order.{Order}
 use Rattle.rollback_cmds.specs.declared.order.Order.TheVariants.{Set}
 use Rattle.mono_model.specs.declared.params.Params.{Params}
 use Rattle.mono_model.specs.declared.setup.Setup.{Setup}
-use Rattle.trace_ring.specs.Passes.{no_params, no_setup}
+use Rattle.mono_model.specs.Plain.{plain_params}
+use Rattle.trace_ring.specs.Passes.{no_setup}
 
 abbrev pub trial_params : Params
-trial_params = record no_params {
-  version = 1;
-  ram_base = 0x80000000;
+trial_params = record plain_params {
   ram_size = 4096;
   core_fetch = 8;
-  core_commit = 1;
   core_front = 32;
   core_window = 256;
-  core_stations = 256;
-  alu_count = 1;
-  alu_latency = 1;
-  mul_count = 1;
-  mul_latency = 1;
-  div_count = 1;
-  div_latency = 1;
-  mem_count = 1;
-  mem_latency = 1;
   predictor_counters = 1;
-  icache_line = 4;
   icache_sets = 1;
-  dcache_line = 4;
   dcache_sets = 1;
-  l2_line = 4;
   l2_sets = 1;
 }
 

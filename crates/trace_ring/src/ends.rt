@@ -9,14 +9,13 @@ use crate::time_end::TimeEnd;
 use crossbeam_queue::protocol::Split;
 use fsim_base::NoMemory;
 use mono_model::Setup;
+use rollback_cmds::ORDER_ROOM;
 use std::alloc::{AllocError, Global};
 use std::marker::{Brand, PhantomData};
 use std::sync::Arc;
 
-/// How many orders have room on their way.
-const ORDERS: usize = 64;
-
-/// The setup that the passes of a run know. It is picked where they are made, so that no type has a parameter for it.
+/// The setup that the passes of a run know. It is picked where they are made, so that no type has a
+/// parameter for it.
 pub trait Named {
     ghost use Rattle.mono_model.specs.declared.setup.Setup.{Setup as RunSetup};
 
@@ -53,7 +52,8 @@ impl<K: Named> Split<OrderView> for Opens<K> {
     ghost right = { λ v. order_view Pushes K.setup 0 };
 }
 
-/// The two queues of a run, one of `ring` entries and one of 64 orders, by their two ends. It takes all of their memory here.
+/// The two queues of a run, one of `ring` entries and one of 64 orders, by their two ends. It takes
+/// all of their memory here.
 pub fn rings(alloc: Global, setup: &Setup) -> Result<(FuncEnd, TimeEnd), NoMemory>
     requires sound { is_setup setup.now ≡ true }
     ensures func { IfOk result (λ ends. ends.0 ≡ func_start setup.now) }
@@ -70,7 +70,7 @@ fn opened<K: Named>(alloc: Global, setup: &Setup) -> Result<(FuncEnd, TimeEnd), 
 {
     let (ring, mut entries_in) = Ring::ruled(alloc, setup.ring as usize)?;
     let entries_out = ring.another::<Opens<K>>(&mut entries_in);
-    let (orders, mut orders_out) = OrderQueue::ruled(alloc, ORDERS)?;
+    let (orders, mut orders_out) = OrderQueue::ruled(alloc, ORDER_ROOM)?;
     let orders_in = orders.another::<Opens<K>>(&mut orders_out);
     let ring = Arc::new(alloc, ring)?;
     let orders = Arc::new(alloc, orders)?;

@@ -8,8 +8,8 @@ use std::marker::Model;
 use std::sync::{Arc, Wait};
 use trace_entry::Entry;
 
-/// The functional thread's end of both queues: it pushes entries and takes orders. Contracts see its setup, how many it has
-/// pushed and taken, and epoch and number of the last entry pushed.
+/// The functional thread's end of both queues: it pushes entries and takes orders. Contracts see
+/// its setup, how many it has pushed and taken, and epoch and number of the last entry pushed.
 #[derive(Drop)]
 pub struct FuncEnd {
     pub(crate) ring: Arc<Ring, Global>,
@@ -39,8 +39,9 @@ impl FuncEnd {
     ghost use Rattle.trace_ring.specs.Orders.{IsInPlace};
     ghost use Rattle.trace_ring.specs.Ends.{func_pushed, func_taken};
 
-    /// Hands over an entry: the one that its epoch and number name, behind the last one in the chain. It comes back where the
-    /// ring is full, and nothing has changed then. May wait while the other end is in the midst of a call.
+    /// Hands over an entry: the one that its epoch and number name, behind the last one in the
+    /// chain. It comes back where the ring is full, and nothing has changed then. May wait while
+    /// the other end is in the midst of a call.
     pub fn push<R: Wait>(&mut self, rt: &R, entry: Entry) -> Result<(), Entry>
         requires named { IsNamed self.old.setup entry }
         requires follows { Follows self.old.setup self.old.last entry.epoch entry.number }
@@ -53,8 +54,8 @@ impl FuncEnd {
             .push_as::<PushesEntry, R>(rt, &mut self.entries_in, entry)
     }
 
-    /// The next order, in its place; None where there is none now, which no clause says. May wait while the other end is in
-    /// the midst of a call.
+    /// The next order, in its place; None where there is none now, which no clause says. May wait
+    /// while the other end is in the midst of a call.
     pub fn next<R: Wait>(&mut self, rt: &R) -> Option<Order>
         ensures order { IfSome result (λ o. IsInPlace self.old.setup self.old.taken o) }
         ensures taken { OnSome result (self.new ≡ func_taken self.old) }

@@ -1,7 +1,9 @@
-//! The two bounded queues between the functional and the timing thread: entries one way, orders the other.
+//! The two bounded queues between the functional and the timing thread: entries one way, orders the
+//! other.
 //!
-//! What is handed over is told by its name: an entry is the one that the machine's definitions give for its epoch and
-//! number, an order the one for its place. No other thread's schedule can change that (`specs/Ring.antt`, `specs/Orders.antt`).
+//! What is handed over is told by its name: an entry is the one that the machine's definitions give
+//! for its epoch and number, an order the one for its place. No other thread's schedule can change
+//! that (`specs/Ring.antt`, `specs/Orders.antt`).
 #![tactic(auto)]
 
 mod ends;

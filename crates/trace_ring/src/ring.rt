@@ -51,7 +51,8 @@ impl Outcome<Entry, RingView> for TakesEntry {
     ghost use Rattle.std.specs.Prelude.{◌≡◌};
     ghost use Rattle.trace_ring.specs.Ring.{ring_with, IsNamed, Follows};
 
-    ghost then = { λ v x w. (w ≡ ring_with v x) × IsNamed v.setup x × Follows v.setup v.last x.epoch x.number };
+    ghost then = { λ v x w. (w ≡ ring_with v x) × IsNamed v.setup x
+        × Follows v.setup v.last x.epoch x.number };
 }
 
 impl Lesson<Entry, RingView> for TakesEntry {

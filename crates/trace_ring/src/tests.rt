@@ -1,5 +1,6 @@
-//! Entries and orders that one thread hands over to itself, and that two hand to each other. They are those of a run whose
-//! every fetch fails, worked out by hand from the machine's rules (`specs/Trial.antt`).
+//! Entries and orders that one thread hands over to itself, and that two hand to each other. They
+//! are those of a run whose every fetch fails, worked out by hand from the machine's rules
+//! (`specs/Trial.antt`).
 
 ghost use Rattle.std.specs.Prelude.{◌≡◌, ◌≤◌, ◌<◌, ◌+◌, OnOk, OnErr, IfErr, MatchBool, Some, None};
 ghost use Rattle.trace_ring.specs.Ring.{IsNamed, Follows};
@@ -27,7 +28,8 @@ fn push<R: Wait + Abort>(rt: &R, end: &mut FuncEnd, epoch: u64, number: u64, add
     requires named { IsNamed trial (refused_fetch epoch number addr) }
     requires follows { Follows trial end.old.last epoch number }
     ensures run { end.new.setup ≡ trial }
-    ensures last { MatchBool result (end.new.last ≡ Some (epoch, number)) (end.new.last ≡ end.old.last) }
+    ensures last { MatchBool result (end.new.last ≡ Some (epoch, number))
+        (end.new.last ≡ end.old.last) }
 {
     let entry = refused_fetch(epoch, number, addr);
     match end.push(rt, entry) {
@@ -52,13 +54,15 @@ fn expect_push<R: Wait + Abort>(
     requires named { IsNamed trial (refused_fetch epoch number addr) }
     requires follows { Follows trial end.old.last epoch number }
     ensures run { end.new.setup ≡ trial }
-    ensures last { MatchBool room (end.new.last ≡ Some (epoch, number)) (end.new.last ≡ end.old.last) }
+    ensures last { MatchBool room (end.new.last ≡ Some (epoch, number))
+        (end.new.last ≡ end.old.last) }
 {
     let had_room = push(rt, end, epoch, number, addr);
     assert_eq!(rt; had_room, room, "entry {number} of epoch {epoch}");
 }
 
-/// Four entries of two epochs fill the ring; the fifth, of a later epoch, has room once the first is taken.
+/// Four entries of two epochs fill the ring; the fifth, of a later epoch, has room once the first
+/// is taken.
 #[tactic(auto, using(crate::proofs::Trials::entry_named, crate::proofs::Trials::first_of_one, crate::proofs::Trials::second_of_one, crate::proofs::Trials::first_of_three, crate::proofs::Trials::begins))]
 fn fill<R: Wait + Abort>(rt: &R, func: &mut FuncEnd, time: &mut TimeEnd)
     requires run { func.old.setup ≡ trial }
@@ -177,7 +181,7 @@ fn two_threads_hand_over_entries(rt: HostRuntime) -> Result<(), Fail> {
     thread::join(
         &rt,
         move ||
-            requires { (func.setup ≡ trial) × (func.last ≡ None) }
+            requires opened { (func.setup ≡ trial) × (func.last ≡ None) }
         { push_all(&rt, func) },
         move || take_all(&rt, time),
     );

@@ -8,8 +8,8 @@ use std::marker::Model;
 use std::sync::{Arc, Wait};
 use trace_entry::Entry;
 
-/// The timing thread's end of both queues: it pushes orders and takes entries. Contracts see its setup, how many it has
-/// pushed and taken, and epoch and number of the last entry taken.
+/// The timing thread's end of both queues: it pushes orders and takes entries. Contracts see its
+/// setup, how many it has pushed and taken, and epoch and number of the last entry taken.
 #[derive(Drop)]
 pub struct TimeEnd {
     pub(crate) ring: Arc<Ring, Global>,
@@ -39,8 +39,9 @@ impl TimeEnd {
     ghost use Rattle.trace_ring.specs.Orders.{IsInPlace};
     ghost use Rattle.trace_ring.specs.Ends.{time_pushed, time_taken};
 
-    /// Hands over an order: the one in the place behind those pushed so far. It comes back where the queue has no room for
-    /// it, beside 64, and nothing has changed then. May wait while the other end is in the midst of a call.
+    /// Hands over an order: the one in the place behind those pushed so far. It comes back where
+    /// the queue has no room for it, beside 64, and nothing has changed then. May wait while the
+    /// other end is in the midst of a call.
     pub fn push<R: Wait>(&mut self, rt: &R, order: Order) -> Result<(), Order>
         requires in_place { IsInPlace self.old.setup self.old.pushed order }
         ensures pushed { OnOk result (self.new ≡ time_pushed self.old) }
@@ -52,11 +53,12 @@ impl TimeEnd {
             .push_as::<PushesOrder, R>(rt, &mut self.orders_in, order)
     }
 
-    /// The next entry, with its name; None where there is none now, which no clause says. May wait while the other end is in
-    /// the midst of a call.
+    /// The next entry, with its name; None where there is none now, which no clause says. May wait
+    /// while the other end is in the midst of a call.
     pub fn next<R: Wait>(&mut self, rt: &R) -> Option<Entry>
         ensures named { IfSome result (λ e. IsNamed self.old.setup e) }
-        ensures follows { IfSome result (λ e. Follows self.old.setup self.old.last e.epoch e.number) }
+        ensures follows { IfSome result (λ e. Follows self.old.setup self.old.last e.epoch
+            e.number) }
         ensures taken { IfSome result (λ e. self.new ≡ time_taken self.old e) }
         ensures same { IfNone result (self.new ≡ self.old) }
     {

@@ -1,7 +1,6 @@
 ghost use Rattle.std.specs.Prelude.{◌≡◌, ◌<◌};
 ghost use Rattle.trace_ring.specs.Trial.{trial, trial_params, refused_fetch, next_word};
 
-use branch_predictor::PredKind;
 use elf_image::{Image, Segments};
 use fsim_base::{Access, Bytes, Cause, Class};
 use mono_model::{Params, Setup};
@@ -14,40 +13,15 @@ fn params() -> Params
     ensures { result ≡ trial_params }
 {
     Params {
-        version: 1,
-        ram_base: 0x8000_0000,
         ram_size: 4096,
         core_fetch: 8,
-        core_commit: 1,
         core_front: 32,
         core_window: 256,
-        core_stations: 256,
-        alu_count: 1,
-        alu_latency: 1,
-        mul_count: 1,
-        mul_latency: 1,
-        div_count: 1,
-        div_latency: 1,
-        mem_count: 1,
-        mem_latency: 1,
-        predictor_kind: PredKind::Static,
         predictor_counters: 1,
-        predictor_history: 0,
-        predictor_targets: 0,
-        icache_line: 4,
         icache_sets: 1,
-        icache_ways: 0,
-        icache_miss: 0,
-        dcache_line: 4,
         dcache_sets: 1,
-        dcache_ways: 0,
-        dcache_miss: 0,
-        dcache_back: false,
-        l2_line: 4,
         l2_sets: 1,
-        l2_ways: 0,
-        l2_hit: 0,
-        l2_miss: 0,
+        ..Params::plain()
     }
 }
 
