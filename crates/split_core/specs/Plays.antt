@@ -15,4 +15,5 @@ pub record IsPlayed {D : Type 0} (s : Setup) (x : Split) (state : SplitState D) 
 -- Whatever state of its run it stood for, some events were played from there.
 abbrev pub Plays : {D : Type 0} → SplitState D → SplitState D → Type 0
 Plays old new =
-    (s : Setup) (x : Split) → is_setup s ≡ true → IsReached s x → StandsFor s x old → IsPlayed s x new
+    (s : Setup) (x : Split) → is_setup s ≡ true → IsReached s x → StandsFor s x old
+    → IsPlayed s x new

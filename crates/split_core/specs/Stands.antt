@@ -1,12 +1,14 @@
 -- What the two sides with what is under way between them stand for: a state of the split machine.
-use Rattle.std.specs.Prelude.{◌≡◌, ℕ, true, false}
+use Rattle.std.specs.Prelude.{◌≡◌, ℕ, Bool, true, false}
 use Rattle.circular_buffer.specs.Buffer.{buffer}
 use Rattle.mono_model.specs.declared.setup.Setup.{Setup}
 use Rattle.mono_model.specs.Setup.{is_setup}
+use Rattle.mono_model.specs.declared.final_state.Final.{Final}
 use Rattle.mono_model.specs.Demand.{place, step_bound}
-use Rattle.mono_model.specs.Cycle.{mono}
+use Rattle.mono_model.specs.Cycle.{final, mono}
 use Rattle.mono_model.specs.Split.{Split, is_boundary, boundary_rounds}
 use Rattle.machine_laws.specs.Reached.{IsReached}
+use Rattle.func_model.specs.Contents.{StandsFor as HoldsArch}
 use Rattle.func_model.specs.Walk.{Stands}
 use Rattle.time_model.specs.Stands.{StandsAt}
 use Rattle.split_core.specs.declared.state.SplitState.{SplitState}
@@ -20,7 +22,8 @@ pub record StandsFor {D : Type 0} (s : Setup) (x : Split) (state : SplitState D)
   pub place : x.place ≡ place s behind
   pub time : StandsAt s behind state.time
   pub held : state.time.held ≡ x.held
-  -- what is under way between them, in lists with room for the entries of the trace and for 64 orders
+  -- what is under way between them, in lists with room for the entries of the trace and for 64
+  -- orders
   pub computed : state.computed ≡ x.computed
   pub hand : state.hand ≡ x.hand
   pub entries : state.entries ≡ buffer x.entries s.ring
@@ -33,7 +36,9 @@ pub record StandsFor {D : Type 0} (s : Setup) (x : Split) (state : SplitState D)
 
 -- Whatever state of its run it stood for, it stands for the one that follows from it in this way.
 abbrev pub Leads : {D : Type 0} → (Setup → Split → Split) → SplitState D → SplitState D → Type 0
-Leads follow old new = (s : Setup) (x : Split) → is_setup s ≡ true → IsReached s x → StandsFor s x old → StandsFor s (follow s x) new
+Leads follow old new =
+    (s : Setup) (x : Split) → is_setup s ≡ true → IsReached s x → StandsFor s x old
+    → StandsFor s (follow s x) new
 
 -- a state that some events lead to, in a run of some setup
 pub record IsStanding {D : Type 0} (state : SplitState D) : Type 0 where
@@ -48,7 +53,8 @@ pub record IsAtBoundary {D : Type 0} (state : SplitState D) : Type 0 where
   pub standing : IsStanding state
   pub boundary : is_boundary standing.split ≡ true
 
--- The run has ended: the timing side has told its last order, and the functional side has obeyed it.
+-- The run has ended: the timing side has told its last order, and the functional side has obeyed
+-- it.
 pub record IsEnded {D : Type 0} (s : Setup) (state : SplitState D) : Type 0 where
   pub split : Split
   pub reached : IsReached s split
@@ -57,3 +63,25 @@ pub record IsEnded {D : Type 0} (s : Setup) (state : SplitState D) : Type 0 wher
   pub machine : split.place.run.demand.machine ≡ mono s s.cycles
   pub boundary : is_boundary split ≡ true
   pub stopped : split.is_stopped ≡ true
+
+-- Whatever state of its run it stood for, the run has ended.
+abbrev pub LeadsToEnd : {D : Type 0} → SplitState D → SplitState D → Type 0
+LeadsToEnd old new =
+    (s : Setup) (x : Split) → is_setup s ≡ true → IsReached s x → StandsFor s x old → IsEnded s new
+
+-- whether the state that it stands for is a boundary
+abbrev pub TellsBoundary : {D : Type 0} → SplitState D → Bool → Type 0
+TellsBoundary state answer = (s : Setup) (x : Split) → StandsFor s x state → answer ≡ is_boundary x
+
+-- The report at the boundary that it stands for is that of the monolithic machine at its cycle.
+abbrev pub Reports : {D : Type 0} → SplitState D → Final → Type 0
+Reports state last =
+    (s : Setup) (x : Split) → is_setup s ≡ true → IsReached s x → StandsFor s x state
+    → is_boundary x ≡ true → last ≡ final s x.place.run.demand.machine.cycle
+
+-- From the boundary that it stood for, the functional side has gone back to what is committed there.
+abbrev pub GoesBack : {D : Type 0} → SplitState D → SplitState D → Type 0
+GoesBack old new =
+    (s : Setup) (x : Split) → is_setup s ≡ true → IsReached s x → StandsFor s x old
+    → is_boundary x ≡ true
+    → HoldsArch s (mono s x.place.run.demand.machine.cycle).arch new.func.contents

@@ -4,11 +4,12 @@ ghost use Rattle.split_core.specs.Stands.{IsStanding};
 use crate::state::SplitState;
 use device_bus::Device;
 
-/// The run on demand: an entry is computed only where the timing side wants it, and an order is obeyed as
-/// soon as it is told. So nothing is computed for nothing, whatever room there is between the sides.
+/// The run on demand: an entry is computed only where the timing side wants it, and an order is
+/// obeyed as soon as it is told. So nothing is computed for nothing, whatever room there is between
+/// the sides.
 impl<D: Device> SplitState<D> {
-    /// Plays steps of the timing side until the functional side has obeyed the last order, as many as a
-    /// run has at most.
+    /// Plays steps of the timing side until the functional side has obeyed the last order, as many
+    /// as a run has at most.
     pub fn play_on_demand(&mut self)
         requires standing { IsStanding self.old }
         ensures plays { Plays self.old self.new }

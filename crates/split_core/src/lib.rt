@@ -1,5 +1,6 @@
-//! The functional and the timing side together on one thread, with the entries and orders under way between them: whatever
-//! order their events come in, at each boundary they stand where the monolithic machine stands.
+//! The functional and the timing side together on one thread, with the entries and orders under way
+//! between them: whatever order their events come in, at each boundary they stand where the
+//! monolithic machine stands.
 #![tactic(auto)]
 
 mod bounds;

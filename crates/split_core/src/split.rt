@@ -8,10 +8,13 @@ use mono_model::{Final, Setup};
 use std::alloc::Global;
 use std::marker::Model;
 
-/// The split machine on one thread: a functional and a timing side, and the entries and orders under way between them.
+/// The split machine on one thread: a functional and a timing side, and the entries and orders
+/// under way between them.
 ///
-/// It stands for a state of the split run of its setup. In whatever order its events come, at each boundary that state has
-/// the cycle, the counts and the committed state of the monolithic machine.
+/// It stands for a state of the split run of its setup. In whatever order its events come, at each
+/// boundary that state has the cycle, the counts and the committed state of the monolithic machine.
+/// Once [`SplitCore::committed`] was called, nothing may be played any more: it stands for no state
+/// of the run then, and only its output is still of use.
 #[derive(Drop)]
 pub struct SplitCore<D: Device> {
     state: SplitState<D>,
@@ -33,15 +36,14 @@ impl<D: Device> SplitCore<D> {
     ghost use Rattle.mono_model.specs.declared.setup.Setup.{Setup as RunSetup};
     ghost use Rattle.device_bus.specs.Bus.{device_order};
     ghost use Rattle.mono_model.specs.Setup.{is_setup};
-    ghost use Rattle.mono_model.specs.Cycle.{final, mono};
-    ghost use Rattle.mono_model.specs.Split.{Split, split_start, played, to_boundary, is_boundary};
-    ghost use Rattle.machine_laws.specs.Reached.{IsReached};
-    ghost use Rattle.func_model.specs.Contents.{StandsFor as HoldsArch, output_in};
+    ghost use Rattle.mono_model.specs.Split.{Split, split_start, played, to_boundary};
+    ghost use Rattle.func_model.specs.Contents.{output_in};
     ghost use Rattle.split_core.specs.Events.{event_in};
-    ghost use Rattle.split_core.specs.Stands.{StandsFor, Leads, IsAtBoundary, IsEnded};
+    ghost use Rattle.split_core.specs.Stands.{StandsFor, Leads, LeadsToEnd, TellsBoundary};
+    ghost use Rattle.split_core.specs.Stands.{IsAtBoundary, Reports, GoesBack};
 
-    /// The core at the start of a run: nothing was computed, and nothing is under way. All memory of the run is taken here;
-    /// a refusal drops what it was given.
+    /// The core at the start of a run: nothing was computed, and nothing is under way. All memory
+    /// of the run is taken here; a refusal drops what it was given.
     pub fn new(alloc: Global, setup: &Setup, devices: Vec<D>) -> Result<SplitCore<D>, NoMemory>
         requires sound { is_setup setup.now ≡ true }
         requires order { map D.kind devices.items ≡ device_order }
@@ -60,15 +62,16 @@ impl<D: Device> SplitCore<D> {
         self.state.play(events);
     }
 
-    /// Whether it is at a boundary: the start of a cycle, or the end of the run, with no order in hand or under way.
+    /// Whether it is at a boundary: the start of a cycle, or the end of the run, with no order in
+    /// hand or under way.
     pub fn at_boundary(&self) -> bool
-        ensures boundary { (s : RunSetup) (x : Split) → StandsFor s x self.now → result ≡ is_boundary x }
+        ensures boundary { TellsBoundary self.now result }
     {
         self.state.at_boundary()
     }
 
-    /// Plays rounds of events until it is at a boundary; none where it is at one. A round leaves out the step of the timing
-    /// side where that stands at a boundary already.
+    /// Plays rounds of events until it is at a boundary; none where it is at one. A round leaves
+    /// out the step of the timing side where that stands at a boundary already.
     pub fn to_boundary(&mut self)
         requires going { self.old.is_over ≡ false }
         ensures stands { Leads to_boundary self.old self.new }
@@ -77,29 +80,33 @@ impl<D: Device> SplitCore<D> {
         self.state.to_boundary();
     }
 
-    /// Plays events until the run is over: the timing side has told its last order, and the functional side has obeyed it.
-    /// Entries are computed on demand; whatever state that leaves, the rounds behind it come to the end.
+    /// Plays events until the run is over: the timing side has told its last order, and the
+    /// functional side has obeyed it.
+    /// Entries are computed on demand; whatever state that leaves, the rounds behind it come to the
+    /// end.
     pub fn to_end(&mut self)
         requires going { self.old.is_over ≡ false }
-        ensures ended { (s : RunSetup) (x : Split) → is_setup s ≡ true → IsReached s x → StandsFor s x self.old → IsEnded s self.new }
+        ensures ended { LeadsToEnd self.old self.new }
         ensures boundary { IsAtBoundary self.new }
     {
         self.state.play_on_demand();
         self.state.to_end();
     }
 
-    /// What is reported at a boundary: the end, the counts, and the committed registers. The functional side goes back to what
-    /// is committed for it and stays there; its output can still be read, and nothing can be played any more.
+    /// What is reported at a boundary: the end, the counts, and the committed registers. The
+    /// functional side goes back to what is committed for it and stays there; its output can still
+    /// be read, and nothing can be played any more.
     pub fn committed(&mut self) -> Final
         requires boundary { IsAtBoundary self.old }
-        ensures reported { (s : RunSetup) (x : Split) → is_setup s ≡ true → IsReached s x → StandsFor s x self.old → is_boundary x ≡ true → result ≡ final s x.place.run.demand.machine.cycle }
-        ensures contents { (s : RunSetup) (x : Split) → is_setup s ≡ true → IsReached s x → StandsFor s x self.old → is_boundary x ≡ true → HoldsArch s (mono s x.place.run.demand.machine.cycle).arch self.new.func.contents }
+        ensures reported { Reports self.old result }
+        ensures contents { GoesBack self.old self.new }
         ensures over { self.new.is_over ≡ true }
     {
         self.state.committed()
     }
 
-    /// The output of the functional side: where [`SplitCore::committed`] was called, that of the run so far.
+    /// The output of the functional side: where [`SplitCore::committed`] was called, that of the
+    /// run so far; before, it may have bytes that run ahead.
     pub fn output(&self) -> &[u8]
         ensures output { result.now ≡ output_in self.now.func.contents }
     {
@@ -108,7 +115,8 @@ impl<D: Device> SplitCore<D> {
 
     /// The number of the cycle that the timing side is in, counted from 0.
     pub fn cycle(&self) -> u64
-        ensures cycle { (s : RunSetup) (x : Split) → StandsFor s x self.now → result ≡ x.place.run.demand.machine.cycle }
+        ensures cycle { (s : RunSetup) (x : Split) → StandsFor s x self.now
+            → result ≡ x.place.run.demand.machine.cycle }
     {
         self.state.time.cycle()
     }

@@ -8,13 +8,10 @@ use device_bus::Device;
 use fsim_base::NoMemory;
 use func_model::FuncSide;
 use mono_model::{Final, Setup};
-use rollback_cmds::Order;
+use rollback_cmds::{ORDER_ROOM, Order};
 use std::alloc::Global;
 use time_model::{TimeSide, Turn};
 use trace_entry::Entry;
-
-/// How many orders have room between the sides.
-const ORDERS: usize = 64;
 
 /// Both sides, and what is under way between them.
 #[derive(Drop)]
@@ -39,17 +36,17 @@ pub struct SplitState<D: Device> {
 
 impl<D: Device> SplitState<D> {
     ghost use Rattle.std.specs.Prelude.{List, if◌then◌else◌};
-    ghost use Rattle.mono_model.specs.declared.setup.Setup.{Setup as RunSetup};
     ghost use Rattle.device_bus.specs.Bus.{device_order};
     ghost use Rattle.mono_model.specs.Setup.{is_setup};
-    ghost use Rattle.mono_model.specs.Cycle.{final, mono};
-    ghost use Rattle.mono_model.specs.Split.{Split, split_start, compute, push, obey, tick, take, send, event_at, played, round, to_boundary, is_boundary, is_place_boundary};
-    ghost use Rattle.machine_laws.specs.Reached.{IsReached};
-    ghost use Rattle.func_model.specs.Contents.{StandsFor as HoldsArch};
+    ghost use Rattle.mono_model.specs.Split.{split_start, compute, push, obey, tick, take};
+    ghost use Rattle.mono_model.specs.Split.{send, event_at, played, round, to_boundary};
+    ghost use Rattle.mono_model.specs.Split.{is_place_boundary};
     ghost use Rattle.split_core.specs.Events.{event_in};
-    ghost use Rattle.split_core.specs.Stands.{StandsFor, Leads, IsStanding, IsAtBoundary, IsEnded};
+    ghost use Rattle.split_core.specs.Stands.{StandsFor, Leads, LeadsToEnd, TellsBoundary};
+    ghost use Rattle.split_core.specs.Stands.{IsStanding, IsAtBoundary, Reports, GoesBack};
 
-    /// Both sides at the start of a run, with nothing under way. All memory of the run is taken here.
+    /// Both sides at the start of a run, with nothing under way. All memory of the run is taken
+    /// here.
     pub fn new(alloc: Global, setup: &Setup, devices: Vec<D>) -> Result<SplitState<D>, NoMemory>
         requires sound { is_setup setup.now ≡ true }
         requires order { map D.kind devices.items ≡ device_order }
@@ -60,7 +57,7 @@ impl<D: Device> SplitState<D> {
         let Ok(entries) = HeapCircularBuffer::with_capacity(alloc, setup.ring as usize) else {
             return Err(NoMemory);
         };
-        let Ok(listed) = HeapCircularBuffer::with_capacity(alloc, ORDERS) else {
+        let Ok(listed) = HeapCircularBuffer::with_capacity(alloc, ORDER_ROOM) else {
             return Err(NoMemory);
         };
         Ok(SplitState {
@@ -76,7 +73,8 @@ impl<D: Device> SplitState<D> {
         })
     }
 
-    /// The functional side computes the entry at its position, if none is computed and it isn't at rest.
+    /// The functional side computes the entry at its position, if none is computed and it isn't at
+    /// rest.
     pub fn compute(&mut self)
         requires standing { IsStanding self.old }
         ensures computed { Leads (λ s. event_at s compute) self.old self.new }
@@ -97,8 +95,8 @@ impl<D: Device> SplitState<D> {
         }
     }
 
-    /// The functional side obeys the oldest order under way, if there is one. Where that opens an epoch, the computed entry
-    /// is of no use any more.
+    /// The functional side obeys the oldest order under way, if there is one. Where that opens an
+    /// epoch, the computed entry is of no use any more.
     pub fn obey(&mut self)
         requires standing { IsStanding self.old }
         ensures obeyed { Leads (λ s. event_at s obey) self.old self.new }
@@ -170,12 +168,13 @@ impl<D: Device> SplitState<D> {
 
     /// Whether a cycle starts or the run is over, with no order in hand or under way.
     pub fn at_boundary(&self) -> bool
-        ensures boundary { (s : RunSetup) (x : Split) → StandsFor s x self.now → result ≡ is_boundary x }
+        ensures boundary { TellsBoundary self.now result }
     {
         self.time.at_boundary() && self.hand.is_none() && self.listed.is_empty()
     }
 
-    /// A round of events, which leaves out the step of the timing side where that stands at a boundary.
+    /// A round of events, which leaves out the step of the timing side where that stands at a
+    /// boundary.
     fn round(&mut self)
         requires standing { IsStanding self.old }
         ensures played { Leads round self.old self.new }
@@ -190,7 +189,8 @@ impl<D: Device> SplitState<D> {
 
     /// The timing side makes a step, if it isn't at a boundary.
     fn tick_within_cycle(&mut self)
-        ensures ticked { Leads (λ s x. if is_place_boundary x.place then x else event_at s tick x) self.old self.new }
+        ensures ticked { Leads (λ s x. if is_place_boundary x.place then x else event_at s tick x)
+            self.old self.new }
     {
         if !self.time.at_boundary() {
             self.tick();
@@ -210,10 +210,11 @@ impl<D: Device> SplitState<D> {
         }
     }
 
-    /// Plays from boundary to boundary until the run is over, and the functional side has obeyed the last order.
+    /// Plays from boundary to boundary until the run is over, and the functional side has obeyed
+    /// the last order.
     pub fn to_end(&mut self)
         requires standing { IsStanding self.old }
-        ensures ended { (s : RunSetup) (x : Split) → is_setup s ≡ true → IsReached s x → StandsFor s x self.old → IsEnded s self.new }
+        ensures ended { LeadsToEnd self.old self.new }
     {
         for _ in 0..self.steps {
             self.to_boundary();
@@ -225,17 +226,19 @@ impl<D: Device> SplitState<D> {
         self.to_boundary();
     }
 
-    /// What is reported at a boundary: the functional side goes back to what is committed, and stays there.
+    /// What is reported at a boundary: the functional side goes back to what is committed, and
+    /// stays there.
     pub fn committed(&mut self) -> Final
         requires boundary { IsAtBoundary self.old }
-        ensures reported { (s : RunSetup) (x : Split) → is_setup s ≡ true → IsReached s x → StandsFor s x self.old → is_boundary x ≡ true → result ≡ final s x.place.run.demand.machine.cycle }
-        ensures contents { (s : RunSetup) (x : Split) → is_setup s ≡ true → IsReached s x → StandsFor s x self.old → is_boundary x ≡ true → HoldsArch s (mono s x.place.run.demand.machine.cycle).arch self.new.func.contents }
+        ensures reported { Reports self.old result }
+        ensures contents { GoesBack self.old self.new }
         ensures over { self.new.is_over ≡ true }
     {
         let number = self.func.committed();
         self.func.obey(Order::Stop { n: number });
         self.is_over = true;
         let arch = self.func.arch();
+        // No proof is generated of a literal that reads a field which is an array.
         let regs = arch.regs;
         Final {
             end: self.time.end(),

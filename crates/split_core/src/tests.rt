@@ -1,4 +1,5 @@
-//! One program, cycle by cycle, with its events in several orders. The values are worked out by hand from the machine's rules.
+//! One program, cycle by cycle, with its events in several orders. The values are worked out by
+//! hand from the machine's rules.
 
 ghost use Rattle.std.specs.Prelude.{◌≡◌, false, map, true, IfOk};
 ghost use Rattle.device_bus.specs.Bus.{device_order};
@@ -18,7 +19,6 @@ macro_rules! devices {
 }
 
 use crate::{Event, SplitCore};
-use branch_predictor::PredKind;
 use device_bus::{Console, Device, Finisher, Timer, in_order};
 use elf_image::{Image, Segment, Segments};
 use fsim_base::Bytes;
@@ -30,8 +30,8 @@ use std::test::Fail;
 
 const BASE: u32 = 0x8000_0000;
 
-/// At 0x80000000 ADDI x5, x0, 7; JAL x0, 8; then ADDI x6, x0, 1, which the jump leaps over; LUI x7, 0x10000;
-/// SB x5, 0(x7), to the console; and three NOPs.
+/// At 0x80000000 ADDI x5, x0, 7; JAL x0, 8; then ADDI x6, x0, 1, which the jump leaps over; LUI x7,
+/// 0x10000; SB x5, 0(x7), to the console; and three NOPs.
 const PROGRAM: [u32; 8] = [
     0x0070_0293,
     0x0080_006f,
@@ -43,44 +43,14 @@ const PROGRAM: [u32; 8] = [
     0x0000_0013,
 ];
 
-/// A machine that fetches and commits one instruction a cycle, with latencies of one cycle, no caches, and a predictor that
-/// knows no jump.
+/// A machine that fetches and commits one instruction a cycle, with latencies of one cycle, no
+/// caches, and a predictor that knows no jump.
 fn params() -> Params {
     Params {
-        version: 1,
-        ram_base: BASE,
         ram_size: 0x2000,
-        core_fetch: 1,
-        core_commit: 1,
-        core_front: 1,
         core_window: 4,
         core_stations: 4,
-        alu_count: 1,
-        alu_latency: 1,
-        mul_count: 1,
-        mul_latency: 1,
-        div_count: 1,
-        div_latency: 1,
-        mem_count: 1,
-        mem_latency: 1,
-        predictor_kind: PredKind::Static,
-        predictor_counters: 1,
-        predictor_history: 0,
-        predictor_targets: 0,
-        icache_line: 4,
-        icache_sets: 1,
-        icache_ways: 0,
-        icache_miss: 0,
-        dcache_line: 4,
-        dcache_sets: 1,
-        dcache_ways: 0,
-        dcache_miss: 0,
-        dcache_back: false,
-        l2_line: 4,
-        l2_sets: 1,
-        l2_ways: 0,
-        l2_hit: 0,
-        l2_miss: 0,
+        ..Params::plain()
     }
 }
 
@@ -154,7 +124,8 @@ const JUMPED: Row = Row {
     ..START
 };
 
-/// An instruction is fetched in one cycle, begins in the next, is done in the one behind that, and leaves in the fourth.
+/// An instruction is fetched in one cycle, begins in the next, is done in the one behind that, and
+/// leaves in the fourth.
 const ROWS: [Row; 9] = [
     START,
     Row {
@@ -254,8 +225,8 @@ fn final_of(row: &Row) -> Final {
     }
 }
 
-/// What is played where each cycle starts: the timing side alone, the functional side ahead of it, and the timing side as
-/// far as it comes without an entry.
+/// What is played where each cycle starts: the timing side alone, the functional side ahead of it,
+/// and the timing side as far as it comes without an entry.
 const PLANS: [&[Event]; 3] = [
     &[Event::Tick],
     &[
