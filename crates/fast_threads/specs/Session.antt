@@ -27,6 +27,7 @@ pub record IsOver {D : Type 0} (func : FuncWork D) (time : TimeWork) : Type 0 wh
   pub contents : HoldsEnd func.setup func.side.contents
 
 -- the two sides are of one run
-pub record IsRunning {D : Type 0} (func : FuncWork D) (time : TimeWork) (ended : Bool) : Type 0 where
+pub record IsRunning {D : Type 0} (func : FuncWork D) (time : TimeWork)
+    (ended : Bool) : Type 0 where
   pub same : time.setup ≡ func.setup
   pub over : ended ≡ true → IsOver func time

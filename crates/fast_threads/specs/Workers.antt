@@ -1,6 +1,7 @@
 -- What each side at its end of the queues stands for: how far it has come in the run. The two come
 -- on at their own pace.
-use Rattle.std.specs.Prelude.{◌≡◌, ℕ, ◌+◌, ◌≤◌, Bool, true, Option, Some, None, IfSome, List, length}
+use Rattle.std.specs.Prelude.{◌≡◌, ℕ, ◌+◌, ◌≤◌, Bool, true, Option, Some, None, IfSome, List}
+use Rattle.std.specs.Prelude.{length}
 use Rattle.rollback_cmds.specs.declared.order.Order.{Order}
 use Rattle.trace_entry.specs.declared.Entry.{Entry}
 use Rattle.mono_model.specs.declared.setup.Setup.{Setup}
@@ -33,7 +34,8 @@ pub record TimeWork : Type 0 where
   pub is_halted : Bool
 
 abbrev pub time_work : Setup → TimeState → Option Order → Bool → TimeWork
-time_work setup side hand is_halted = record { setup = setup; side = side; hand = hand; is_halted = is_halted }
+time_work setup side hand is_halted =
+    record { setup = setup; side = side; hand = hand; is_halted = is_halted }
 
 -- A computed entry is the one of its epoch and number, follows the last one pushed, and is the last
 -- of the side's path so far.
@@ -51,7 +53,8 @@ GoesOn end side (Some entry) = IsReady end side entry
 
 -- The functional side has obeyed the orders that were taken from the queue, which are the first
 -- ones of the run.
-pub record IsFuncAt {D : Type 0} (end : FuncAt) (side : Walk D) (computed : Option Entry) : Type 0 where
+pub record IsFuncAt {D : Type 0} (end : FuncAt) (side : Walk D)
+    (computed : Option Entry) : Type 0 where
   pub sound : is_setup end.setup ≡ true
   -- the orders, the newest first
   pub orders : List Order
@@ -67,7 +70,8 @@ in_hand None = 0
 in_hand (Some o) = 1
 
 -- The timing side has told the orders that were pushed to the queue, and the one in hand.
-pub record IsTimeAt (end : TimeAt) (side : TimeState) (hand : Option Order) (is_halted : Bool) : Type 0 where
+pub record IsTimeAt (end : TimeAt) (side : TimeState) (hand : Option Order)
+    (is_halted : Bool) : Type 0 where
   pub sound : is_setup end.setup ≡ true
   -- so many steps of the demand run were made
   pub steps : ℕ

@@ -4,9 +4,9 @@ const FIRST: u32 = 4;
 
 /// How far the functional side runs ahead of what the timing side is known to need.
 ///
-/// Entries that were made before an order which opens an epoch were made for nothing: they are undone
-/// on this side and let go on the other. So few are made behind such an order, and more the longer
-/// none comes.
+/// Entries that were made before an order which opens an epoch were made for nothing: they are
+/// undone on this side and let go on the other. So few are made behind such an order, and more the
+/// longer none comes.
 #[derive(Clone, Copy, Debug)]
 pub struct Lookahead {
     made: u32,
@@ -32,8 +32,8 @@ impl Lookahead {
         self.made = self.made.saturating_add(1);
     }
 
-    /// The entries are of use, since some are committed, or the side has nothing else to do: twice as
-    /// many may be made.
+    /// The entries are of use, since some are committed, or the side has nothing else to do: twice
+    /// as many may be made.
     pub fn widen(&mut self) {
         self.allowed = self.allowed.saturating_mul(2);
     }

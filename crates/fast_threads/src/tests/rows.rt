@@ -148,40 +148,10 @@ pub const COUNTDOWN: [Row; 2] = [
 /// The machine of a file with no keys, but for window and predictor.
 fn params(row: &Row) -> Params {
     Params {
-        version: 1,
-        ram_base: BASE,
-        ram_size: 0x100_0000,
-        core_fetch: 1,
-        core_commit: 1,
-        core_front: 1,
         core_window: row.window,
-        core_stations: 256,
-        alu_count: 1,
-        alu_latency: 1,
-        mul_count: 1,
-        mul_latency: 1,
-        div_count: 1,
-        div_latency: 1,
-        mem_count: 1,
-        mem_latency: 1,
         predictor_kind: row.predictor,
-        predictor_counters: 1024,
-        predictor_history: 8,
         predictor_targets: row.targets,
-        icache_line: 64,
-        icache_sets: 64,
-        icache_ways: 0,
-        icache_miss: 20,
-        dcache_line: 64,
-        dcache_sets: 64,
-        dcache_ways: 0,
-        dcache_miss: 20,
-        dcache_back: false,
-        l2_line: 64,
-        l2_sets: 512,
-        l2_ways: 0,
-        l2_hit: 10,
-        l2_miss: 100,
+        ..Params::plain()
     }
 }
 
