@@ -1,10 +1,10 @@
 -- One bit of four words: set, cleared, and all of them clear.
-use Rattle.std.proofs.Common.{◌≡◌, ◌≢◌, ℕ, ◌+◌, ◌-◌, ◌*◌, ◌/◌, ◌%◌, ◌^◌, min, max, ◌<◌, ◌==◌, ◌&&◌, ◌||◌, not, Bool, true, false, List, length, get_or, w64, inl, inr, ◌⊎◌, arith, ap, refl, sym, ◌∙◌, eq-eqb, IsTrue, ◌↔◌}
+use Rattle.std.proofs.Common.{◌≡◌, ◌≢◌, ℕ, suc, ◌+◌, ◌-◌, ◌*◌, ◌/◌, ◌%◌, ◌^◌, min, max, ◌<◌, ◌==◌, ◌&&◌, ◌||◌, not, Bool, true, false, List, length, get_or, w64, inl, inr, ◌⊎◌, arith, ap, refl, sym, ◌∙◌, eq-eqb, IsTrue, ◌↔◌}
 use Rattle.std.specs.Prelude.{slice_set, bit_or, bit_and}
 use Rattle.std.specs.Int.{bit_at}
-use Rattle.std.proofs.lemmas.Bool.{cases_eq, ne_eqb, eqb-false, eqb-true}
+use Rattle.std.proofs.lemmas.Bool.{cases_eq, cases_lt, ne_eqb, eqb-false, eqb-true}
 use Rattle.std.proofs.lemmas.List.{get_or-set_same, get_or-set_other, get_or_past}
-use Rattle.std.proofs.lemmas.Nat.Bits.{bit_at_set_same, bit_at_set_other, bit_at_clear_same, bit_at_clear_other, bit_at_or, bit_at-zero, bit_at-lt, same_from_bits, same_from_bits_below}
+use Rattle.std.proofs.lemmas.Nat.Bits.{bit_at_set_same, bit_at_set_other, bit_at_clear_same, bit_at_clear_other, bit_at_or, bit_at-zero, bit_at-lt, bit_at-suc, bit_at_lowest, bit_at_cat_low, bit_at_cat_high, same_from_bits, same_from_bits_below}
 
 -- whether a bit is set
 abbrev pub is_set : List ℕ → ℕ → Bool
@@ -138,3 +138,53 @@ empty words four fits = (
   λ is. none_from_zeros words (zeros_from_union words (eqb-true (union words) 0 is)) four,
   λ none. eq-eqb (union words) 0 (union_of_zeros words (λ k. zero_from_none words k (fits k) none)),
 )
+
+-- words whose bits are one lower, each with the lowest bit of the next one on top
+abbrev pub halved : ℕ → ℕ → ℕ
+halved word next = next % 2 * 2 ^ 63 + word / 2
+
+halved_below : (word next i : ℕ) → i < 63 → bit_at (halved word next) i ≡ bit_at word (i + 1)
+halved_below word next i below =
+    let e : i + 1 ≡ suc i = omega arith in
+    bit_at_cat_low (next % 2) 63 (word / 2) i below ∙ sym (bit_at-suc word i) ∙ ap (bit_at word) (sym e)
+
+halved_top : (word next : ℕ) → word < 2 ^ 64 → bit_at (halved word next) 63 ≡ bit_at next 0
+halved_top word next fits =
+    let low : word / 2 < 2 ^ 63 = omega arith in
+    let twice : next % 2 % 2 ≡ next % 2 = omega arith in
+    bit_at_cat_high (next % 2) 63 (word / 2) 63 low (omega arith) ∙ bit_at_lowest (next % 2) ∙ twice ∙ sym (bit_at_lowest next)
+
+pub is_set-shifted : (words new : List ℕ) → length words ≡ 4 → length new ≡ 4 → ((k : ℕ) → get_or words k 0 < 2 ^ 64) →
+    ((k : ℕ) → k < 4 → get_or new k 0 ≡ halved (get_or words k 0) (get_or words (k + 1) 0)) → (place : ℕ) → is_set new place ≡ is_set words (place + 1)
+is_set-shifted words new four long fits is place =
+    let word = place / 64 in
+    elim (cases_lt word 4) [
+      | inl few ↦ ap (λ n. bit_at n (place % 64) == 1) (is word few) ∙ elim (cases_lt (place % 64) 63) [
+        | inl low ↦
+            let same : (place + 1) / 64 ≡ word = omega arith in
+            let next : (place + 1) % 64 ≡ place % 64 + 1 = omega arith in
+            ap (λ n. n == 1) (halved_below (get_or words word 0) (get_or words (word + 1) 0) (place % 64) low)
+            ∙ ap (λ i. bit_at (get_or words word 0) i == 1) (sym next) ∙ ap (λ k. bit_at (get_or words k 0) ((place + 1) % 64) == 1) (sym same)
+        | inr high ↦
+            let top : place % 64 ≡ 63 = omega arith in
+            let same : (place + 1) / 64 ≡ word + 1 = omega arith in
+            let next : (place + 1) % 64 ≡ 0 = omega arith in
+            ap (λ i. bit_at (halved (get_or words word 0) (get_or words (word + 1) 0)) i == 1) top
+            ∙ ap (λ n. n == 1) (halved_top (get_or words word 0) (get_or words (word + 1) 0) (fits word))
+            ∙ ap (λ i. bit_at (get_or words (word + 1) 0) i == 1) (sym next) ∙ ap (λ k. bit_at (get_or words k 0) ((place + 1) % 64) == 1) (sym same)
+      ]
+      | inr many ↦
+          ap (λ n. bit_at n (place % 64) == 1) (get_or_past new word 0 (omega arith)) ∙ ap (λ n. n == 1) (bit_at-zero (place % 64))
+          ∙ sym (ap (λ n. bit_at n ((place + 1) % 64) == 1) (get_or_past words ((place + 1) / 64) 0 (omega arith)) ∙ ap (λ n. n == 1) (bit_at-zero ((place + 1) % 64)))
+    ]
+
+pub each_halved : (words new : List ℕ) → length words ≡ 4 → get_or new 0 0 ≡ halved (get_or words 0 0) (get_or words 1 0) → get_or new 1 0 ≡ halved (get_or words 1 0) (get_or words 2 0) →
+    get_or new 2 0 ≡ halved (get_or words 2 0) (get_or words 3 0) → get_or new 3 0 ≡ halved (get_or words 3 0) 0 →
+    (k : ℕ) → k < 4 → get_or new k 0 ≡ halved (get_or words k 0) (get_or words (k + 1) 0)
+each_halved words new four first second third fourth k within = elim (below_four k within) [
+  | inl is ↦ rw is first
+  | inr later ↦ elim later [
+    | inl is ↦ rw is second
+    | inr last_two ↦ elim last_two [ inl is ↦ rw is third | inr is ↦ rw is (fourth ∙ ap (halved (get_or words 3 0)) (sym (get_or_past words 4 0 (omega arith)))) ]
+  ]
+]

@@ -1,5 +1,5 @@
 -- A record enters.
-use Rattle.std.proofs.Common.{◌≡◌, ◌≢◌, ◌↔◌, ℕ, ◌+◌, ◌^◌, ◌<◌, ◌≤◌, ◌==◌, ◌||◌, Bool, true, false, if◌then◌else◌, Option, Some, None, Result, Ok, Err, List, [], ◌∷◌, ◌++◌, length, reverse, refl, ap, sym, ◌∙◌, inl, inr, arith, eq-eqb, subst}
+use Rattle.std.proofs.Common.{◌≡◌, ◌≢◌, ◌↔◌, ℕ, ◌+◌, ◌-◌, ◌^◌, ◌<◌, ◌≤◌, ◌==◌, ◌||◌, Bool, true, false, if◌then◌else◌, Option, Some, None, Result, Ok, Err, List, [], ◌∷◌, ◌++◌, length, reverse, refl, ap, sym, ◌∙◌, inl, inr, arith, eq-eqb, subst, take, length-append}
 use Rattle.std.specs.Prelude.{slice_set, IsNone, IsOk, OnOk}
 use Rattle.std.specs.List.{AllByRecursion, IsDistinct, list_any}
 use Rattle.std.proofs.lemmas.Bool.{cases_eq, ne_eqb}
@@ -9,15 +9,15 @@ use Rattle.circular_buffer.specs.Buffer.{Buffer, buffer}
 use Rattle.reservation_stations.specs.declared.station.Station.{Station}
 use Rattle.reservation_stations.specs.declared.entry.Entry.{Entry}
 use Rattle.reservation_stations.specs.Mask.{holds, is_slot}
-use Rattle.reservation_stations.specs.Readiness.{Window, is_waiting, is_done, is_register, station_of, waiting_count}
+use Rattle.reservation_stations.specs.Readiness.{Window, is_waiting, is_done, is_register, station_of, youngest_slot, waiting_count}
 use Rattle.reservation_stations.specs.Keeps.{Keeps, Each, AreDistinct, IsEntry, entry_at, stations_at, station_in, producer, producer_of, awaited}
 use Rattle.reservation_stations.specs.Changes.{with_producer}
 use Rattle.reservation_stations.proofs.Slots.{Each-map, Each-push, AreDistinct-push, station_of-free}
 use Rattle.reservation_stations.proofs.Carried.{Changes, AreEntries-carried, AreEntries-push}
 use Rattle.reservation_stations.proofs.Marking.{entry_at-set, Stays, stations_at-same}
-use Rattle.reservation_stations.proofs.Kept.{seen, none, dropped_none, or_false, and_true, Carries-none}
+use Rattle.reservation_stations.proofs.Kept.{seen, Keeps-changed, none, dropped_none, or_false, and_true, Carries-none}
 use Rattle.reservation_stations.proofs.Reading.{reverse_seen, Each-reverse}
-use Rattle.reservation_stations.proofs.Leaving.{get_or-with_producer, length-with_producer, waiting_count-push, reverse-push}
+use Rattle.reservation_stations.proofs.Leaving.{front_keeps, get_or-with_producer, length-with_producer, waiting_count-push, reverse-push}
 
 -- slots below a number, no two of them equal, are at most that many
 apart : (slot : ℕ) (slots : List ℕ) → Each (λ other. other ≢ slot) slots → AllByRecursion (λ other. (slot == other) ≡ false) slots
@@ -38,7 +38,7 @@ below_from n q (slot ∷ slots) each there = elim (cases_eq q slot) [
       below_from n q slots each.1 (rw (ne_eqb q slot differ) at rest)
 ]
 
-few : (n : ℕ) (slots : List ℕ) → AreDistinct slots → Each (λ slot. slot < n) slots → length slots ≤ n
+pub few : (n : ℕ) (slots : List ℕ) → AreDistinct slots → Each (λ slot. slot < n) slots → length slots ≤ n
 few n slots distinct each = length-le_from_distinct_below slots n (IsDistinct-from slots distinct) (λ q there. below_from n q slots each there)
 
 abbrev one_if : Bool → ℕ
@@ -95,6 +95,14 @@ module _ (window : ℕ) (slots : List ℕ) (old : List Entry) (producers : List 
   stations_stay : stations_at (entry_at (slice_set old slot entry)) slots ≡ stations_at (entry_at old) slots
   stations_stay = stations_at-same (entry_at old) (entry_at (slice_set old slot entry)) slots (Each-map (λ other. other ≢ slot) (Stays (entry_at old) (entry_at (slice_set old slot entry))) Stays-none slots fresh)
 
+  -- a slot that no record holds keeps something else
+  pub Keeps-other : Keeps window slots (slice_set old slot entry) producers waiting
+  Keeps-other =
+      Keeps-changed window slots old (slice_set old slot entry) producers waiting waiting none keeps (length-set old slot entry) each_changes (keeps.count ∙ sym (ap waiting_count stations_stay))
+
+  pub seen-other : seen window slots (slice_set old slot entry) ≡ seen window slots old
+  seen-other = λ i. record { window = window; stations = stations_stay i }
+
   older_stay : stations_at (entry_at (slice_set old slot entry)) (reverse slots) ≡ stations_at (entry_at old) (reverse slots)
   older_stay = stations_at-same (entry_at old) (entry_at (slice_set old slot entry)) (reverse slots) (Each-map (λ other. other ≢ slot) (Stays (entry_at old) (entry_at (slice_set old slot entry))) Stays-none (reverse slots) (Each-reverse (λ other. other ≢ slot) slots fresh))
 
@@ -137,7 +145,7 @@ module _ {window : ℕ} {slots : List ℕ} {entries : List Entry} {producers : L
   inside_window : slot < window
   inside_window = omega (arith, within, ap (λ (v : Window). v.window) is_seen)
 
-  is_fresh : Each (λ other. other ≢ slot) slots
+  pub is_fresh : Each (λ other. other ≢ slot) slots
   is_fresh = station_of-free (entry_at entries) slots slot (none_from (station_of slot (stations_at (entry_at entries) slots)) (subst (λ (v : Window). IsNone (station_of slot v.stations)) (sym is_seen) free))
 
   pub room : length slots < window
@@ -147,7 +155,7 @@ module _ {window : ℕ} {slots : List ℕ} {entries : List Entry} {producers : L
   waiting_fits = omega (arith, room, keeps.limit, keeps.count, waiting_few (entry_at entries) slots)
 
   module _ (entry : Entry) (order : Buffer ℕ) (r : Result (Unit {0}) ℕ) (variant : IsOk r ↔ (length slots < window)) (ok : OnOk r (order ≡ buffer (slots ++ slot ∷ []) window)) where
-    is_pushed : order ≡ buffer (slots ++ slot ∷ []) window
+    pub is_pushed : order ≡ buffer (slots ++ slot ∷ []) window
     is_pushed = pushed r variant room ok
 
     pub Keeps-entered : (table : List (Option ℕ)) → ((k : ℕ) → holds entry.waits k ≡ (is_slot k (awaited (reverse w.stations) entry.first) || is_slot k (awaited (reverse w.stations) entry.second))) →
@@ -164,3 +172,12 @@ module _ {window : ℕ} {slots : List ℕ} {entries : List Entry} {producers : L
         ap (λ (o : Buffer ℕ). seen o.capacity o.items (slice_set entries slot entry)) is_pushed
         ∙ (λ i. record { window = window; stations = stations_pushed window slots entries producers waiting keeps slot inside_window is_fresh entry i })
         ∙ ap (λ (v : Window). record v { stations = v.stations ++ station_in slot entry ∷ [] }) is_seen
+
+-- the place of the youngest, once it is cut
+module _ {window : ℕ} {slots : List ℕ} {entries : List Entry} {producers : List (Option ℕ)} {waiting : ℕ} (keeps : Keeps window slots entries producers waiting) {w : Window} (is_seen : seen window slots entries ≡ w) (slot : ℕ) (youngest : youngest_slot w.stations ≡ Some slot) where
+  pub place_few : (order : Buffer ℕ) → order ≡ buffer (take (length slots - 1) slots) window → (place : ℕ) → place ≡ length order.items → place < 256
+  place_few order popped place is =
+      let front = take (length slots - 1) slots in
+      let rest : length order.items ≡ length front = ap (λ (o : Buffer ℕ). length o.items) popped in
+      let whole = front_keeps keeps is_seen slot youngest in
+      omega (arith, is, rest, few window (front ++ slot ∷ []) whole.distinct whole.within, length-append front (slot ∷ []), keeps.limit)

@@ -43,7 +43,7 @@ module _ (at at' : ℕ → Entry) (lost gone : ℕ → Bool) where
 
 -- where the list of slots stays, and no record leaves
 module _ (window : ℕ) (slots : List ℕ) (old new : List Entry) (producers : List (Option ℕ)) (waiting waiting' : ℕ) (lost : ℕ → Bool) where
-  Keeps-changed : Keeps window slots old producers waiting → length new ≡ length old → Each (Changes (entry_at old) (entry_at new) lost none) slots →
+  pub Keeps-changed : Keeps window slots old producers waiting → length new ≡ length old → Each (Changes (entry_at old) (entry_at new) lost none) slots →
       waiting' ≡ waiting_count (stations_at (entry_at new) slots) → Keeps window slots new producers waiting'
   Keeps-changed keeps same each count =
       let at = entry_at old in

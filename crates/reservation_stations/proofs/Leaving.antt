@@ -86,7 +86,7 @@ module _ {window : ℕ} {slots : List ℕ} {entries : List Entry} {producers : L
         (ap (option_map (λ (station : Station). station.slot))
         (ap (λ n. option_map (λ s. station_in s (entry_at entries s)) (slice_get slots (n - 1))) (sym (length-map slots (λ s. station_in s (entry_at entries s)))) ∙ sym found) ∙ there)
 
-    split : slots ≡ take (length slots - 1) slots ++ slot ∷ []
+    pub split : slots ≡ take (length slots - 1) slots ++ slot ∷ []
     split = rw is_last at (pops_last slots)
 
     pub cut_within : slot < length entries
@@ -94,7 +94,7 @@ module _ {window : ℕ} {slots : List ℕ} {entries : List Entry} {producers : L
         let each : Each (λ s. s < window) (take (length slots - 1) slots ++ slot ∷ []) = subst (Each (λ s. s < window)) split keeps.within in
         omega (arith, (Each-front (λ s. s < window) (take (length slots - 1) slots) slot each).1, keeps.every_slot)
 
-    front_keeps : Keeps window (take (length slots - 1) slots ++ slot ∷ []) entries producers waiting
+    pub front_keeps : Keeps window (take (length slots - 1) slots ++ slot ∷ []) entries producers waiting
     front_keeps = subst (λ xs. Keeps window xs entries producers waiting) split keeps
 
     module _ (entry : Entry) (read : entry ≡ get_or entries slot entry) where
@@ -230,13 +230,13 @@ head_is [] slot is = absurd cc
 head_is (other ∷ slots) slot is = ap (λ s. s ∷ slots) (same_Some other slot is)
 
 module _ {window : ℕ} {slots : List ℕ} {entries : List Entry} {producers : List (Option ℕ)} {waiting : ℕ} (keeps : Keeps window slots entries producers waiting) {w : Window} (is_seen : seen window slots entries ≡ w) (slot : ℕ) (oldest : oldest_slot w.stations ≡ Some slot) where
-  is_first : slots ≡ slot ∷ drop 1 slots
+  pub is_first : slots ≡ slot ∷ drop 1 slots
   is_first =
       let there : oldest_slot (stations_at (entry_at entries) slots) ≡ Some slot = ap (λ (v : Window). oldest_slot v.stations) is_seen ∙ oldest in
       head_is slots slot (last_slot (slice_get slots 0) slot (λ s. station_in s (entry_at entries s)) (λ s. refl)
       (ap (option_map (λ (station : Station). station.slot)) (sym (slice_get-map (λ s. station_in s (entry_at entries s)) slots 0)) ∙ there))
 
-  first_keeps : Keeps window (slot ∷ drop 1 slots) entries producers waiting
+  pub first_keeps : Keeps window (slot ∷ drop 1 slots) entries producers waiting
   first_keeps = subst (λ xs. Keeps window xs entries producers waiting) is_first keeps
 
   pub retire_within : slot < length entries

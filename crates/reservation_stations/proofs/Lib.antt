@@ -9,3 +9,4 @@ pub mod Leaving
 pub mod Entering
 pub mod Lowest
 pub mod Noted
+pub mod Places

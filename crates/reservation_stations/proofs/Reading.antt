@@ -1,14 +1,16 @@
 -- What is read of the tables: producers, what is awaited of them, and whether a record waits for nothing.
-use Rattle.std.proofs.Common.{◌≡◌, ◌≢◌, ◌↔◌, ℕ, zero, suc, ◌<◌, ◌==◌, ◌||◌, ◌&&◌, Bool, true, false, IsTrue, if◌then◌else◌, Option, Some, None, IfSome, IsSome, is_none, List, [], ◌∷◌, ◌++◌, length, take, get_or, reverse, refl, ap, sym, ◌∙◌, arith, eq-eqb, subst}
+use Rattle.std.proofs.Common.{◌≡◌, ◌≢◌, ◌↔◌, ℕ, zero, suc, ◌<◌, ◌==◌, ◌||◌, ◌&&◌, Bool, true, false, IsTrue, if◌then◌else◌, Option, Some, None, IfSome, IsSome, is_none, List, [], ◌∷◌, ◌++◌, length, take, get_or, reverse, refl, ap, sym, ◌∙◌, arith, eq-eqb, subst, inl, inr}
 use Rattle.std.specs.Prelude.{slice_get, option_map, All, AllPairs}
 use Rattle.std.proofs.lemmas.Bool.{both_ways, or_parts}
 use Rattle.std.proofs.lemmas.List.{append-nil, take-map, get_or_read}
-use Rattle.std.proofs.lemmas.Option.{slice_get-map, same_Some}
+use Rattle.std.proofs.lemmas.Option.{slice_get-map, slice_get_cases, same_Some}
 use Rattle.reservation_stations.specs.declared.station.Station.{Station}
 use Rattle.reservation_stations.specs.declared.entry.Entry.{Entry}
+use Rattle.reservation_stations.specs.declared.mask.Mask.{Mask}
 use Rattle.reservation_stations.specs.Mask.{holds, is_slot}
-use Rattle.reservation_stations.specs.Readiness.{Window, is_waiting, is_done, is_register, has_written_value, has_operand, has_operands, older_than, can_begin, can_begin_at, station_of}
+use Rattle.reservation_stations.specs.Readiness.{Window, is_waiting, is_issued, is_done, executes, executes_at, is_register, has_written_value, has_operand, has_operands, older_than, can_begin, can_begin_at, station_of}
 use Rattle.reservation_stations.specs.Keeps.{Keeps, Each, AreDistinct, IsEntry, entry_at, free_entry, stations_at, station_in, producer, producer_of, unfinished, awaited}
+use Rattle.reservation_stations.specs.Places.{IsReady, IsIssued, HoldsPlaces}
 use Rattle.reservation_stations.proofs.Slots.{Each-push, reverse-cons, reverse-map, station_of-held}
 use Rattle.reservation_stations.proofs.Carried.{AreEntries_at}
 use Rattle.reservation_stations.proofs.Kept.{seen}
@@ -132,6 +134,15 @@ pub awaited-no_producer : (older : List Station) (source : Option ℕ) → produ
 awaited-no_producer older None is = refl
 awaited-no_producer older (Some register) is = unfinished-no_producer older register is
 
+not_held : (b : Bool) → (b ≡ true → ⊥) → b ≡ false
+not_held true never = absurd (never refl)
+not_held false never = refl
+
+same_bools : (a b : Bool) → (a ≡ true) ↔ (b ≡ true) → a ≡ b
+same_bools true b is = sym (is.0 refl)
+same_bools false true is = is.1 refl
+same_bools false false is = refl
+
 All-from_each : (at : ℕ → Entry) (P : ℕ → Type 0) (slots : List ℕ) → Each P slots → (k : ℕ) (d : Station) → k < length (stations_at at slots) →
     P (get_or (stations_at at slots) k d).slot
 All-from_each at P [] each k d within = absurd (omega arith)
@@ -221,21 +232,34 @@ module _ {window : ℕ} {slots : List ℕ} {entries : List Entry} {producers : L
   begins_at place slot there =
       ap (can_begin (older_than place w.stations)) (station_seen place ∙ ap (option_map (λ s. station_in s (entry_at entries s))) there)
 
-  pub begins_not : (place slot : ℕ) (entry : Entry) → slice_get slots place ≡ Some slot → entry ≡ get_or entries slot entry → is_waiting entry.mark ≡ false →
-      false ≡ can_begin_at w.stations place
-  begins_not place slot entry there read idle =
-      let is_entry = get_or_read entries slot entry (slot_within place slot there) read free_entry in
-      ap (λ b. b && has_operands (older_than place w.stations) (station_in slot (entry_at entries slot))) (sym idle ∙ ap (λ (e : Entry). is_waiting e.mark) is_entry)
-      ∙ sym (begins_at place slot there)
-
-  pub begins_by : (place slot : ℕ) (entry : Entry) (r : Bool) → slice_get slots place ≡ Some slot → entry ≡ get_or entries slot entry → is_waiting entry.mark ≡ true →
-      IsTrue r ↔ ((k : ℕ) → holds entry.waits k ≡ false) → r ≡ can_begin_at w.stations place
-  begins_by place slot entry r there read waits empty =
-      let is_entry = get_or_read entries slot entry (slot_within place slot there) read free_entry in
+  -- whether the record at a place can begin, and whether it executes, by the sets of places
+  ready_by : (place slot : ℕ) (r b : Bool) → slice_get slots place ≡ Some slot → r ≡ true ↔ IsReady (entry_at entries slot) → is_waiting (entry_at entries slot).mark ≡ b →
+      r ≡ (b && has_operands (older_than place w.stations) (station_in slot (entry_at entries slot)))
+  ready_by place slot r true there ready waits =
       empty-has_operands r (older_than place w.stations) slot (entry_at entries slot) (entry_seen place slot there)
-      (subst (λ (e : Entry). IsTrue r ↔ ((k : ℕ) → holds e.waits k ≡ false)) is_entry empty)
-      ∙ ap (λ b. b && has_operands (older_than place w.stations) (station_in slot (entry_at entries slot))) (sym waits ∙ ap (λ (e : Entry). is_waiting e.mark) is_entry)
-      ∙ sym (begins_at place slot there)
+      (λ is. (ready.0 is).nothing, λ nothing. ready.1 (record { waits = waits; nothing = nothing }))
+  ready_by place slot true false there ready waits = let w = (ready.0 refl).waits in cc
+  ready_by place slot false false there ready waits = refl
+
+  pub ready_at : (ready : Mask) → HoldsPlaces IsReady slots entries ready → (place : ℕ) → holds ready place ≡ can_begin_at w.stations place
+  ready_at ready held place = elim (slice_get_cases slots place).1 [
+    | inl there ↦
+        ready_by place there.0 (holds ready place) (is_waiting (entry_at entries there.0).mark) there.2 (held.each place there.0 there.2) refl
+        ∙ sym (begins_at place there.0 there.2)
+    | inr past ↦
+        not_held (holds ready place) (λ is. let w = held.within place is in omega (arith, w, past.0))
+        ∙ sym (ap (can_begin (older_than place w.stations)) (station_seen place ∙ ap (option_map (λ s. station_in s (entry_at entries s))) past.1))
+  ]
+
+  pub executing_at : (executing : Mask) → HoldsPlaces IsIssued slots entries executing → (place : ℕ) → holds executing place ≡ executes_at w.stations place
+  executing_at executing held place = elim (slice_get_cases slots place).1 [
+    | inl there ↦
+        same_bools (holds executing place) (is_issued (entry_at entries there.0).mark) (held.each place there.0 there.2)
+        ∙ sym (ap executes (station_seen place ∙ ap (option_map (λ s. station_in s (entry_at entries s))) there.2))
+    | inr past ↦
+        not_held (holds executing place) (λ is. let w = held.within place is in omega (arith, w, past.0))
+        ∙ sym (ap executes (station_seen place ∙ ap (option_map (λ s. station_in s (entry_at entries s))) past.1))
+  ]
 
   -- slots in the list
   pub all_within : All (λ station. station.slot < w.window) w.stations

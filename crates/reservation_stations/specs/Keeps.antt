@@ -1,7 +1,7 @@
 -- What the tables of the stations stand for: the slots from the oldest to the youngest, an entry for each slot, and for
 -- each register the slot of its producer.
 use Rattle.std.specs.Prelude.{◌≡◌, ◌≢◌, ℕ, ◌<◌, ◌≤◌, ◌||◌, if◌then◌else◌, Option, Some, None, List, [], ◌∷◌, length, map, reverse, get_or}
-use Rattle.reservation_stations.specs.declared.station.Mark.TheVariants.{Waiting}
+use Rattle.reservation_stations.specs.declared.station.Mark.TheVariants.{Done}
 use Rattle.reservation_stations.specs.declared.station.Station.{Station}
 use Rattle.reservation_stations.specs.declared.entry.Entry.{Entry}
 use Rattle.reservation_stations.specs.Mask.{holds, is_slot}
@@ -13,9 +13,10 @@ free_entry = record {
   first = None;
   second = None;
   destination = None;
-  mark = Waiting;
+  mark = Done;
   waits = record { words = 0 ∷ 0 ∷ 0 ∷ 0 ∷ [] };
   displaced = None;
+  turn = 0;
 }
 
 -- what a slot keeps

@@ -3,3 +3,4 @@ pub mod Mask
 pub mod Keeps
 pub mod Changes
 pub mod Covers
+pub mod Places

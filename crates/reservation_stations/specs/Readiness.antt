@@ -56,6 +56,20 @@ can_begin older (Some station) = is_waiting station.mark && has_operands older s
 abbrev pub can_begin_at : List Station → ℕ → Bool
 can_begin_at stations place = can_begin (older_than place stations) (slice_get stations place)
 
+-- whether the record at a place executes
+abbrev pub is_issued : Mark → Bool
+is_issued Waiting = false
+is_issued Issued = true
+is_issued Done = false
+is_issued Faulted = false
+
+abbrev pub executes : Option Station → Bool
+executes None = false
+executes (Some station) = is_issued station.mark
+
+abbrev pub executes_at : List Station → ℕ → Bool
+executes_at stations place = executes (slice_get stations place)
+
 -- the record that holds a slot, and its mark
 abbrev pub station_of : ℕ → List Station → Option Station
 station_of slot stations = find (λ station. station.slot == slot) stations

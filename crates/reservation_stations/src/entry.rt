@@ -12,13 +12,16 @@ pub struct Entry {
     pub waits: Mask,
     /// The slot that was its destination's producer before it, while that record stands in the window.
     pub displaced: Option<u32>,
+    /// Its place plus how many records retired, modulo 256.
+    pub turn: u8,
 }
 
 impl Entry {
-    ghost use Rattle.std.specs.Prelude.{◌≡◌, ◌<◌, ℕ, false};
+    ghost use Rattle.std.specs.Prelude.{◌≡◌, ◌↔◌, ◌+◌, ◌-◌, ◌%◌, ◌<◌, ℕ, false, IsTrue};
     ghost use Rattle.reservation_stations.specs.Mask.{holds};
     ghost use Rattle.reservation_stations.specs.Keeps.{free_entry};
     ghost use Rattle.reservation_stations.specs.Changes.{Releases, Forgets};
+    ghost use Rattle.reservation_stations.specs.Places.{IsReady, place_in};
 
     /// That of a slot that no record held yet.
     pub fn free() -> Entry
@@ -29,10 +32,26 @@ impl Entry {
             first: None,
             second: None,
             destination: None,
-            mark: Mark::Waiting,
+            mark: Mark::Done,
             waits: Mask::none(),
             displaced: None,
+            turn: 0,
         }
+    }
+
+    /// Whether its record waits for nothing but a unit.
+    pub fn is_ready(&self) -> bool
+        ensures ready { IsTrue result ↔ IsReady self.now }
+    {
+        self.mark.is_waiting() && self.waits.is_empty()
+    }
+
+    /// The place of its record, where so many retired.
+    pub fn place(&self, retired: u8) -> u32
+        ensures place { result ≡ place_in retired self.now }
+        ensures within { result < 256 }
+    {
+        u32::from(self.turn.wrapping_sub(retired))
     }
 
     /// Waits no longer for a slot.

@@ -1,11 +1,11 @@
-//! A set of slots in four words.
-ghost use Rattle.std.specs.Prelude.{◌≡◌, ◌↔◌, ◌<◌, ◌≤◌, ◌==◌, ◌&&◌, ◌||◌, not, ℕ, IsTrue, false};
+//! A set of slots, or of places, in four words.
+ghost use Rattle.std.specs.Prelude.{◌≡◌, ◌↔◌, ◌+◌, ◌/◌, ◌%◌, ◌*◌, ◌^◌, ◌<◌, ◌≤◌, ◌==◌, ◌&&◌, ◌||◌, not, ℕ, IsTrue, false};
 ghost use Rattle.std.specs.Prelude.{IfSome, IfNone};
 ghost use Rattle.std.specs.Int.{bit_at};
 ghost use Rattle.std.specs.Option.{ForSome};
 ghost use Rattle.reservation_stations.specs.Mask.{holds, is_slot};
 
-/// A set of slots, each below 256: bit `slot % 64` of word `slot / 64`.
+/// A set of slots or of places, each below 256: bit `slot % 64` of word `slot / 64`.
 #[derive(Clone, Copy, Debug, PartialEq, Eq)]
 pub struct Mask {
     words: [u64; 4],
@@ -42,16 +42,30 @@ impl Mask {
         self.words[(slot / 64) as usize] &= !(1 << (slot % 64));
     }
 
-    /// The first slot in the set from one on.
-    pub fn next(&self, from: u32) -> Option<u32>
+    /// Takes the lowest place out of the set, and lets all others be one lower.
+    pub fn shift(&mut self)
+        ensures shifted { (place : ℕ) → holds self.new place ≡ holds self.old (place + 1) }
+    {
+        let [first, second, third, fourth] = self.words;
+        self.words = [
+            halved(first, second),
+            halved(second, third),
+            halved(third, fourth),
+            halved(fourth, 0),
+        ];
+    }
+
+    /// The first slot in the set from one on, looked for up to another one.
+    pub fn next(&self, from: u32, upto: u32) -> Option<u32>
+        requires few { upto ≤ 256 }
         ensures behind { IfSome result (λ slot. (from ≤ slot) × (slot < 256)) }
         ensures found { IfSome result (λ slot. IsTrue (holds self.now slot)) }
         ensures first { IfSome result (λ slot. (k : ℕ) → from ≤ k → k < slot →
             holds self.now k ≡ false) }
-        ensures none { IfNone result ((k : ℕ) → from ≤ k → k < 256 → holds self.now k ≡ false) }
+        ensures none { IfNone result ((k : ℕ) → from ≤ k → k < upto → holds self.now k ≡ false) }
     {
         let mut at = from;
-        while at < 256 {
+        while at < upto {
             let word = at / 64;
             match lowest(self.words[word as usize], at % 64) {
                 Some(bit) => return Some(word * 64 + bit),
@@ -68,6 +82,13 @@ impl Mask {
         let [first, second, third, fourth] = self.words;
         first | second | third | fourth == 0
     }
+}
+
+/// The bits of a word one lower, with the lowest bit of the next word on top.
+fn halved(word: u64, next: u64) -> u64
+    ensures halved { result ≡ next % 2 * 2 ^ 63 + word / 2 }
+{
+    (next % 2) * (1 << 63) + word / 2
 }
 
 /// The lowest 1 of a word from a bit on.

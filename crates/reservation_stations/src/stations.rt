@@ -1,7 +1,7 @@
 use crate::entry::Entry;
 use crate::mask::Mask;
 use crate::station::Mark;
-use crate::tables::{drop_producer, forget, note, release, set_producer, uncounted};
+use crate::tables::{drop_producer, forget, note, note_ready, release, set_producer, uncounted};
 use circular_buffer::HeapCircularBuffer;
 use fsim_base::NoMemory;
 use std::alloc::Global;
@@ -23,12 +23,19 @@ pub struct Stations {
     producers: Vec<Option<u32>>,
     /// How many records wait.
     waiting: u32,
+    /// The places of the records that wait for nothing but a unit.
+    ready: Mask,
+    /// The places of those that execute.
+    executing: Mask,
+    /// How many records retired, modulo 256.
+    retired: u8,
 }
 
 impl Model for Stations {
     ghost use Rattle.reservation_stations.specs.Readiness.{Window};
     ghost use Rattle.reservation_stations.specs.Keeps.{Keeps, stations_at, entry_at};
     ghost use Rattle.reservation_stations.specs.Covers.{AreCovered};
+    ghost use Rattle.reservation_stations.specs.Places.{ArePlaced};
 
     ghost Value = { Window };
 
@@ -36,12 +43,13 @@ impl Model for Stations {
 
     ghost invariant = { λ s.
         Keeps s.order.capacity s.order.items s.entries.items s.producers.items s.waiting
-        × AreCovered s.entries.items s.dependents.items };
+        × AreCovered s.entries.items s.dependents.items
+        × ArePlaced s.retired s.order.items s.entries.items s.ready s.executing };
 }
 
 impl Stations {
     ghost use Rattle.std.specs.Prelude.{◌≡◌, ◌≢◌, ◌↔◌, ◌<◌, ◌≤◌, ◌-◌, ◌++◌, ◌∷◌, [], ℕ, false, length, reverse, take, drop, slice_get, All, AllPairs, IsTrue, IsSome, IsNone, IfSome, IfNone, IfOk, if◌then◌else◌};
-    ghost use Rattle.reservation_stations.specs.Readiness.{Window, station_of, mark_of, oldest_slot, youngest_slot, older_than, has_operands, can_begin_at, marked, entered, waiting_count};
+    ghost use Rattle.reservation_stations.specs.Readiness.{Window, station_of, mark_of, oldest_slot, youngest_slot, older_than, has_operands, can_begin_at, executes_at, marked, entered, waiting_count};
     ghost use Rattle.reservation_stations.specs.Keeps.{producer_of, awaited};
     ghost use Rattle.reservation_stations.specs.declared.station.Station.{Station};
 
@@ -68,6 +76,9 @@ impl Stations {
             dependents,
             producers,
             waiting: 0,
+            ready: Mask::none(),
+            executing: Mask::none(),
+            retired: 0,
         })
     }
 
@@ -125,14 +136,18 @@ impl Stations {
         note(&mut self.dependents, first, slot);
         note(&mut self.dependents, second, slot);
         note(&mut self.dependents, displaced, slot);
-        self.entries[slot as usize] = Entry {
+        let place = self.order.len() as u8;
+        let entry = Entry {
             first: sources.0,
             second: sources.1,
             destination,
             mark: Mark::Waiting,
             waits: Mask::none().with(first).with(second),
             displaced,
+            turn: self.retired.wrapping_add(place),
         };
+        note_ready(&mut self.ready, &entry, self.retired);
+        self.entries[slot as usize] = entry;
         set_producer(&mut self.producers, destination, Some(slot));
         // There is room, so this is Ok.
         let _ = self.order.try_push_back(slot);
@@ -157,6 +172,9 @@ impl Stations {
           stations = marked slot Mark.Issued self.old.stations;
         } }
     {
+        let place = self.entries[slot as usize].place(self.retired);
+        self.ready.remove(place);
+        self.executing = self.executing.with(Some(place));
         self.entries[slot as usize].mark = Mark::Issued;
         self.waiting -= 1;
     }
@@ -168,11 +186,19 @@ impl Stations {
           stations = marked slot (if faulted then Mark.Faulted else Mark.Done) self.old.stations;
         } }
     {
+        let place = self.entries[slot as usize].place(self.retired);
+        self.executing.remove(place);
         if faulted {
             self.entries[slot as usize].mark = Mark::Faulted;
         } else {
             self.entries[slot as usize].mark = Mark::Done;
-            release(&mut self.entries, &self.dependents, slot);
+            release(
+                &mut self.entries,
+                &mut self.ready,
+                &self.dependents,
+                slot,
+                self.retired,
+            );
         }
     }
 
@@ -187,10 +213,20 @@ impl Stations {
             ..
         } = self.entries[slot as usize];
         let _ = self.order.pop_front();
-        forget(&mut self.entries, &self.dependents, slot);
+        forget(
+            &mut self.entries,
+            &mut self.ready,
+            &self.dependents,
+            slot,
+            self.retired,
+        );
+        self.entries[slot as usize].mark = Mark::Done;
         self.dependents[slot as usize] = Mask::none();
         drop_producer(&mut self.producers, destination, slot);
         self.waiting = uncounted(self.waiting, mark);
+        self.ready.shift();
+        self.executing.shift();
+        self.retired = self.retired.wrapping_add(1);
     }
 
     /// Removes the youngest record, whose slot is given.
@@ -207,21 +243,12 @@ impl Stations {
             ..
         } = self.entries[slot as usize];
         let _ = self.order.pop_back();
+        let place = self.order.len() as u32;
+        self.ready.remove(place);
+        self.executing.remove(place);
+        self.entries[slot as usize].mark = Mark::Done;
         set_producer(&mut self.producers, destination, displaced);
         self.waiting = uncounted(self.waiting, mark);
-    }
-
-    /// Whether the record at a place of the list waits for nothing but a unit.
-    fn can_begin(&self, place: u32) -> bool
-        ensures { result ≡ can_begin_at self.now.stations place }
-    {
-        match self.order.get(place as usize) {
-            None => false,
-            Some(slot) => {
-                let entry = &self.entries[*slot as usize];
-                entry.mark.is_waiting() && entry.waits.is_empty()
-            }
-        }
     }
 
     /// The place in the list of the first record from a place on that waits and whose operands have values.
@@ -232,11 +259,17 @@ impl Stations {
             can_begin_at self.now.stations k ≡ false) }
         ensures none { IfNone result ((k : ℕ) → from ≤ k → can_begin_at self.now.stations k ≡ false) }
     {
-        for place in from..self.len() {
-            if self.can_begin(place) {
-                return Some(place);
-            }
-        }
-        None
+        self.ready.next(from, self.order.len() as u32)
+    }
+
+    /// The place in the list of the first record from a place on that executes.
+    pub fn executing(&self, from: u32) -> Option<u32>
+        ensures behind { IfSome result (λ place. from ≤ place) }
+        ensures found { IfSome result (λ place. IsTrue (executes_at self.now.stations place)) }
+        ensures first { IfSome result (λ place. (k : ℕ) → from ≤ k → k < place →
+            executes_at self.now.stations k ≡ false) }
+        ensures none { IfNone result ((k : ℕ) → from ≤ k → executes_at self.now.stations k ≡ false) }
+    {
+        self.executing.next(from, self.order.len() as u32)
     }
 }

@@ -4,6 +4,7 @@ ghost use Rattle.std.specs.Option.{ForSome};
 ghost use Rattle.reservation_stations.specs.Readiness.{is_waiting};
 ghost use Rattle.reservation_stations.specs.Changes.{Releases, Forgets, EachChanges, without, with_producer, producer_at};
 ghost use Rattle.reservation_stations.specs.Covers.{AreCovered, Notes};
+ghost use Rattle.reservation_stations.specs.Places.{KeepsReady, NotesReady};
 
 use crate::entry::Entry;
 use crate::mask::Mask;
@@ -20,40 +21,72 @@ pub fn note(dependents: &mut Vec<Mask>, on: Option<u32>, slot: u32)
     }
 }
 
-/// Lets every entry wait no longer for a slot. Those that depend on it are the only ones that may.
-pub fn release(entries: &mut Vec<Entry>, dependents: &Vec<Mask>, slot: u32)
+/// Lets every entry wait no longer for a slot, and puts the places of those that wait for nothing else
+/// into the ready ones, where so many records retired. Those that depend on it are the only ones that may.
+pub fn release(
+    entries: &mut Vec<Entry>,
+    ready: &mut Mask,
+    dependents: &Vec<Mask>,
+    slot: u32,
+    retired: u8,
+)
     requires within { slot < vec_len entries.old }
     requires limit { vec_len entries.old ≤ 256 }
     requires covered { AreCovered entries.old.items dependents.now.items }
     ensures released { EachChanges (Releases slot) entries.old.items entries.new.items }
+    ensures ready { KeepsReady retired entries.old.items ready.old entries.new.items ready.new }
 {
     let waiting = dependents[slot as usize];
+    let slots = entries.len() as u32;
     let mut from = 0;
-    while from < 256 {
-        let Some(place) = waiting.next(from) else {
+    while from < slots {
+        let Some(place) = waiting.next(from, slots) else {
             return;
         };
-        entries[place as usize].release(slot);
+        let entry = &mut entries[place as usize];
+        entry.release(slot);
+        note_ready(ready, entry, retired);
         from = place + 1;
     }
 }
 
-/// Lets every entry forget a slot whose record leaves the window. Those that depend on it are the only
-/// ones that know it.
-pub fn forget(entries: &mut Vec<Entry>, dependents: &Vec<Mask>, slot: u32)
+/// Lets every entry forget a slot whose record leaves the window, and puts the places of those that wait
+/// for nothing else into the ready ones, where so many records retired before. Those that depend on it are
+/// the only ones that know it.
+pub fn forget(
+    entries: &mut Vec<Entry>,
+    ready: &mut Mask,
+    dependents: &Vec<Mask>,
+    slot: u32,
+    retired: u8,
+)
     requires within { slot < vec_len entries.old }
     requires limit { vec_len entries.old ≤ 256 }
     requires covered { AreCovered entries.old.items dependents.now.items }
     ensures forgotten { EachChanges (Forgets slot) entries.old.items entries.new.items }
+    ensures ready { KeepsReady retired entries.old.items ready.old entries.new.items ready.new }
 {
     let knowing = dependents[slot as usize];
+    let slots = entries.len() as u32;
     let mut from = 0;
-    while from < 256 {
-        let Some(place) = knowing.next(from) else {
+    while from < slots {
+        let Some(place) = knowing.next(from, slots) else {
             return;
         };
-        entries[place as usize].forget(slot);
+        let entry = &mut entries[place as usize];
+        entry.forget(slot);
+        note_ready(ready, entry, retired);
         from = place + 1;
+    }
+}
+
+/// Puts the place of an entry's record, where so many retired, into the ready ones, if it waits for nothing
+/// but a unit.
+pub fn note_ready(ready: &mut Mask, entry: &Entry, retired: u8)
+    ensures noted { NotesReady retired entry.now ready.old ready.new }
+{
+    if entry.is_ready() {
+        *ready = ready.with(Some(entry.place(retired)));
     }
 }
 

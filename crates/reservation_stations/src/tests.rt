@@ -24,7 +24,9 @@ fn a_source_waits_for_its_youngest_older_writer(rt: HostRuntime) -> Result<(), F
         "both loads have their operand"
     );
     stations.issue(3);
+    assert_eq!(rt; stations.executing(0), Some(0), "the first load executes");
     stations.wake(3, false);
+    assert_eq!(rt; stations.executing(0), None, "none executes any more");
     assert_eq!(rt; seen(&stations), (2, Some(1), Some(2)), "x5 has its value");
     stations.cut(1);
     stations.enter(1, (Some(5), Some(6)), None);

@@ -1,6 +1,15 @@
-use Rattle.std.proofs.Common.{arith}
-use Rattle.reservation_stations.proofs.Leaving.{retire_within, retire_counted, Keeps-retired, seen-retired}
-use Rattle.reservation_stations.proofs.Noted.{covered_forgotten}
+use Rattle.std.proofs.Common.{◌≡◌, ◌≢◌, ◌∙◌, ◌∷◌, ℕ, ◌<◌, List, length, drop, ap, sym, subst, refl, arith}
+use Rattle.std.specs.Prelude.{slice_set}
+use Rattle.circular_buffer.specs.Buffer.{Buffer}
+use Rattle.reservation_stations.specs.declared.entry.Entry.{Entry}
+use Rattle.reservation_stations.specs.declared.station.Mark.TheVariants.{Done}
+use Rattle.reservation_stations.specs.Keeps.{Each}
+use Rattle.reservation_stations.specs.Changes.{Forgets}
+use Rattle.reservation_stations.specs.Places.{ArePlaced}
+use Rattle.reservation_stations.proofs.Leaving.{is_first, first_keeps, retire_within, retire_counted, Keeps-retired, seen-retired}
+use Rattle.reservation_stations.proofs.Entering.{Keeps-other, seen-other}
+use Rattle.reservation_stations.proofs.Noted.{covered_forgotten, covered_marked}
+use Rattle.reservation_stations.proofs.Places.{freed_placed, retired_placed}
 use Rattle.reservation_stations.proofs.stations.Stations.retire.Goals as goal
 
 pub index-requires : goal.index-requires
@@ -13,22 +22,61 @@ forget-requires c = record {
   covered = c.self.invariant.1;
 }
 
+pub index_mut-requires : goal.index_mut-requires
+index_mut-requires c =
+    omega (arith, retire_within c.self.invariant.0 c.self.view_is c.args.slot c.requires.oldest, c.forget.ensures.forgotten.every_slot, c.forget.new.entries.ok)
+
 pub uncounted-self-inside-requires : goal.uncounted-self-inside-requires
 uncounted-self-inside-requires c = record {
   counted = retire_counted c.self.invariant.0 c.self.view_is c.args.slot c.requires.oldest c.index.result.now c.index.ensures;
 }
 
 pub invariant_of-self : goal.invariant_of-self
-invariant_of-self c = (
-  Keeps-retired c.self.invariant.0 c.self.view_is c.args.slot c.requires.oldest c.index.result.now c.index.ensures
-      c.pop_front.new.self c.forget.new.entries.items c.drop_producer.new.producers.items c.uncounted-self-inside.result
-      c.pop_front.ensures.items c.forget.ensures.forgotten c.drop_producer.ensures.dropped c.uncounted-self-inside.ensures.left,
-  covered_forgotten c.self.inside.entries.items c.self.inside.dependents.items c.args.slot c.self.invariant.1 c.forget.new.entries.items c.none.result
-      (retire_within c.self.invariant.0 c.self.view_is c.args.slot c.requires.oldest) c.forget.ensures.forgotten c.none.ensures.none,
-)
+invariant_of-self c =
+    let slots = c.self.inside.order.items in
+    let slot = c.args.slot in
+    let order = c.pop_front.new.self in
+    let left = c.forget.new.entries.items in
+    let idle : Entry = record c.index_mut.result.now { mark = Done } in
+    let keeps = first_keeps c.self.invariant.0 c.self.view_is slot c.requires.oldest in
+    let within = retire_within c.self.invariant.0 c.self.view_is slot c.requires.oldest in
+    let inside : slot < length left = omega (arith, within, c.forget.ensures.forgotten.every_slot) in
+    let rest : order.items ≡ drop 1 slots = ap (λ (o : Buffer ℕ). o.items) c.pop_front.ensures.items in
+    let apart : Each (λ other. other ≢ slot) order.items = subst (Each (λ other. other ≢ slot)) (sym rest) keeps.distinct.0 in
+    let kept =
+    Keeps-retired c.self.invariant.0 c.self.view_is slot c.requires.oldest c.index.result.now c.index.ensures order left c.drop_producer.new.producers.items
+    c.uncounted-self-inside.result c.pop_front.ensures.items c.forget.ensures.forgotten c.drop_producer.ensures.dropped c.uncounted-self-inside.ensures.left
+    in
+    let below : slot < order.capacity = omega (arith, inside, kept.every_slot) in
+    let covered = covered_forgotten c.self.inside.entries.items c.self.inside.dependents.items slot c.self.invariant.1 left c.none.result within c.forget.ensures.forgotten c.none.ensures.none in
+    let freed =
+    freed_placed (Forgets slot) (λ a b r. ap (λ (e : Entry). e.mark) r.kept) c.self.inside.retired slots c.self.inside.entries.items left c.self.inside.ready c.self.inside.executing
+    c.forget.new.ready c.self.invariant.2 c.forget.ensures.forgotten c.forget.ensures.ready
+    in
+    let first = subst (λ (xs : List ℕ). ArePlaced c.self.inside.retired xs left c.forget.new.ready c.self.inside.executing) (is_first c.self.invariant.0 c.self.view_is slot c.requires.oldest) freed in (
+      Keeps-other order.capacity order.items left c.drop_producer.new.producers.items c.uncounted-self-inside.result kept slot below apart idle,
+      covered_marked left _ slot covered c.index_mut.result.now Done inside c.index_mut.ensures.value,
+      rw rest
+          (retired_placed c.self.inside.retired slot (drop 1 slots) left c.forget.new.ready c.self.inside.executing c.shift.new.self c.shift-2.new.self idle first
+          (omega arith) keeps.distinct.0 inside refl c.shift.ensures.shifted c.shift-2.ensures.shifted),
+    )
 
 pub returns : goal.returns
-returns c = record {
-  retired = seen-retired c.self.invariant.0 c.self.view_is c.args.slot c.requires.oldest c.pop_front.new.self c.forget.new.entries.items
-      c.pop_front.ensures.items c.forget.ensures.forgotten;
-}
+returns c =
+    let slots = c.self.inside.order.items in
+    let slot = c.args.slot in
+    let order = c.pop_front.new.self in
+    let left = c.forget.new.entries.items in
+    let keeps = first_keeps c.self.invariant.0 c.self.view_is slot c.requires.oldest in
+    let within = retire_within c.self.invariant.0 c.self.view_is slot c.requires.oldest in
+    let rest : order.items ≡ drop 1 slots = ap (λ (o : Buffer ℕ). o.items) c.pop_front.ensures.items in
+    let kept =
+    Keeps-retired c.self.invariant.0 c.self.view_is slot c.requires.oldest c.index.result.now c.index.ensures order left c.drop_producer.new.producers.items
+    c.uncounted-self-inside.result c.pop_front.ensures.items c.forget.ensures.forgotten c.drop_producer.ensures.dropped c.uncounted-self-inside.ensures.left
+    in
+    record {
+      retired = seen-other order.capacity order.items left c.drop_producer.new.producers.items c.uncounted-self-inside.result kept slot
+          (omega (arith, within, c.forget.ensures.forgotten.every_slot, kept.every_slot))
+          (subst (Each (λ other. other ≢ slot)) (sym rest) keeps.distinct.0) (record c.index_mut.result.now { mark = Done })
+          ∙ seen-retired c.self.invariant.0 c.self.view_is slot c.requires.oldest order left c.pop_front.ensures.items c.forget.ensures.forgotten;
+    }

@@ -1,0 +1,12 @@
+use Rattle.std.proofs.Common.{◌≡◌, ℕ, List, [], ◌∷◌, get_or, rules, refl}
+use Rattle.reservation_stations.proofs.Bits.{is_set-shifted, each_halved}
+use Rattle.reservation_stations.proofs.mask.Mask.shift.Goals as goal
+
+pub returns : goal.returns
+returns c =
+    let words = c.args.self.now.words in
+    let new : List ℕ = c.halved.result ∷ c.halved-2.result ∷ c.halved-3.result ∷ c.halved-4.result ∷ [] in
+    record {
+      shifted = is_set-shifted words new (search rules) refl (λ k. search rules)
+          (each_halved words new (search rules) (search rules) (search rules) (search rules) (search rules));
+    }
