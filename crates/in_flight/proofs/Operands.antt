@@ -7,13 +7,13 @@ use Rattle.fsim_base.specs.declared.cause.Cause.{Cause}
 use Rattle.reorder_buffer.specs.declared.slot.Slot.{Slot}
 use Rattle.reorder_buffer.specs.declared.slot.SlotState.{SlotState}
 use Rattle.reorder_buffer.specs.declared.slot.SlotState.TheVariants.{Waiting, Until, Done}
-use Rattle.reservation_stations.specs.Readiness.{is_waiting, is_done, has_written_value, has_operand, older_than, can_begin, can_begin_at, waiting_count as stations_waiting}
+use Rattle.reservation_stations.specs.Readiness.{is_waiting, is_issued, is_done, has_written_value, has_operand, older_than, can_begin, can_begin_at, waiting_count as stations_waiting}
 use Rattle.reservation_stations.specs.Readiness as stations
 use Rattle.mono_model.specs.Found.{destination_in}
 use Rattle.mono_model.specs.Window.{is_register}
 use Rattle.timing_laws.specs.Slots.{found_in, is_waiting_state, waiting_count}
 use Rattle.timing_laws.specs.Issue.{gives_value, is_written, has_value, has_operands}
-use Rattle.in_flight.specs.Flight.{older_at, may_start, may_start_at}
+use Rattle.in_flight.specs.Flight.{older_at, may_start, may_start_at, is_executing_state, executes, executes_at}
 use Rattle.in_flight.specs.Step.{mark_in, station_in, stations_in}
 
 -- a station is done where its slot gives a value, and waits where its slot waits
@@ -67,3 +67,17 @@ can_start cap slots place =
 pub waiting_same : (cap : ℕ) (slots : List Slot) → stations_waiting (stations_in cap slots) ≡ waiting_count slots
 waiting_same cap [] = refl
 waiting_same cap (slot ∷ rest) = λ i. (if waits slot.state slot.cause i then 1 else 0) + waiting_same cap rest i
+
+-- a station executes where its slot does
+issued_in : (state : SlotState) (cause : Option Cause) → is_issued (mark_in state cause) ≡ is_executing_state state
+issued_in Waiting cause = refl
+issued_in (Until cycle) cause = refl
+issued_in Done None = refl
+issued_in Done (Some cause) = refl
+
+executes_in : (cap : ℕ) (at : Option Slot) → stations.executes (option_map (station_in cap) at) ≡ executes at
+executes_in cap None = refl
+executes_in cap (Some slot) = issued_in slot.state slot.cause
+
+pub executes_same : (cap : ℕ) (slots : List Slot) (place : ℕ) → stations.executes_at (stations_in cap slots) place ≡ executes_at slots place
+executes_same cap slots place = ap stations.executes (slice_get-map (station_in cap) slots place) ∙ executes_in cap (slice_get slots place)

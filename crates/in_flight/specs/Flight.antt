@@ -1,6 +1,6 @@
 -- Which of the instructions in flight waits for nothing but a unit (Hennessy and Patterson, Computer Architecture,
 -- section 3.6, issue and execute).
-use Rattle.std.specs.Prelude.{ℕ, ◌&&◌, Bool, false, Option, Some, None, List, reverse, take, slice_get}
+use Rattle.std.specs.Prelude.{ℕ, ◌&&◌, Bool, true, false, Option, Some, None, List, reverse, take, slice_get}
 use Rattle.reorder_buffer.specs.declared.slot.Slot.{Slot}
 use Rattle.reorder_buffer.specs.declared.slot.SlotState.{SlotState}
 use Rattle.reorder_buffer.specs.declared.slot.SlotState.TheVariants.{Waiting, Until, Done}
@@ -24,3 +24,16 @@ abbrev pub IsExecuting : SlotState → Type 0
 IsExecuting Waiting = ⊥
 IsExecuting (Until cycle) = Unit {0}
 IsExecuting Done = ⊥
+
+-- whether a slot executes
+abbrev pub is_executing_state : SlotState → Bool
+is_executing_state Waiting = false
+is_executing_state (Until cycle) = true
+is_executing_state Done = false
+
+abbrev pub executes : Option Slot → Bool
+executes None = false
+executes (Some slot) = is_executing_state slot.state
+
+abbrev pub executes_at : List Slot → ℕ → Bool
+executes_at slots place = executes (slice_get slots place)

@@ -39,7 +39,7 @@ impl InFlight {
     ghost use Rattle.reorder_buffer.specs.Window.{IsConsecutive, youngest};
     ghost use Rattle.timing_laws.specs.Slots.{waiting_count};
     ghost use Rattle.timing_laws.specs.Issue.{busy_divisions, are_stores_done};
-    ghost use Rattle.in_flight.specs.Flight.{older_at, may_start_at, IsExecuting};
+    ghost use Rattle.in_flight.specs.Flight.{older_at, may_start_at, executes_at, IsExecuting};
 
     /// No instructions, with room for `cap`, at most 256. All memory is taken here; want of it is the one refusal.
     pub fn new(alloc: Global, cap: u32) -> Result<InFlight, NoMemory>
@@ -154,6 +154,16 @@ impl InFlight {
         ensures none { IfNone result ((k : ℕ) → from ≤ k → may_start_at self.now.slots k ≡ false) }
     {
         self.stations.choose(from)
+    }
+
+    /// The first place from a place on at which an instruction executes; None where there is none.
+    pub fn executing(&self, from: u32) -> Option<u32>
+        ensures behind { IfSome result (λ place. from ≤ place) }
+        ensures found { IfSome result (λ place. IsTrue (executes_at self.now.slots place)) }
+        ensures first { IfSome result (λ place. (k : ℕ) → from ≤ k → k < place → executes_at self.now.slots k ≡ false) }
+        ensures none { IfNone result ((k : ℕ) → from ≤ k → executes_at self.now.slots k ≡ false) }
+    {
+        self.stations.executing(from)
     }
 
     /// Whether all stores older than the instruction at a place are done.

@@ -42,7 +42,12 @@ fn finish_due(flight: &mut InFlight, cycle: u64) -> Option<Redirect>
     ensures within { IfSome result (λ r. r.kept ≤ length flight.new.slots) }
     ensures first { IfSome result (λ r. completes cycle flight.old.slots ≡ record { slots = take r.kept flight.new.slots; redirect = Some r.addr }) }
 {
-    for place in 0..flight.len() {
+    let len = flight.len();
+    let mut from = 0;
+    while from < len {
+        let Some(place) = flight.executing(from) else {
+            return None;
+        };
         let slot = flight.at(place);
         if is_due(slot.state, cycle) {
             let wrong = is_mispredicted(slot);
@@ -55,6 +60,7 @@ fn finish_due(flight: &mut InFlight, cycle: u64) -> Option<Redirect>
                 });
             }
         }
+        from = place + 1;
     }
     None
 }

@@ -2,7 +2,7 @@ use Rattle.std.proofs.Common.{◌≡◌, ℕ, ◌+◌, suc, take, slice_set, len
 use Rattle.reorder_buffer.specs.declared.slot.Slot.{Slot}
 use Rattle.reorder_buffer.specs.Window.{Contents}
 use Rattle.timing_laws.specs.Complete.{Completed, finished, completes}
-use Rattle.timing_core.proofs.Finishing.{completed_from, passes, finishes, redirects, completed_all}
+use Rattle.timing_core.proofs.Finishing.{completed_from, passes, passes_to, rests_all, executes_there, finishes, redirects, completed_all}
 use Rattle.timing_core.proofs.complete.finish_due.Goals as goal
 use Rattle.timing_core.proofs.complete.finish_due.Goals.{then-is_due+else-wrong, else-is_due}
 
@@ -15,41 +15,50 @@ moved cycle place after behind before is same =
 pub returns-then-wrong-clause-first : goal.returns-then-wrong-clause-first
 returns-then-wrong-clause-first c =
     let slot : Slot = c.at-slot.result.now in
-    let place : ℕ = c.loop-place.place in
-    let slots : List Slot = c.loop-place.flight.slots in
+    let place : ℕ = c.in-Some.place in
+    let slots : List Slot = c.loop-from.flight.slots in
+    let come = passes_to c.args.cycle c.loop-from.from place slots c.in-Some.ensures.behind c.in-Some.ensures.first in
     let done = rw c.at-slot.ensures.slot at c.finish.ensures.finished in
-    c.loop-place.invariant.whole
+    c.loop-from.invariant.whole ∙ come
     ∙ redirects c.args.cycle place slots slot c.at-slot.ensures.slot (sym c.is_due.ensures.due ∙ c.if-is_due.true) (sym c.is_mispredicted-wrong.ensures.mispredicted ∙ c.if-wrong.true)
     ∙ ap (λ (n : ℕ). record { slots = take n (slice_set slots place (finished slot)); redirect = Some slot.next }) (sym (add-one place))
     ∙ ap (λ (f : Contents). record { slots = take (place + 1) f.slots; redirect = Some slot.next }) (sym done)
 
-pub loop-place-preserved : goal.loop-place-preserved
-loop-place-preserved c =
+pub loop-from-preserved : goal.loop-from-preserved
+loop-from-preserved c =
     let slot : Slot = c.at-slot.result.now in
-    let place : ℕ = c.loop-place.place in
-    let slots : List Slot = c.loop-place.flight.slots in
+    let place : ℕ = c.in-Some.place in
+    let slots : List Slot = c.loop-from.flight.slots in
+    let come = passes_to c.args.cycle c.loop-from.from place slots c.in-Some.ensures.behind c.in-Some.ensures.first in
     elim c.if-is_due.branch [
       | then-is_due+else-wrong w ↦
-          let done : c.if-is_due.flight ≡ record c.loop-place.flight { slots = slice_set slots place (finished slot) } =
+          let done : c.if-is_due.flight ≡ record c.loop-from.flight { slots = slice_set slots place (finished slot) } =
           w.flight-is ∙ (rw c.at-slot.ensures.slot at w.finish.ensures.finished) in
           record {
-            room = ap (λ (f : Contents). f.cap) done ∙ c.loop-place.invariant.room;
-            count = ap (λ (f : Contents). length f.slots) done ∙ length-set slots place (finished slot) ∙ c.loop-place.invariant.count;
+            room = ap (λ (f : Contents). f.cap) done ∙ c.loop-from.invariant.room;
+            count = ap (λ (f : Contents). length f.slots) done ∙ length-set slots place (finished slot) ∙ c.loop-from.invariant.count;
             whole =
                 moved c.args.cycle place (slice_set slots place (finished slot)) c.if-is_due.flight (completes c.args.cycle c.args.flight.now.slots) (ap (λ (f : Contents). f.slots) done)
-                (c.loop-place.invariant.whole
+                (c.loop-from.invariant.whole ∙ come
                 ∙ finishes c.args.cycle place slots slot c.at-slot.ensures.slot (sym c.is_due.ensures.due ∙ w.if-is_due.true) (sym w.is_mispredicted-wrong.ensures.mispredicted ∙ w.if-wrong.false));
           }
       | else-is_due w ↦
           record {
-            room = ap (λ (f : Contents). f.cap) w.flight-is ∙ c.loop-place.invariant.room;
-            count = ap (λ (f : Contents). length f.slots) w.flight-is ∙ c.loop-place.invariant.count;
+            room = ap (λ (f : Contents). f.cap) w.flight-is ∙ c.loop-from.invariant.room;
+            count = ap (λ (f : Contents). length f.slots) w.flight-is ∙ c.loop-from.invariant.count;
             whole =
                 moved c.args.cycle place slots c.if-is_due.flight (completes c.args.cycle c.args.flight.now.slots) (ap (λ (f : Contents). f.slots) w.flight-is)
-                (c.loop-place.invariant.whole ∙ passes c.args.cycle place slots slot c.at-slot.ensures.slot (sym c.is_due.ensures.due ∙ w.if-is_due.false));
+                (c.loop-from.invariant.whole ∙ come ∙ passes c.args.cycle place slots slot c.at-slot.ensures.slot (sym c.is_due.ensures.due ∙ w.if-is_due.false));
           }
     ]
 
 pub returns-clause-all : goal.returns-clause-all
 returns-clause-all c =
-    c.loop-place.invariant.whole ∙ completed_all c.args.cycle c.loop-place.place c.loop-place.flight.slots (omega arith)
+    c.loop-from.invariant.whole ∙ completed_all c.args.cycle c.loop-from.from c.loop-from.flight.slots (omega arith)
+
+pub returns-in_default-clause-all : goal.returns-in_default-clause-all
+returns-in_default-clause-all c =
+    c.loop-from.invariant.whole ∙ rests_all c.args.cycle c.loop-from.from c.loop-from.flight.slots c.in_default.ensures.none
+
+pub at-slot-requires : goal.at-slot-requires
+at-slot-requires c = record { within = executes_there c.loop-from.flight.slots c.in-Some.place c.in-Some.ensures.found }

@@ -1,11 +1,14 @@
-use Rattle.std.proofs.Common.{◌≡◌, length}
+use Rattle.std.proofs.Common.{◌≡◌, ◌-◌, length}
 use Rattle.timing_laws.specs.Complete.{completes}
 use Rattle.timing_core.proofs.Finishing.{completed_from}
 use Rattle.timing_core.proofs.complete.finish_due.Given as goal
 
-abbrev pub invariant-loop-place : goal.invariant-loop-place
-invariant-loop-place l = record {
+abbrev pub invariant-loop-from : goal.invariant-loop-from
+invariant-loop-from l = record {
   room : l.flight.cap ≡ l.fn.flight.cap;
   count : length l.flight.slots ≡ length l.fn.flight.slots;
-  whole : completes l.cycle l.fn.flight.slots ≡ completed_from l.cycle l.place l.flight.slots;
+  whole : completes l.cycle l.fn.flight.slots ≡ completed_from l.cycle l.from l.flight.slots;
 }
+
+abbrev pub decreases-loop-from : goal.decreases-loop-from
+decreases-loop-from l = l.len - l.from
