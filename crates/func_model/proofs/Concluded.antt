@@ -13,8 +13,9 @@ use Rattle.fsim_base.specs.declared.access.Access.{Access}
 use Rattle.fsim_base.specs.declared.access.Access.TheVariants as access
 use Rattle.fsim_base.specs.declared.cause.Cause.{Cause}
 use Rattle.func_model.specs.declared.done.Done.{Done}
-use Rattle.func_model.specs.declared.done.Stepped.TheVariants.{On}
-use Rattle.func_model.specs.Steps.{finished, concluded, outcome_made, outcome_result, Told}
+use Rattle.machine_csr.specs.declared.csrs.Csrs.{Csrs}
+use Rattle.undo_journal.specs.declared.past.Change.{Change}
+use Rattle.func_model.specs.Steps.{finished, concluded, outcome_made, outcome_result, plain_with, failed_with, Told}
 
 pub conclude_nothing : (limit next : ℕ) (what : Note) (a b : Arch) → what ≡ note.Nothing → b ≡ finished None 0 next a → b ≡ concluded limit what next a
 conclude_nothing limit next what a b is made = rw is made
@@ -43,14 +44,14 @@ told_same limit r s a done same told =
     subst P same told
 
 -- what is told where nothing was reached, and of a trap
-pub told_plain : (limit value next : ℕ) (a : Arch) (done : Done) → done ≡ record { stepped = On; sent = None; access = access.Nothing; cause = None; mem = None; dev = None } →
+pub told_plain : (limit value next : ℕ) (change : Change) (a : Arch) (done : Done) → done ≡ plain_with change →
     Told limit (resulting value next access.Nothing) a done
-told_plain limit value next a done is =
+told_plain limit value next change a done is =
     let P : Done → Type 0 = λ x. Told limit (resulting value next access.Nothing) a x in
     subst P (sym is) (record { stepped = refl; sent = refl; access = refl; cause = refl })
 
-pub told_failed : (limit next : ℕ) (tried : Access) (cause : Cause) (mtval : ℕ) (a : Arch) (done : Done) → done ≡ record { stepped = On; sent = None; access = tried; cause = Some cause; mem = None; dev = None } →
+pub told_failed : (limit next : ℕ) (tried : Access) (cause : Cause) (mtval : ℕ) (before : Csrs) (a : Arch) (done : Done) → done ≡ failed_with tried cause before →
     Told limit (failing_access next tried cause mtval) a done
-told_failed limit next tried cause mtval a done is =
+told_failed limit next tried cause mtval before a done is =
     let P : Done → Type 0 = λ x. Told limit (failing_access next tried cause mtval) a x in
     subst P (sym is) (record { stepped = refl; sent = refl; access = refl; cause = refl })

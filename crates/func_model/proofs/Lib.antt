@@ -16,5 +16,6 @@ pub mod Running
 pub mod Stepping
 pub mod Stores
 pub mod System
+pub mod TakenBack
 pub mod Undone
 pub mod Walking

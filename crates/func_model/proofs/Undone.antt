@@ -1,5 +1,5 @@
 -- An undo step takes back what execution did.
-use Rattle.std.proofs.Common.{◌≡◌, ℕ, ◌<◌, ◌==◌, ◌++◌, false, if◌then◌else◌, List, [], ◌∷◌, length, Option, Some, None, is_some, refl, ap, ◌∙◌, arith}
+use Rattle.std.proofs.Common.{◌≡◌, ℕ, ◌<◌, ◌+◌, ◌-◌, ◌==◌, ◌++◌, false, if◌then◌else◌, true, List, [], ◌∷◌, length, Option, Some, None, is_some, refl, ap, ◌∙◌, arith}
 use Rattle.std.proofs.lemmas.Grind.{common_steps}
 use Rattle.std.proofs.lemmas.Bool.Decides.{nat_tests}
 use Rattle.fsim_base.specs.declared.access.RamRange.{RamRange}
@@ -10,14 +10,15 @@ use Rattle.device_bus.specs.Bus.{Devices}
 use Rattle.mono_model.specs.Arch.{Arch, with_register, trapped}
 use Rattle.mono_model.specs.Found.{Found, destination_in}
 use Rattle.mono_model.specs.Result.{Result}
-use Rattle.mono_model.specs.Effect.{effect, effect_by, retired, note_of, with_note}
+use Rattle.mono_model.specs.Effect.{counted, effect, effect_by, retired, note_of, with_note}
+use Rattle.machine_csr.specs.declared.csrs.Csrs.{Csrs}
 use Rattle.mono_model.specs.Sequence.{byte_in}
 use Rattle.func_model.specs.declared.done.Done.{Done}
 use Rattle.func_model.specs.declared.found.Fetched.{Fetched}
 use Rattle.func_model.specs.declared.found.Fetched.TheVariants as fetched
 use Rattle.func_model.specs.Hart.{found_in, FetchedFits, IsDestination}
-use Rattle.func_model.specs.Steps.{is_full, behind, Told}
-use Rattle.func_model.specs.Undo.{registers_back, shortened, undone, IsRegisterPast, IsRestorable, TakesBack, register_before, past_of}
+use Rattle.func_model.specs.Steps.{is_full, stepped_by, behind, Told}
+use Rattle.func_model.specs.Undo.{registers_back, shortened, undone, uncounted, csrs_back, is_executed, IsOldRegister, IsRestorable, TakesBack, register_before, past_of}
 use Rattle.func_model.proofs.Evaluated.{destination_exists}
 
 -- an output that isn't full lets the instruction be executed
@@ -28,6 +29,17 @@ not_full limit output (note.End halt) room = refl
 
 pub behind_effect : (limit : ℕ) (found : Found) (r : Result) (time : Option ℕ) (a : Arch) → length a.output < limit → behind limit found r time a ≡ effect found r time a.pc a
 behind_effect limit found r time a room = rw (not_full limit a.output (note_of r a) room) refl
+
+was_executed : (limit : ℕ) (output : List ℕ) (what : Note) → length output < limit → is_executed (stepped_by limit output what) ≡ true
+was_executed limit output note.Nothing room = refl
+was_executed limit output (note.Out byte) room = rw (not_full limit output (note.Out byte) room) refl
+was_executed limit output (note.End halt) room = refl
+
+-- the count of retired instructions
+pub counted_back : (csrs : Csrs) → uncounted (counted csrs) ≡ csrs
+counted_back csrs =
+    let e : csrs.retired + 1 - 1 ≡ csrs.retired = omega arith in
+    λ i. record csrs { retired = e i }
 
 -- registers
 written_back : (destination : Option ℕ) (value : ℕ) (regs : ℕ → ℕ) → registers_back (register_before destination regs) (with_register destination value regs) ≡ regs
@@ -83,9 +95,9 @@ output_back (note.Out byte) sent output is = rw is (shortened_one output byte)
 output_back (note.End halt) sent output is = rw is refl
 
 -- the parts of a state
-same_parts : (a : Arch) (regs ram text : ℕ → ℕ) (devices : Devices) (output : List ℕ) → regs ≡ a.regs → ram ≡ a.ram → text ≡ a.text → devices ≡ a.devices → output ≡ a.output →
-    record { pc = a.pc; regs = regs; ram = ram; text = text; csrs = a.csrs; devices = devices; output = output } ≡ a
-same_parts a regs ram text devices output r m t d o = λ i. record { pc = a.pc; regs = r i; ram = m i; text = t i; csrs = a.csrs; devices = d i; output = o i }
+same_parts : (a : Arch) (regs ram text : ℕ → ℕ) (csrs : Csrs) (devices : Devices) (output : List ℕ) → regs ≡ a.regs → ram ≡ a.ram → text ≡ a.text → csrs ≡ a.csrs → devices ≡ a.devices →
+    output ≡ a.output → record { pc = a.pc; regs = regs; ram = ram; text = text; csrs = csrs; devices = devices; output = output } ≡ a
+same_parts a regs ram text csrs devices output r m t c d o = λ i. record { pc = a.pc; regs = r i; ram = m i; text = t i; csrs = c i; devices = d i; output = o i }
 
 -- the undo step of an instruction that was executed leads back to the state before it
 pub undone_execute : (range : RamRange) (number : ℕ) (found : Found) (r : Result) (time : Option ℕ) (limit : ℕ) (a b : Arch) (done : Done) →
@@ -93,19 +105,20 @@ pub undone_execute : (range : RamRange) (number : ℕ) (found : Found) (r : Resu
 unfolding undone
 undone_execute range number found r time limit a b done told made back room =
     let e : b ≡ effect found r time a.pc a = made ∙ behind_effect limit found r time a room in
-    same_parts a _ _ _ _ _
+    same_parts a _ _ _ _ _ _
     (ap (λ (x : Arch). registers_back (register_before (destination_in found) a.regs) x.regs) e ∙ effect_registers found r time a.pc a)
     back.memory
     (ap (λ (x : Arch). x.text) e ∙ effect_text found r time a.pc a)
+    (back.csrs (ap is_executed told.stepped ∙ was_executed limit a.output (note_of r a) room))
     back.devices
     (ap (λ (o : List ℕ). if is_some done.sent then shortened o else o) (ap (λ (x : Arch). x.output) e ∙ effect_output found r time a.pc a) ∙ output_back (note_of r a) done.sent a.output told.sent)
 
 -- what an undo step names exists
-register_exists : (destination : Option ℕ) (regs : ℕ → ℕ) → IsDestination destination → IsRegisterPast (register_before destination regs)
+register_exists : (destination : Option ℕ) (regs : ℕ → ℕ) → IsDestination destination → IsOldRegister (register_before destination regs)
 register_exists None regs exists = tt
 register_exists (Some d) regs exists = exists
 
-fetched_exists : (what : Fetched) → FetchedFits what → IsDestination (destination_in (found_in what))
+pub fetched_exists : (what : Fetched) → FetchedFits what → IsDestination (destination_in (found_in what))
 fetched_exists (fetched.Refused cause) fits = tt
 fetched_exists (fetched.Unknown word) fits = tt
 fetched_exists (fetched.Known word insn) fits = destination_exists insn fits
@@ -113,6 +126,5 @@ fetched_exists (fetched.Known word insn) fits = destination_exists insn fits
 pub past_restorable : (range : RamRange) (number : ℕ) (what : Fetched) (a b : Arch) (done : Done) → FetchedFits what → TakesBack range done a b → IsRestorable (past_of number (found_in what) a done)
 past_restorable range number what a b done fits back = record {
   register = register_exists (destination_in (found_in what)) a.regs (fetched_exists what fits);
-  memory = back.aligned;
-  device = back.exists;
+  change = back.exists;
 }

@@ -1,5 +1,6 @@
 -- What an instruction does to the state, by the parts in which the code does it.
 use Rattle.std.specs.Prelude.{◌≡◌, ℕ, ◌%◌, Bool, false, if◌then◌else◌, Option, Some, None, List, nat_le, length}
+use Rattle.fsim_base.specs.declared.access.Access.{Access}
 use Rattle.fsim_base.specs.declared.access.Access.TheVariants as access
 use Rattle.fsim_base.specs.declared.access.Width.{Width}
 use Rattle.fsim_base.specs.declared.access.Spot.{Spot}
@@ -10,6 +11,7 @@ use Rattle.fsim_base.specs.declared.cause.Cause.{Cause}
 use Rattle.fsim_base.specs.Number.{wrap_sum}
 use Rattle.rv_decode.specs.declared.insn.Insn.{Insn}
 use Rattle.rv_decode.specs.Class.{dest_of}
+use Rattle.machine_csr.specs.declared.csrs.Csrs.{Csrs}
 use Rattle.machine_csr.specs.declared.csrs.CsrWrite.{CsrWrite}
 use Rattle.machine_csr.specs.Csr.{csr_written}
 use Rattle.machine_csr.specs.Trap.{trap_left, return_address}
@@ -20,6 +22,8 @@ use Rattle.rv_exec.specs.Load.{loaded_value}
 use Rattle.device_bus.specs.declared.undo.Note.{Note}
 use Rattle.device_bus.specs.declared.undo.Note.TheVariants as note
 use Rattle.device_bus.specs.Bus.{Devices}
+use Rattle.undo_journal.specs.declared.past.Change.{Change}
+use Rattle.undo_journal.specs.declared.past.Change.TheVariants.{System}
 use Rattle.mono_model.specs.Arch.{Arch, with_register, register_value, trapped}
 use Rattle.mono_model.specs.Found.{Found, first_source, second_source}
 use Rattle.mono_model.specs.Effect.{counted, with_store, with_access, with_note, access_note, note_of, effect}
@@ -145,3 +149,11 @@ result_of range found time a =
 -- the state behind it, unless the output has no room for its byte
 abbrev pub behind : ℕ → Found → Result → Option ℕ → Arch → Arch
 behind limit found r time a = if is_full limit a.output (note_of r a) then a else effect found r time a.pc a
+
+-- what is told of an instruction that reached neither memory nor a device
+abbrev pub plain_with : Change → Done
+plain_with change = record { stepped = On; sent = None; access = access.Nothing; cause = None; change = change }
+
+-- what is told of a trap, with the access that was attempted, and the control and status registers before it
+abbrev pub failed_with : Access → Cause → Csrs → Done
+failed_with tried cause before = record { stepped = On; sent = None; access = tried; cause = Some cause; change = System before }

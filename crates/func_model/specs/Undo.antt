@@ -1,13 +1,15 @@
 -- What takes a state back before an instruction.
-use Rattle.std.specs.Prelude.{◌≡◌, ℕ, ◌-◌, ◌%◌, ◌<◌, if◌then◌else◌, List, length, take, is_some, Option, Some, None}
+use Rattle.std.specs.Prelude.{◌≡◌, ℕ, ◌-◌, ◌%◌, ◌<◌, Bool, true, false, if◌then◌else◌, List, length, take, is_some, Option, Some, None}
 use Rattle.fsim_base.specs.declared.access.RamRange.{RamRange}
-use Rattle.fsim_base.specs.declared.access.Width.{Width}
 use Rattle.fsim_base.specs.Width.{width_bytes}
+use Rattle.machine_csr.specs.declared.csrs.Csrs.{Csrs}
 use Rattle.phys_mem.specs.Ram.{stored}
-use Rattle.device_bus.specs.declared.undo.DevUndo.{DevUndo}
 use Rattle.device_bus.specs.Undo.{NamesSlot}
 use Rattle.device_bus.specs.Bus.{Devices, kind_at, devices_undone}
 use Rattle.undo_journal.specs.declared.past.Past.{Past}
+use Rattle.undo_journal.specs.declared.past.OldRegister.{OldRegister}
+use Rattle.undo_journal.specs.declared.past.Change.{Change}
+use Rattle.undo_journal.specs.declared.past.Change.TheVariants.{Nothing, Memory, Device, System}
 use Rattle.mono_model.specs.Arch.{Arch, with_register}
 use Rattle.mono_model.specs.Found.{Found, destination_in}
 use Rattle.fsim_base.specs.declared.instruction.Halt.{Halt}
@@ -16,67 +18,99 @@ use Rattle.func_model.specs.declared.done.Stepped.{Stepped}
 use Rattle.func_model.specs.declared.done.Stepped.TheVariants.{On, Full, Ended}
 
 -- the registers with one set back
-abbrev pub registers_back : Option (ℕ × ℕ) → (ℕ → ℕ) → (ℕ → ℕ)
+abbrev pub registers_back : Option OldRegister → (ℕ → ℕ) → (ℕ → ℕ)
 registers_back None regs = regs
-registers_back (Some was) regs = with_register (Some was.0) was.1 regs
+registers_back (Some was) regs = with_register (Some was.register) was.value regs
 
 -- RAM with the bytes of a store put back
-abbrev pub memory_back : RamRange → Option (ℕ × Width × ℕ) → (ℕ → ℕ) → (ℕ → ℕ)
-memory_back range None ram = ram
-memory_back range (Some was) ram = stored range ram was.0 was.1 was.2
+abbrev pub memory_back : RamRange → Change → (ℕ → ℕ) → (ℕ → ℕ)
+memory_back range Nothing ram = ram
+memory_back range (Memory addr width old) ram = stored range ram addr width old
+memory_back range (Device device undo) ram = ram
+memory_back range (System before) ram = ram
+
+-- one instruction fewer retired
+abbrev pub uncounted : Csrs → Csrs
+uncounted csrs = record csrs { retired = csrs.retired - 1 }
+
+-- the control and status registers from before
+abbrev pub csrs_back : Change → Csrs → Csrs
+csrs_back Nothing csrs = uncounted csrs
+csrs_back (Memory addr width old) csrs = uncounted csrs
+csrs_back (Device device undo) csrs = uncounted csrs
+csrs_back (System before) csrs = before
 
 -- the devices with an access to one of them taken back
-abbrev pub devices_back : Option (ℕ × DevUndo) → Devices → Devices
-devices_back None devices = devices
-devices_back (Some was) devices = devices_undone devices (kind_at was.0) was.1
+abbrev pub devices_back : Change → Devices → Devices
+devices_back Nothing devices = devices
+devices_back (Memory addr width old) devices = devices
+devices_back (Device device undo) devices = devices_undone devices (kind_at device) undo
+devices_back (System before) devices = devices
 
 -- the output without its last byte
 abbrev pub shortened : List ℕ → List ℕ
 shortened output = take (length output - 1) output
+
+-- a state with what a change changed taken back
+abbrev pub changed_back : RamRange → Change → Arch → Arch
+changed_back range change a = record a {
+  ram = memory_back range change a.ram;
+  csrs = csrs_back change a.csrs;
+  devices = devices_back change a.devices;
+}
 
 -- the state before an instruction, from the one behind it
 unfoldable pub undone : RamRange → Past → Arch → Arch
 undone range past a = record {
   pc = past.addr;
   regs = registers_back past.reg a.regs;
-  ram = memory_back range past.mem a.ram;
+  ram = memory_back range past.change a.ram;
   text = a.text;
-  csrs = past.csrs;
-  devices = devices_back past.dev a.devices;
+  csrs = csrs_back past.change a.csrs;
+  devices = devices_back past.change a.devices;
   output = if past.out then shortened a.output else a.output;
 }
 
--- an access to be taken back is aligned
-abbrev pub IsAlignedPast : Option (ℕ × Width × ℕ) → Type 0
-IsAlignedPast None = Unit {0}
-IsAlignedPast (Some was) = was.0 % width_bytes was.1 ≡ 0
+-- what a change names exists: a store is aligned, and a device has the slot that is named
+abbrev pub IsRestorableChange : Change → Type 0
+IsRestorableChange Nothing = Unit {0}
+IsRestorableChange (Memory addr width old) = addr % width_bytes width ≡ 0
+IsRestorableChange (Device device undo) = (device < 3) × NamesSlot (kind_at device) undo
+IsRestorableChange (System before) = Unit {0}
 
--- a device to be taken back exists, with the slot that is named
-abbrev pub IsDevicePast : Option (ℕ × DevUndo) → Type 0
-IsDevicePast None = Unit {0}
-IsDevicePast (Some was) = (was.0 < 3) × NamesSlot (kind_at was.0) was.1
-
-abbrev pub IsRegisterPast : Option (ℕ × ℕ) → Type 0
-IsRegisterPast None = Unit {0}
-IsRegisterPast (Some was) = was.0 < 32
+abbrev pub IsOldRegister : Option OldRegister → Type 0
+IsOldRegister None = Unit {0}
+IsOldRegister (Some was) = was.register < 32
 
 -- what an undo step names exists
 pub record IsRestorable (past : Past) : Type 0 where
-  pub register : IsRegisterPast past.reg
-  pub memory : IsAlignedPast past.mem
-  pub device : IsDevicePast past.dev
+  pub register : IsOldRegister past.reg
+  pub change : IsRestorableChange past.change
 
--- what an instruction did to memory and devices is taken back
+-- an instruction was executed, unless the output had no room for its byte
+abbrev pub is_executed : Stepped → Bool
+is_executed On = true
+is_executed Full = false
+is_executed (Ended halt) = true
+
+-- what an instruction did to memory, devices, and control and status registers is taken back
 pub record TakesBack (range : RamRange) (done : Done) (before after : Arch) : Type 0 where
-  pub memory : memory_back range done.mem after.ram ≡ before.ram
-  pub devices : devices_back done.dev after.devices ≡ before.devices
-  pub aligned : IsAlignedPast done.mem
-  pub exists : IsDevicePast done.dev
+  pub memory : memory_back range done.change after.ram ≡ before.ram
+  pub devices : devices_back done.change after.devices ≡ before.devices
+  pub csrs : is_executed done.stepped ≡ true → csrs_back done.change after.csrs ≡ before.csrs
+  pub exists : IsRestorableChange done.change
+
+-- a load changes nothing but a device
+abbrev pub IsOfLoad : Change → Type 0
+IsOfLoad Nothing = Unit {0}
+IsOfLoad (Memory addr width old) = ⊥
+IsOfLoad (Device device undo) = Unit {0}
+IsOfLoad (System before) = ⊥
 
 -- a register, if any, with its value
-abbrev pub register_before : Option ℕ → (ℕ → ℕ) → Option (ℕ × ℕ)
+abbrev pub register_before : Option ℕ → (ℕ → ℕ) → Option OldRegister
 register_before None regs = None
-register_before (Some register) regs = Some (register, regs register)
+register_before (Some register) regs = Some (record { register = register; value = regs register })
 
 -- what takes an instruction back that was found at the address of a state, and did this
 abbrev pub past_of : ℕ → Found → Arch → Done → Past
@@ -84,9 +118,7 @@ past_of number found a done = record {
   number = number;
   addr = a.pc;
   reg = register_before (destination_in found) a.regs;
-  mem = done.mem;
-  csrs = a.csrs;
-  dev = done.dev;
+  change = done.change;
   out = is_some done.sent;
 }
 

@@ -231,14 +231,15 @@ impl<D: Device> Contents<D> {
         ensures restorable { IsRestorable result.1 }
         ensures room { self.new.hart.room ≡ self.old.hart.room }
     {
+        let addr = self.hart.pc;
         let fetched = self.hart.fetch();
-        let before = self.hart.before(number, fetched);
+        let reg = self.hart.before(fetched.destination());
         let room = self.hart.room;
         let done = self.hart.execute(&mut self.bus, fetched, time, room);
         let entry = Entry {
             number,
             epoch,
-            addr: before.addr,
+            addr,
             word: fetched.word(),
             access: done.access,
             next: self.hart.pc,
@@ -251,10 +252,11 @@ impl<D: Device> Contents<D> {
             cmp: compare(&self.bus),
         };
         let past = Past {
-            mem: done.mem,
-            dev: done.dev,
+            number,
+            addr,
+            reg,
+            change: done.change,
             out: done.sent.is_some(),
-            ..before
         };
         (entry, past)
     }

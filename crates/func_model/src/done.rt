@@ -1,5 +1,5 @@
-use device_bus::DevUndo;
-use fsim_base::{Access, Cause, Halt, Width};
+use fsim_base::{Access, Cause, Halt};
+use undo_journal::Change;
 
 /// How an instruction leaves the run.
 #[derive(Clone, Copy, Debug, PartialEq, Eq)]
@@ -22,8 +22,6 @@ pub struct Done {
     /// The load or store as it was attempted, also where it has a cause.
     pub access: Access,
     pub cause: Option<Cause>,
-    /// The address and width of the bytes of RAM that it stored, with their value before.
-    pub mem: Option<(u32, Width, u32)>,
-    /// The device that it accessed, by its place on the bus, and what takes the access back.
-    pub dev: Option<(u32, DevUndo)>,
+    /// What it changed beside its register.
+    pub change: Change,
 }

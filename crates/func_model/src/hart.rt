@@ -3,16 +3,17 @@ ghost use Rattle.mono_model.specs.Arch.{compare_of};
 ghost use Rattle.mono_model.specs.Found.{is_csr_insn, is_mret_insn};
 ghost use Rattle.mono_model.specs.Result.{attempted, csr_value};
 ghost use Rattle.mono_model.specs.Sequence.{byte_in};
+ghost use Rattle.func_model.specs.Steps.{plain_with};
 
 use crate::done::{Done, Stepped};
 use crate::found::Fetched;
-use device_bus::{Bus, DevUndo, Device, Note};
+use device_bus::{Bus, Device, Note};
 use fsim_base::{Access, Cause, Spot, Width, wrap_add};
 use machine_csr::{Csrs, reads_time};
 use phys_mem::Ram;
 use rv_decode::{Insn, decode};
 use rv_exec::{Outcome, Reach, eval, extend};
-use undo_journal::Past;
+use undo_journal::{Change, OldRegister, Past};
 
 /// The registers, memory and output of the hart, changed in place by each instruction.
 #[derive(Drop)]
@@ -51,7 +52,7 @@ struct StoreAccess {
 struct Read {
     raw: Option<u32>,
     spot: Spot,
-    dev: Option<(u32, DevUndo)>,
+    change: Change,
 }
 
 /// Whether the instruction is one of Zicsr.
@@ -67,11 +68,19 @@ fn is_mret(insn: Insn) -> bool
     matches!(insn, Insn::Mret)
 }
 
+/// The timer's place on the bus, and the numbers that are the halves of its mtimecmp.
+const TIMER: u32 = 1;
+
+const COMPARE_LOW: u32 = 0;
+
+const COMPARE_HIGH: u32 = 1;
+
 /// mtimecmp, in cycles.
 pub fn compare<D: Device>(bus: &Bus<D>) -> u64
     ensures compare { result ≡ compare_of bus.now }
 {
-    u64::from(bus.number(1, 0)) + (u64::from(bus.number(1, 1)) << 32)
+    let low = u64::from(bus.number(TIMER, COMPARE_LOW));
+    low + (u64::from(bus.number(TIMER, COMPARE_HIGH)) << 32)
 }
 
 /// A load or store as it is attempted where it is misaligned.
@@ -115,30 +124,15 @@ fn csr_value(insn: Insn, time: Option<u64>, value: u32) -> u32
 }
 
 /// What an instruction did that reached neither memory nor a device.
-fn plain() -> Done
-    ensures done { result ≡ record { stepped = Stepped.On; sent = None; access = Access.Nothing; cause = None; mem = None; dev = None } }
+fn plain(change: Change) -> Done
+    ensures done { result ≡ plain_with change }
 {
     Done {
         stepped: Stepped::On,
         sent: None,
         access: Access::Nothing,
         cause: None,
-        mem: None,
-        dev: None,
-    }
-}
-
-/// What an instruction did that trapped, with the access that it attempted.
-fn failed(access: Access, cause: Cause) -> Done
-    ensures done { result ≡ record { stepped = Stepped.On; sent = None; access = access; cause = Some cause; mem = None; dev = None } }
-{
-    Done {
-        stepped: Stepped::On,
-        sent: None,
-        access,
-        cause: Some(cause),
-        mem: None,
-        dev: None,
+        change,
     }
 }
 
@@ -155,9 +149,10 @@ impl Hart {
     ghost use Rattle.machine_csr.specs.Trap.{return_address};
     ghost use Rattle.rv_decode.specs.Class.{dest_of};
     ghost use Rattle.phys_mem.specs.Ram.{ram_of, text_of, exec_of, range_of, text_from};
-    ghost use Rattle.func_model.specs.Steps.{finished, read_devices, load_made, stepped_by, concluded, store_made, outcome_made, outcome_result, AlignedBy, csr_made, mret_made, behind, result_of, Told};
+    ghost use Rattle.func_model.specs.Steps.{failed_with, finished, read_devices, load_made, stepped_by, concluded, store_made, outcome_made, outcome_result, AlignedBy, csr_made, mret_made, behind, result_of, Told};
     ghost use Rattle.func_model.specs.Hart.{found_in, FetchedFits, found_by, IsDestination, arch_of};
-    ghost use Rattle.func_model.specs.Undo.{undone, TakesBack, IsRestorable, IsDevicePast, devices_back, register_before};
+    ghost use Rattle.func_model.specs.Undo.{undone, TakesBack, IsRestorable, IsRestorableChange, IsOfLoad, uncounted, devices_back, changed_back, register_before};
+    ghost use Rattle.undo_journal.specs.declared.past.Change.TheVariants.{System};
 
     /// What stands at the next address.
     #[tactic(auto, unfolding(crate::specs::Hart::found_by))]
@@ -195,6 +190,25 @@ impl Hart {
         ensures room { self.new.room ≡ self.old.room }
     {
         self.pc = self.csrs.trap(cause, self.pc, mtval);
+    }
+
+    /// Takes the trap of an instruction, with the access that it attempted.
+    #[tactic(auto, unfolding(crate::specs::Hart::arch_of, mono_model::specs::Arch::trapped))]
+    fn fail(&mut self, access: Access, cause: Cause, mtval: u32) -> Done
+        ensures done { result ≡ failed_with access cause self.old.csrs }
+        ensures arch { (d : Devices) → arch_of self.new d ≡ trapped (cause_number cause) mtval self.old.pc (arch_of self.old d) }
+        ensures memory { self.new.memory ≡ self.old.memory }
+        ensures room { self.new.room ≡ self.old.room }
+    {
+        let before = self.csrs;
+        self.trap(cause.number(), mtval);
+        Done {
+            stepped: Stepped::On,
+            sent: None,
+            access,
+            cause: Some(cause),
+            change: Change::System(before),
+        }
     }
 
     /// Writes the destination register, if there is one.
@@ -236,36 +250,40 @@ impl Hart {
         ensures raw { result.raw ≡ raw_at (seen_in time (arch_of self.old bus.old)) addr width (spot_of (range_of self.old.memory) addr width) }
         ensures spot { result.spot ≡ spot_of (range_of self.old.memory) addr width }
         ensures devices { bus.new ≡ read_devices result.raw (range_of self.old.memory) addr width bus.old }
-        ensures back { devices_back result.dev bus.new ≡ bus.old }
-        ensures exists { IsDevicePast result.dev }
+        ensures back { devices_back result.change bus.new ≡ bus.old }
+        ensures exists { IsRestorableChange result.change }
+        ensures of_load { IsOfLoad result.change }
         ensures same { self.new ≡ self.old }
     {
         if let Some(raw) = self.memory.get(addr, width) {
             return Read {
                 raw: Some(raw),
                 spot: Spot::Ram,
-                dev: None,
+                change: Change::Nothing,
             };
         }
         let Some(place) = bus.find(addr, width) else {
             return Read {
                 raw: None,
                 spot: Spot::Nowhere,
-                dev: None,
+                change: Change::Nothing,
             };
         };
         if !place.accepted {
             return Read {
                 raw: None,
                 spot: Spot::Device,
-                dev: None,
+                change: Change::Nothing,
             };
         }
         let (raw, undo) = bus.load(place.device, place.off, width, time.unwrap_or(0));
         Read {
             raw: Some(raw),
             spot: Spot::Device,
-            dev: Some((place.device, undo)),
+            change: Change::Device {
+                device: place.device,
+                undo,
+            },
         }
     }
 
@@ -294,17 +312,13 @@ impl Hart {
             spot: read.spot,
         };
         match read.raw {
-            None => {
-                self.trap(5, access.addr);
-                failed(made, Cause::LoadAccess)
-            }
+            None => self.fail(made, Cause::LoadAccess, access.addr),
             Some(raw) => {
                 let value = extend(raw, access.width, access.signed);
                 self.finish(destination, value, access.next);
                 Done {
                     access: made,
-                    dev: read.dev,
-                    ..plain()
+                    ..plain(read.change)
                 }
             }
         }
@@ -367,20 +381,21 @@ impl Hart {
                     width,
                     spot: Spot::Ram,
                 },
-                mem: Some((addr, width, old)),
-                ..plain()
+                ..plain(Change::Memory { addr, width, old })
             };
         }
         let Some(place) = bus.find(addr, width) else {
-            self.trap(7, addr);
             let spot = Spot::Nowhere;
-            return failed(Access::Store { addr, width, spot }, Cause::StoreAccess);
+            return self.fail(
+                Access::Store { addr, width, spot },
+                Cause::StoreAccess,
+                addr,
+            );
         };
         let spot = Spot::Device;
         let made = Access::Store { addr, width, spot };
         if !place.accepted {
-            self.trap(7, addr);
-            return failed(made, Cause::StoreAccess);
+            return self.fail(made, Cause::StoreAccess, addr);
         }
         let (note, undo) = bus.store(place.device, place.off, width, value);
         Done {
@@ -388,8 +403,10 @@ impl Hart {
             sent: byte_in(note),
             access: made,
             cause: None,
-            mem: None,
-            dev: Some((place.device, undo)),
+            change: Change::Device {
+                device: place.device,
+                undo,
+            },
         }
     }
 
@@ -415,14 +432,13 @@ impl Hart {
         ensures room { self.new.room ≡ self.old.room }
     {
         if let Some((cause, mtval)) = outcome.cause {
-            self.trap(cause.number(), mtval);
-            return failed(attempted(outcome.reach), cause);
+            return self.fail(attempted(outcome.reach), cause, mtval);
         }
         let next = outcome.next;
         match outcome.reach {
             Reach::Nothing => {
                 self.finish(destination, outcome.value, next);
-                plain()
+                plain(Change::Nothing)
             }
             Reach::Load {
                 addr,
@@ -457,34 +473,35 @@ impl Hart {
         requires count { self.old.csrs.retired < 2 ^ 64 - 1 }
         ensures told { (limit : ℕ) (d : Devices) → Told limit (csr_result word insn self.old.pc time (csr_access self.old.csrs insn x (unwrap_or time 0) cmp)) (arch_of self.old d) result }
         ensures arch { (d : Devices) → arch_of self.new d ≡ csr_made word insn time (csr_access self.old.csrs insn x (unwrap_or time 0) cmp) (arch_of self.old d) }
-        ensures nothing { (result.mem ≡ None) × (result.dev ≡ None) }
+        ensures change { result.change ≡ System self.old.csrs }
         ensures memory { self.new.memory ≡ self.old.memory }
         ensures room { self.new.room ≡ self.old.room }
     {
         match self.csrs.access(insn, x, time.unwrap_or(0), cmp) {
-            None => {
-                self.trap(2, word);
-                failed(Access::Nothing, Cause::IllegalInstruction)
-            }
+            None => self.fail(Access::Nothing, Cause::IllegalInstruction, word),
             Some((value, write)) => {
+                let before = self.csrs;
                 self.csrs.apply(write);
                 let next = wrap_add(self.pc, 4);
                 self.finish(insn.dest(), csr_value(insn, time, value), next);
-                plain()
+                plain(Change::System(before))
             }
         }
     }
 
     /// Leaves a trap, as MRET does.
     #[tactic(auto, unfolding(crate::specs::Hart::arch_of))]
-    fn leave(&mut self)
+    fn leave(&mut self) -> Done
         requires count { self.old.csrs.retired < 2 ^ 64 - 1 }
+        ensures done { result ≡ plain_with (System self.old.csrs) }
         ensures arch { (d : Devices) → arch_of self.new d ≡ mret_made (arch_of self.old d) }
         ensures memory { self.new.memory ≡ self.old.memory }
         ensures room { self.new.room ≡ self.old.room }
     {
+        let before = self.csrs;
         let next = self.csrs.leave();
         self.finish(None, 0, next);
+        plain(Change::System(before))
     }
 
     /// Executes an instruction with a time or none and an output limit.
@@ -513,8 +530,7 @@ impl Hart {
             return self.access_csr(word, insn, x, time, compare(bus));
         }
         if is_mret(insn) {
-            self.leave();
-            return plain();
+            return self.leave();
         }
         let y = self.operand(second);
         let outcome = eval(insn, self.pc, x, y);
@@ -542,13 +558,9 @@ impl Hart {
         ensures room { self.new.room ≡ self.old.room }
     {
         match fetched {
-            Fetched::Refused(cause) => {
-                self.trap(cause.number(), self.pc);
-                failed(Access::Nothing, cause)
-            }
+            Fetched::Refused(cause) => self.fail(Access::Nothing, cause, self.pc),
             Fetched::Unknown(word) => {
-                self.trap(2, word);
-                failed(Access::Nothing, Cause::IllegalInstruction)
+                self.fail(Access::Nothing, Cause::IllegalInstruction, word)
             }
             Fetched::Known(word, insn) => self.perform(bus, word, insn, time, limit),
         }
@@ -566,31 +578,45 @@ impl Hart {
         self.memory.sync();
     }
 
-    /// What takes back what was fetched, before it is executed: its address, its register and the control and status
-    /// registers. What it does to memory, devices and output is not in it yet.
-    pub fn before(&self, number: u64, fetched: Fetched) -> Past
-        requires fits { FetchedFits fetched }
-        ensures past { result ≡ record {
-          number = number;
-          addr = self.now.pc;
-          reg = register_before (destination_in (found_in fetched)) (λ r. slice_index self.now.regs r);
-          mem = None;
-          csrs = self.now.csrs;
-          dev = None;
-          out = false;
-        } }
+    /// The register that an instruction writes, if any, as it is before.
+    pub fn before(&self, destination: Option<u8>) -> Option<OldRegister>
+        requires exists { IsDestination destination }
+        ensures before { result ≡ register_before destination (λ r. slice_index self.now.regs r) }
     {
-        Past {
-            number,
-            addr: self.pc,
-            reg: fetched
-                .destination()
-                .map(|register| (register, self.regs[register as usize])),
-            mem: None,
-            csrs: self.csrs,
-            dev: None,
-            out: false,
+        destination.map(|register| OldRegister {
+            register,
+            value: self.regs[register as usize],
+        })
+    }
+
+    /// Takes back what an instruction changed beside its register and the output.
+    #[tactic(auto, unfolding(crate::specs::Hart::arch_of))]
+    fn take_back<D: Device>(&mut self, bus: &mut Bus<D>, change: Change)
+        requires restorable { IsRestorableChange change }
+        ensures arch { arch_of self.new bus.new ≡ changed_back (range_of self.old.memory) change (arch_of self.old bus.old) }
+        ensures range { range_of self.new.memory ≡ range_of self.old.memory }
+        ensures exec { exec_of self.new.memory ≡ exec_of self.old.memory }
+        ensures room { self.new.room ≡ self.old.room }
+    {
+        match change {
+            Change::Nothing => self.uncount(),
+            Change::Memory { addr, width, old } => {
+                let _ = self.memory.set(addr, width, old);
+                self.uncount();
+            }
+            Change::Device { device, undo } => {
+                bus.undo(device, undo);
+                self.uncount();
+            }
+            Change::System(before) => self.csrs = before,
         }
+    }
+
+    /// One instruction fewer retired.
+    fn uncount(&mut self)
+        ensures uncounted { self.new ≡ record self.old { csrs = uncounted self.old.csrs } }
+    {
+        self.csrs.retired = self.csrs.retired.saturating_sub(1);
     }
 
     /// Takes an instruction back.
@@ -602,19 +628,13 @@ impl Hart {
         ensures exec { exec_of self.new.memory ≡ exec_of self.old.memory }
         ensures room { self.new.room ≡ self.old.room }
     {
-        self.pc = past.addr;
-        self.csrs = past.csrs;
-        if let Some((register, value)) = past.reg {
-            self.regs[register as usize] = value;
-        }
-        if let Some((addr, width, old)) = past.mem {
-            let _ = self.memory.set(addr, width, old);
-        }
-        if let Some((device, undo)) = past.dev {
-            bus.undo(device, undo);
-        }
         if past.out {
             self.output.truncate(self.output.len().saturating_sub(1));
         }
+        if let Some(was) = past.reg {
+            self.regs[was.register as usize] = was.value;
+        }
+        self.pc = past.addr;
+        self.take_back(bus, past.change);
     }
 }

@@ -5,7 +5,7 @@ mod journal;
 mod past;
 
 pub use journal::Journal;
-pub use past::Past;
+pub use past::{Change, OldRegister, Past};
 
 #[cfg(test)]
 mod tests;

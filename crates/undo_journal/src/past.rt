@@ -2,6 +2,26 @@ use device_bus::DevUndo;
 use fsim_base::Width;
 use machine_csr::Csrs;
 
+/// The value of a register before an instruction that writes it.
+#[derive(Clone, Copy, Debug, PartialEq, Eq)]
+pub struct OldRegister {
+    pub register: u8,
+    pub value: u32,
+}
+
+/// What an instruction changed beside its register, with what takes that back.
+#[derive(Clone, Copy, Debug, PartialEq, Eq)]
+pub enum Change {
+    /// The count of retired instructions alone.
+    Nothing,
+    /// That count, and bytes of RAM, whose value was `old` before.
+    Memory { addr: u32, width: Width, old: u32 },
+    /// That count, and the device at this place on the bus.
+    Device { device: u32, undo: DevUndo },
+    /// The control and status registers, which were these before: an instruction of theirs, or a trap.
+    System(Csrs),
+}
+
 /// What restores the state before one instruction.
 #[derive(Clone, Copy, Debug, PartialEq, Eq)]
 pub struct Past {
@@ -10,13 +30,8 @@ pub struct Past {
     /// The instruction's address.
     pub addr: u32,
     /// The register that it writes, if it has one, with its value before, also where it traps.
-    pub reg: Option<(u8, u32)>,
-    /// The address and width of the bytes of RAM that it stored, with their value before; None without such a store.
-    pub mem: Option<(u32, Width, u32)>,
-    /// The control and status registers before it.
-    pub csrs: Csrs,
-    /// The device that it accessed, by its place on the bus, and what takes the access back; None without one.
-    pub dev: Option<(u32, DevUndo)>,
+    pub reg: Option<OldRegister>,
+    pub change: Change,
     /// Whether it sent a byte to the output.
     pub out: bool,
 }

@@ -1,10 +1,30 @@
 ghost use Rattle.std.specs.Prelude.{◌≡◌, ◌+◌, ◌<◌, length, All};
 
-use crate::{Journal, Past};
+use crate::{Change, Journal, OldRegister, Past};
 use device_bus::DevUndo;
 use fsim_base::Width;
 use machine_csr::Csrs;
 use std::test::Fail;
+
+/// What a step changed: one of the four kinds in turn.
+fn change(number: u64) -> Change {
+    match number % 4 {
+        0 => Change::Nothing,
+        1 => Change::Memory {
+            addr: 0x8000_1000,
+            width: Width::Half,
+            old: 0x2222,
+        },
+        2 => Change::Device {
+            device: 1,
+            undo: DevUndo {
+                slot: Some(0),
+                old: 0x3333_3333,
+            },
+        },
+        _ => Change::System(Csrs::new()),
+    }
+}
 
 /// A step with something in each field.
 fn past(number: u64) -> Past
@@ -13,16 +33,11 @@ fn past(number: u64) -> Past
     Past {
         number,
         addr: 0x8000_0010,
-        reg: Some((5, 0x1111_1111)),
-        mem: Some((0x8000_1000, Width::Half, 0x2222)),
-        csrs: Csrs::new(),
-        dev: Some((
-            1,
-            DevUndo {
-                slot: Some(0),
-                old: 0x3333_3333,
-            },
-        )),
+        reg: Some(OldRegister {
+            register: 5,
+            value: 0x1111_1111,
+        }),
+        change: change(number),
         out: number % 2 == 0,
     }
 }

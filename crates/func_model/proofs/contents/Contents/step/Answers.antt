@@ -1,5 +1,4 @@
-use Rattle.std.proofs.Common.{◌≡◌, ◌&&◌, Bool, is_none, ap, ◌∙◌}
-use Rattle.undo_journal.specs.declared.past.Past.{Past}
+use Rattle.std.proofs.Common.{◌≡◌, ◌&&◌, slice_index, is_none, ap, ◌∙◌}
 use Rattle.mono_model.specs.declared.setup.Setup.{Setup}
 use Rattle.mono_model.specs.Arch.{Arch, compare_of}
 use Rattle.mono_model.specs.Found.{word_in, class_in}
@@ -7,15 +6,16 @@ use Rattle.mono_model.specs.Result.{is_time_read}
 use Rattle.phys_mem.specs.Ram.{exec_of, range_of}
 use Rattle.func_model.specs.Hart.{arch_of, found_in}
 use Rattle.func_model.specs.Steps.{result_of}
-use Rattle.func_model.specs.Undo.{past_of, ended_in}
+use Rattle.func_model.specs.Undo.{past_of, register_before, ended_in}
 use Rattle.func_model.specs.Contents.{StandsFor}
 use Rattle.func_model.proofs.Advance.{met_found}
+use Rattle.func_model.proofs.Undone.{fetched_exists}
 use Rattle.func_model.proofs.Stepping.{Executed, executed_at, executed_seq, entry_told, back_from}
 use Rattle.func_model.proofs.contents.Contents.step.Given as given
 use Rattle.func_model.proofs.contents.Contents.step.Goals as goal
 
 -- the instruction as it was executed at the state that the contents stand for
-executed : (g : given.Over) (c : goal.After-past-1 g) (s : Setup) (a : Arch) → StandsFor s a c.args.self.now →
+executed : (g : given.Over) (c : goal.After-is_some g) (s : Setup) (a : Arch) → StandsFor s a c.args.self.now →
     Executed s c.args.time c.args.self.now.hart.room a (found_in c.fetch-fetched.result) c.execute-done.result (arch_of c.execute-done.new.self c.execute-done.new.bus)
 unfolding arch_of
 executed g c s a h =
@@ -25,12 +25,17 @@ executed g c s a h =
     c.execute-done.ensures.told c.execute-done.ensures.arch c.requires.room
 
 -- the undo step, whole
-past_is : (g : given.Over) (c : goal.After-past-1 g) →
-    (record c.before-before.result { mem = c.execute-done.result.mem; dev = c.execute-done.result.dev; out = c.is_some.result }) ≡ past_of c.args.number (found_in c.fetch-fetched.result) (arch_of c.args.self.now.hart c.args.self.now.bus) c.execute-done.result
+past_is : (g : given.Over) (c : goal.After-is_some g) →
+    (record { number = c.args.number; addr = c.args.self.now.hart.pc; reg = c.before-reg.result; change = c.execute-done.result.change; out = c.is_some.result })
+    ≡ past_of c.args.number (found_in c.fetch-fetched.result) (arch_of c.args.self.now.hart c.args.self.now.bus) c.execute-done.result
 unfolding arch_of
-past_is g c =
-    ap (λ (p : Past). record p { mem = c.execute-done.result.mem; dev = c.execute-done.result.dev; out = c.is_some.result }) c.before-before.ensures.past
-    ∙ ap (λ (o : Bool). record (past_of c.args.number (found_in c.fetch-fetched.result) (arch_of c.args.self.now.hart c.args.self.now.bus) c.execute-done.result) { out = o }) c.is_some.ensures
+past_is g c = λ i. record {
+  number = c.args.number;
+  addr = c.args.self.now.hart.pc;
+  reg = (c.before-reg.ensures.before ∙ ap (λ d. register_before d (λ r. slice_index c.args.self.now.hart.regs r)) c.destination.ensures.register) i;
+  change = c.execute-done.result.change;
+  out = c.is_some.ensures i;
+}
 
 pub returns-clause-stands : goal.returns-clause-stands
 returns-clause-stands g c = λ s a h. record {
@@ -68,7 +73,7 @@ returns-clause-entry g c = λ s a h.
     } = λ i. record {
       number = c.args.number;
       epoch = c.args.epoch;
-      addr = (ap (λ (p : Past). p.addr) c.before-before.ensures.past ∙ ap (λ (x : Arch). x.pc) h.arch) i;
+      addr = (ap (λ (x : Arch). x.pc) h.arch) i;
       word = c.word.ensures.word i;
       access = c.execute-done.result.access;
       next = c.execute-done.new.self.pc;

@@ -13,29 +13,28 @@ pub returns-in-Refused-clause-told : goal.returns-in-Refused-clause-told
 unfolding arch_of
 returns-in-Refused-clause-told g c =
     rw c.in-Refused.is
-    (told_same c.args.limit _ _ (arch_of c.args.self.now c.args.bus.now) c.failed.result
+    (told_same c.args.limit _ _ (arch_of c.args.self.now c.args.bus.now) c.fail.result
     (sym (refused_result_of (range_of c.args.self.now.memory) c.args.time c.in-Refused.cause (arch_of c.args.self.now c.args.bus.now)))
-    (told_failed c.args.limit (wrap_sum c.args.self.now.pc 4) access.Nothing c.in-Refused.cause c.args.self.now.pc (arch_of c.args.self.now c.args.bus.now) c.failed.result c.failed.ensures.done))
+    (told_failed c.args.limit (wrap_sum c.args.self.now.pc 4) access.Nothing c.in-Refused.cause c.args.self.now.pc c.args.self.now.csrs (arch_of c.args.self.now c.args.bus.now) c.fail.result c.fail.ensures.done))
 
 pub returns-in-Refused-clause-arch : goal.returns-in-Refused-clause-arch
 unfolding arch_of
 returns-in-Refused-clause-arch g c =
     rw c.in-Refused.is
-    (c.trap.ensures.arch c.args.bus.now
-    ∙ ap (λ (n : ℕ). trapped n c.args.self.now.pc c.args.self.now.pc (arch_of c.args.self.now c.args.bus.now)) c.number.ensures.code
+    (c.fail.ensures.arch c.args.bus.now
     ∙ sym (refused_behind (range_of c.args.self.now.memory) c.args.limit c.args.time c.in-Refused.cause (arch_of c.args.self.now c.args.bus.now)))
 
 pub returns-in-Unknown-clause-told : goal.returns-in-Unknown-clause-told
 unfolding arch_of
 returns-in-Unknown-clause-told g c =
     rw c.in-Unknown.is
-    (told_same c.args.limit _ _ (arch_of c.args.self.now c.args.bus.now) c.failed-in-Unknown.result
+    (told_same c.args.limit _ _ (arch_of c.args.self.now c.args.bus.now) c.fail-in-Unknown.result
     (sym (unknown_result_of (range_of c.args.self.now.memory) c.args.time c.in-Unknown.word (arch_of c.args.self.now c.args.bus.now)))
-    (told_failed c.args.limit (wrap_sum c.args.self.now.pc 4) access.Nothing IllegalInstruction c.in-Unknown.word (arch_of c.args.self.now c.args.bus.now) c.failed-in-Unknown.result c.failed-in-Unknown.ensures.done))
+    (told_failed c.args.limit (wrap_sum c.args.self.now.pc 4) access.Nothing IllegalInstruction c.in-Unknown.word c.args.self.now.csrs (arch_of c.args.self.now c.args.bus.now) c.fail-in-Unknown.result c.fail-in-Unknown.ensures.done))
 
 pub returns-in-Unknown-clause-arch : goal.returns-in-Unknown-clause-arch
 unfolding arch_of
 returns-in-Unknown-clause-arch g c =
     rw c.in-Unknown.is
-    (c.trap-in-Unknown.ensures.arch c.args.bus.now
+    (c.fail-in-Unknown.ensures.arch c.args.bus.now
     ∙ sym (unknown_behind (range_of c.args.self.now.memory) c.args.limit c.args.time c.in-Unknown.word (arch_of c.args.self.now c.args.bus.now)))

@@ -2,6 +2,7 @@ use Rattle.std.proofs.Common.{slice_index, ap, sym, ◌∙◌}
 use Rattle.machine_csr.specs.Trap.{return_address}
 use Rattle.mono_model.specs.Arch.{register_value}
 use Rattle.phys_mem.specs.Ram.{range_of}
+use Rattle.undo_journal.specs.declared.past.Change.TheVariants.{System}
 use Rattle.func_model.specs.Hart.{arch_of}
 use Rattle.func_model.proofs.Concluded.{told_same, told_plain}
 use Rattle.func_model.proofs.Effects.{evaluated_behind, evaluated_result}
@@ -25,9 +26,9 @@ returns-then-is_csr-clause-arch g c =
 
 pub returns-then-is_mret-clause-told : goal.returns-then-is_mret-clause-told
 returns-then-is_mret-clause-told g c =
-    told_same c.args.limit _ _ (arch_of c.args.self.now c.args.bus.now) c.plain.result
+    told_same c.args.limit _ _ (arch_of c.args.self.now c.args.bus.now) c.leave.result
     (sym (mret_result_of (range_of c.args.self.now.memory) c.args.word c.args.insn c.args.time (arch_of c.args.self.now c.args.bus.now) (sym c.is_mret.ensures.mret ∙ c.if-is_mret.true)))
-    (told_plain c.args.limit 0 (return_address (arch_of c.args.self.now c.args.bus.now).csrs) (arch_of c.args.self.now c.args.bus.now) c.plain.result c.plain.ensures.done)
+    (told_plain c.args.limit 0 (return_address (arch_of c.args.self.now c.args.bus.now).csrs) (System c.args.self.now.csrs) (arch_of c.args.self.now c.args.bus.now) c.leave.result c.leave.ensures.done)
 
 pub returns-then-is_mret-clause-arch : goal.returns-then-is_mret-clause-arch
 returns-then-is_mret-clause-arch g c =
