@@ -9,3 +9,4 @@ pub mod Ending
 pub mod Reporting
 pub mod Opening
 pub mod OnDemand
+pub mod Handing

@@ -1,3 +1,4 @@
+ghost use Rattle.std.specs.Prelude.{◌≡◌, [], is_none, true};
 ghost use Rattle.split_core.specs.Plays.{Plays};
 ghost use Rattle.split_core.specs.Stands.{IsStanding};
 
@@ -38,10 +39,27 @@ impl<D: Device> SplitState<D> {
         requires standing { IsStanding self.old }
         ensures plays { Plays self.old self.new }
     {
-        if self.time.wants() {
+        if self.computed.is_none() && self.entries.is_empty() {
+            self.hand_over();
+        } else if self.time.wants() {
             self.compute();
             self.push();
             self.take();
+        }
+    }
+
+    /// Hands the timing side the next entry as it is computed, if it wants one: as where it goes through the
+    /// list of entries, with none before it.
+    fn hand_over(&mut self)
+        requires standing { IsStanding self.old }
+        requires free { is_none self.old.computed ≡ true }
+        requires empty { self.old.entries.items ≡ [] }
+        ensures plays { Plays self.old self.new }
+    {
+        if self.time.wants() {
+            if let Some(entry) = self.func.produce() {
+                self.time.take(&entry);
+            }
         }
     }
 }
