@@ -14,12 +14,12 @@ use Rattle.mono_model.specs.Found.{flow_in, is_fence_i}
 use Rattle.mono_model.specs.Result.{Result}
 use Rattle.mono_model.specs.Effect.{note_of}
 use Rattle.mono_model.specs.Alone.{has_no_room}
-use Rattle.mono_model.specs.Window.{Record, Stage, waiting, until, done, busy_divisions}
+use Rattle.mono_model.specs.Window.{Record, Stage, waiting, until, done}
 use Rattle.mono_model.specs.Machine.{Counts, Machine, machine_start, flushed}
 use Rattle.mono_model.specs.Interrupt.{is_interrupted, take_interrupt, interrupt_phase}
 use Rattle.mono_model.specs.Commit.{Leaving, stays, full, leaves, faults, syncs, ends, branch_count, committed, faulted, fenced, leaving_by, leaving_done, leaving_stage, leaving_first, leaving, Committed, after_leaving, commits, commit_phase}
 use Rattle.mono_model.specs.Complete.{completes, completed_by, complete_phase}
-use Rattle.mono_model.specs.Issue.{none_used, wants_time, replayed, issued, issue_phase}
+use Rattle.mono_model.specs.Issue.{none_passed, wants_time, replayed, issued, issue_phase}
 use Rattle.mono_model.specs.Fetch.{Try, misses, appends, turns, cache_read, missed, appended, new_record, predicted_next, tried, fetch_try}
 use Rattle.mono_model.specs.Cycle.{ticked}
 use Rattle.mono_model.specs.Demand.{Demand, At, interrupting, committing, completing, issuing, trying, ending, stopping, halted, tried_turn, turn_at, turn, place}
@@ -197,7 +197,7 @@ unfolding issue_phase flushed
 issue_counts s m =
     cond_both (wants_time s m) (replayed m) (issued s m) (CountsOn m 0 1)
     (λ e. record { records = omega arith; fetched = omega arith; interrupts = omega arith; replays = omega arith; mispredicted = omega arith; exceptions = omega arith; branches = omega arith })
-    (λ e. same_counts m (issued s m) 1 refl (walk_length s m.cycle m.arch (busy_divisions m.window) m.window [] none_used m.caches))
+    (λ e. same_counts m (issued s m) 1 refl (walk_length s m (none_passed m) m.window))
 
 abbrev TryCounts : Machine → Try → Type 0
 TryCounts m (misses behind) = CountsOn m 0 1 behind

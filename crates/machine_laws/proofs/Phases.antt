@@ -13,12 +13,12 @@ use Rattle.mono_model.specs.Found.{Found, is_fence_i}
 use Rattle.mono_model.specs.Result.{Result}
 use Rattle.mono_model.specs.Effect.{effect, effect_by, retired, note_of, with_note}
 use Rattle.mono_model.specs.Alone.{has_no_room}
-use Rattle.mono_model.specs.Window.{Record, Stage, waiting, until, done, busy_divisions}
+use Rattle.mono_model.specs.Window.{Record, Stage, waiting, until, done}
 use Rattle.mono_model.specs.Machine.{Machine, flushed}
 use Rattle.mono_model.specs.Interrupt.{is_interrupted, take_interrupt, interrupt_phase}
 use Rattle.mono_model.specs.Commit.{Leaving, stays, full, leaves, faults, syncs, ends, committed, faulted, fenced, leaving_by, leaving_done, leaving_stage, leaving_first, leaving, Ending, plain, trap, sync, Committed, after_leaving, commits, commit_phase}
 use Rattle.mono_model.specs.Complete.{Completed, due, is_mispredicted, complete_next, completes, completed_by, complete_phase}
-use Rattle.mono_model.specs.Issue.{Used, none_used, turn_of, walk, wants_time, replayed, issued, issue_phase}
+use Rattle.mono_model.specs.Issue.{Passed, none_passed, turn_of, passed, walk, wants_time, replayed, issued, issue_phase}
 use Rattle.mono_model.specs.Fetch.{Try, misses, appends, turns, cache_read, missed, appended, new_record, predicted_next, tried, fetch_try}
 
 -- The interrupt.
@@ -220,12 +220,12 @@ unfolding complete_phase
 complete_kept m = let c = completes m.cycle m.window in by_kept c.redirect c.records m (completes_from m.cycle m.window).window
 
 -- Issue.
-pub walk_length : (s : Setup) (cycle : ℕ) (a : Arch) (busy : ℕ) (w older : List Record) (used : Used) (caches : CachesState) → length (walk s cycle a busy w older used caches).records ≡ length w
+pub walk_length : (s : Setup) (m : Machine) (p : Passed) (rest : List Record) → length (walk s m p rest).records ≡ length rest
 unfolding walk
-walk_length s cycle a busy [] older used caches = refl
-walk_length s cycle a busy (rec ∷ rest) older used caches =
-    let t = turn_of s cycle a busy older rec used caches in
-    let same : length (walk s cycle a busy rest (t.turned ∷ older) t.used t.caches).records ≡ length rest = walk_length s cycle a busy rest (t.turned ∷ older) t.used t.caches in
+walk_length s m p [] = refl
+walk_length s m p (rec ∷ rest) =
+    let t = turn_of s m p rec rest in
+    let same : length (walk s m (passed t p.older) rest).records ≡ length rest = walk_length s m (passed t p.older) rest in
     omega arith
 
 pub issue_kept : (s : Setup) (m : Machine) → Kept m (issue_phase s m)
@@ -233,7 +233,7 @@ unfolding issue_phase flushed
 issue_kept s m =
     cond_both (wants_time s m) (replayed m) (issued s m) (Kept m)
     (λ e. record { cycle = refl; arch = refl; window = omega arith })
-    (λ e. record { cycle = refl; arch = refl; window = omega (arith, walk_length s m.cycle m.arch (busy_divisions m.window) m.window [] none_used m.caches) })
+    (λ e. record { cycle = refl; arch = refl; window = omega (arith, walk_length s m (none_passed m) m.window) })
 
 pub replay_flushes : (s : Setup) (m : Machine) → wants_time s m ≡ true → length (issue_phase s m).window ≡ 0
 unfolding issue_phase flushed

@@ -1,29 +1,30 @@
 -- Each turn leaves time reads served.
 use Rattle.std.proofs.Common.{◌≡◌, ℕ, zero, suc, ◌+◌, ◌≤◌, nat_lt, ◌==◌, ◌&&◌, Bool, true, false, if◌then◌else◌, is_none, Option, Some, None, List, [], ◌∷◌, ◌++◌, refl, subst}
-use Rattle.std.proofs.lemmas.Bool.{and_parts}
+use Rattle.std.proofs.lemmas.Bool.{cond_both}
 use Rattle.fsim_base.specs.Number.{wrap_sum}
 use Rattle.fsim_base.specs.declared.cause.Cause.{Cause}
 use Rattle.device_bus.specs.declared.undo.Note.{Note}
 use Rattle.device_bus.specs.declared.undo.Note.TheVariants as note
-use Rattle.cache_timing.specs.Caches.{CachesState, Served}
+use Rattle.cache_timing.specs.Caches.{Served}
 use Rattle.mono_model.specs.declared.setup.Setup.{Setup}
 use Rattle.mono_model.specs.declared.final_state.End.TheVariants.{OutputFull}
 use Rattle.mono_model.specs.Setup.{ram_range, is_setup}
 use Rattle.mono_model.specs.Arch.{Arch}
 use Rattle.mono_model.specs.Found.{first_source, second_source, is_fence_i}
-use Rattle.mono_model.specs.Result.{Result, executed, is_time_read}
+use Rattle.mono_model.specs.Result.{Result, is_time_read}
 use Rattle.mono_model.specs.Effect.{note_of}
 use Rattle.mono_model.specs.Sequence.{is_unserved}
 use Rattle.mono_model.specs.Alone.{has_no_room}
-use Rattle.mono_model.specs.Window.{Record, Stage, waiting, until, done, class_at, operand, busy_divisions}
+use Rattle.mono_model.specs.Window.{Record, Stage, waiting, until, done, class_at}
 use Rattle.mono_model.specs.Machine.{Machine, machine_start, flushed}
 use Rattle.mono_model.specs.Interrupt.{is_interrupted, take_interrupt, interrupt_phase}
 use Rattle.mono_model.specs.Commit as commit
 use Rattle.mono_model.specs.Complete.{Completed, due, is_mispredicted, in_front, complete_next, completes, completed_by, complete_phase}
-use Rattle.mono_model.specs.Issue.{Used, none_used, has_unit, is_oldest, class_allows, is_past_front, seen_from, result_with, ready_result, cached, Turned, unchanged, begun, begun_if, turn_of, walk, wants_time, wants_time_result, wants_time_first, replayed, issued, issue_phase}
+use Rattle.mono_model.specs.Issue.{Passed, none_passed, is_oldest, class_allows, is_past_front, has_operands, operand_value, seen_from, ready_result, issues, Turned, unchanged, begun, turn_of, passed, walk, wants_time, wants_time_result, wants_time_first, replayed, issued, issue_phase}
 use Rattle.mono_model.specs.Fetch.{misses, appends, turns, missed, appended, new_record, predicted_next, cache_read, fetch_try}
 use Rattle.mono_model.specs.Cycle.{ticked}
 use Rattle.mono_model.specs.Demand.{Demand, demand_try, At, interrupting, committing, completing, issuing, trying, ending, stopping, halted, turn_at, place}
+use Rattle.mono_model.proofs.Issue.{issues_all}
 use Rattle.machine_laws.specs.Served.{IsServed, AreServed}
 use Rattle.machine_laws.proofs.Always.{always}
 use Rattle.machine_laws.proofs.TimeReads.{time_read_oldest}
@@ -139,64 +140,56 @@ unwanted false none has = refl
 unwanted true true has = has refl
 unwanted true false has = refl
 
-module _ (s : Setup) (above : 0x20000000 ≤ (ram_range s.params).base) (cycle : ℕ) (a : Arch) (busy : ℕ) where
-  with_time : (older : List Record) (rec : Record) (r : Result) (first second : Option ℕ) → result_with s a older rec first second ≡ Some r →
-      is_time_read rec.found r.access ≡ true → class_allows (class_at rec) r.access older ≡ true → is_oldest older ≡ true
-  with_time older rec r (Some x) (Some y) gives reads allows =
-      let e : r ≡ executed (ram_range s.params) rec.found rec.addr x y (seen_from a older rec.time) = cc in
-      let P : Result → Type 0 = λ t. is_time_read rec.found t.access ≡ true in
-      let Q : Result → Type 0 = λ t. class_allows (class_at rec) t.access older ≡ true in
-      time_read_oldest (ram_range s.params) above older rec.found rec.addr x y (seen_from a older rec.time) (subst P e reads) (subst Q e allows)
-  with_time older rec r (Some x) None gives reads allows = cc
-  with_time older rec r None second gives reads allows = cc
-
-  ready_time : (older : List Record) (rec : Record) (r : Result) → ready_result s a older rec ≡ Some r → is_time_read rec.found r.access ≡ true →
-      class_allows (class_at rec) r.access older ≡ true → is_oldest older ≡ true
+module _ (s : Setup) (above : 0x20000000 ≤ (ram_range s.params).base) (m : Machine) where
+  ready_time : (older : List Record) (rec : Record) → is_time_read rec.found (ready_result s m.arch older rec).access ≡ true →
+      class_allows (class_at rec) (ready_result s m.arch older rec).access older ≡ true → is_oldest older ≡ true
   unfolding ready_result
-  ready_time older rec r gives reads allows =
-      with_time older rec r (operand a.regs older (first_source rec.found)) (operand a.regs older (second_source rec.found)) gives reads allows
+  ready_time older rec reads allows =
+      time_read_oldest (ram_range s.params) above older rec.found rec.addr
+      (operand_value m.arch older (first_source rec.found)) (operand_value m.arch older (second_source rec.found)) (seen_from m.arch older rec.time) reads allows
 
-  begun_served : (older : List Record) (rec : Record) (used : Used) (caches : CachesState) (ready : Option Result) → ready_result s a older rec ≡ ready →
-      (is_oldest older ≡ true → wants_time_result rec ready ≡ false) → IsServed rec.found rec.time rec.stage →
-      (let t = (begun_if s cycle busy older rec ready used caches).turned in IsServed t.found t.time t.stage)
-  begun_served older rec used caches None is unasked served = served
-  begun_served older rec used caches (Some r) is unasked served = by_test (class_allows (class_at rec) r.access older && has_unit s.params busy used (class_at rec)) refl
+  -- the test of a replay, of any record
+  wants : List Record → Record → Bool
+  wants older rec =
+      is_past_front s.params m.cycle rec && has_operands m.arch older rec && wants_time_result rec (ready_result s m.arch older rec)
+
+  -- three tests, of which the first two hold
+  unasked_third : (past has asks : Bool) → (past && has && asks) ≡ false → past ≡ true → has ≡ true → asks ≡ false
+  unasked_third true true asks none is held = none
+  unasked_third true false asks none is held = cc
+  unasked_third false has asks none is held = cc
+
+  turn_served : (w : Passed) (rec : Record) (younger : List Record) → (is_oldest w.older ≡ true → wants w.older rec ≡ false) →
+      IsServed rec.found rec.time rec.stage → (let t = (turn_of s m w rec younger).turned in IsServed t.found t.time t.stage)
+  unfolding turn_of wants
+  turn_served w rec younger unasked served =
+      cond_both (issues s m w rec younger) (begun s m.cycle w rec r) (unchanged w rec) (λ t. IsServed t.turned.found t.turned.time t.turned.stage)
+      starts (λ not. served)
     where
-      by_test : (b : Bool) → (class_allows (class_at rec) r.access older && has_unit s.params busy used (class_at rec)) ≡ b →
-          (let t = (if b then begun s cycle rec r used (cached s r.cause r.access caches) else unchanged rec used caches).turned in IsServed t.found t.time t.stage)
-      by_test true may =
+      r : Result
+      r = ready_result s m.arch w.older rec
+
+      starts : issues s m w rec younger ≡ true → IsServed rec.found rec.time (begun s m.cycle w rec r).turned.stage
+      starts may =
+          let all = issues_all s m w rec younger may in
           unwanted (is_time_read rec.found r.access) (is_none rec.time)
-          (λ reads. unasked (ready_time older rec r is reads (and_parts (class_allows (class_at rec) r.access older) (has_unit s.params busy used (class_at rec)) may).0))
-      by_test false may = served
-
-  turn_served : (older : List Record) (rec : Record) (used : Used) (caches : CachesState) →
-      (is_oldest older ≡ true → (if is_past_front s.params cycle rec then wants_time_result rec (ready_result s a older rec) else false) ≡ false) → IsServed rec.found rec.time rec.stage →
-      (let t = (turn_of s cycle a busy older rec used caches).turned in IsServed t.found t.time t.stage)
-  unfolding turn_of
-  turn_served older rec used caches unasked served = by_test (is_past_front s.params cycle rec) unasked
-    where
-      by_test : (b : Bool) → (is_oldest older ≡ true → (if b then wants_time_result rec (ready_result s a older rec) else false) ≡ false) →
-          (let t = (if b then begun_if s cycle busy older rec (ready_result s a older rec) used caches else unchanged rec used caches).turned in IsServed t.found t.time t.stage)
-      by_test true unasked = begun_served older rec used caches (ready_result s a older rec) refl unasked served
-      by_test false unasked = served
+          (λ reads. unasked_third (is_past_front s.params m.cycle rec) (has_operands m.arch w.older rec) (wants_time_result rec r)
+          (unasked (ready_time w.older rec reads all.allows)) all.past all.operands)
 
   -- behind the oldest
-  walk_served : (rest older : List Record) (used : Used) (caches : CachesState) → is_oldest older ≡ false → AreServed rest → AreServed (walk s cycle a busy rest older used caches).records
+  walk_served : (w : Passed) (rest : List Record) → is_oldest w.older ≡ false → AreServed rest → AreServed (walk s m w rest).records
   unfolding walk
-  walk_served [] older used caches others served = tt
-  walk_served (rec ∷ rest) older used caches others served =
-      let t : Turned = turn_of s cycle a busy older rec used caches in
-      (turn_served older rec used caches (λ oldest. cc) served.0, walk_served rest (t.turned ∷ older) t.used t.caches refl served.1)
+  walk_served w [] others served = tt
+  walk_served w (rec ∷ rest) others served =
+      let t : Turned = turn_of s m w rec rest in
+      (turn_served w rec rest (λ oldest. cc) served.0, walk_served (passed t w.older) rest refl served.1)
 
-issued_served : (s : Setup) (m : Machine) (window : List Record) → 0x20000000 ≤ (ram_range s.params).base → wants_time_first s m window ≡ false → AreServed window →
-    AreServed (walk s m.cycle m.arch (busy_divisions m.window) window [] none_used m.caches).records
-unfolding walk
-issued_served s m [] above unasked served = tt
-issued_served s m (rec ∷ rest) above unasked served =
-    let t : Turned = turn_of s m.cycle m.arch (busy_divisions m.window) [] rec none_used m.caches in (
-      turn_served s above m.cycle m.arch (busy_divisions m.window) [] rec none_used m.caches (λ oldest. unasked) served.0,
-      walk_served s above m.cycle m.arch (busy_divisions m.window) rest (t.turned ∷ []) t.used t.caches refl served.1,
-    )
+  issued_served : (window : List Record) → wants_time_first s m window ≡ false → AreServed window → AreServed (walk s m (none_passed m) window).records
+  unfolding walk wants
+  issued_served [] unasked served = tt
+  issued_served (rec ∷ rest) unasked served =
+      let t : Turned = turn_of s m (none_passed m) rec rest in
+      (turn_served (none_passed m) rec rest (λ oldest. unasked) served.0, walk_served (passed t []) rest refl served.1)
 
 issue_served : (s : Setup) (m : Machine) → 0x20000000 ≤ (ram_range s.params).base → AreServed m.window → AreServed (issue_phase s m).window
 unfolding issue_phase wants_time flushed
@@ -204,7 +197,7 @@ issue_served s m above served = by_test (wants_time_first s m m.window) refl
   where
     by_test : (b : Bool) → wants_time_first s m m.window ≡ b → AreServed (if b then replayed m else issued s m).window
     by_test true is = tt
-    by_test false is = issued_served s m m.window above is served
+    by_test false is = issued_served s above m m.window is served
 
 -- fetch
 append_served : (window : List Record) (rec : Record) → AreServed window → IsServed rec.found rec.time rec.stage → AreServed (window ++ rec ∷ [])

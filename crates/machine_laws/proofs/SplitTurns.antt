@@ -16,12 +16,12 @@ use Rattle.mono_model.specs.Found.{is_fence_i}
 use Rattle.mono_model.specs.Result.{Result}
 use Rattle.mono_model.specs.Effect.{note_of}
 use Rattle.mono_model.specs.Alone.{has_no_room}
-use Rattle.mono_model.specs.Window.{Record, Stage, waiting, until, done, busy_divisions}
+use Rattle.mono_model.specs.Window.{Record, Stage, waiting, until, done}
 use Rattle.mono_model.specs.Machine.{Machine, flushed}
 use Rattle.mono_model.specs.Interrupt.{is_interrupted, take_interrupt, interrupt_phase}
 use Rattle.mono_model.specs.Commit.{Leaving, stays, full, leaves, faults, syncs, ends, committed, leaving_by, leaving_done, leaving_stage, leaving_first, leaving, Ending, plain, trap, sync, Committed, after_leaving, commits, commit_phase}
 use Rattle.mono_model.specs.Complete.{Completed, due, is_mispredicted, complete_next, completes, completed_by, complete_phase}
-use Rattle.mono_model.specs.Issue.{none_used, wants_time, replayed, issued, issue_phase}
+use Rattle.mono_model.specs.Issue.{none_passed, wants_time, replayed, issued, issue_phase}
 use Rattle.mono_model.specs.Fetch.{Try, misses, appends, turns, may_fetch, cache_read, missed, appended, new_record, predicted_next, tried, fetch_try}
 use Rattle.mono_model.specs.Cycle.{ticked}
 use Rattle.mono_model.specs.Path.{entry, stops}
@@ -231,7 +231,7 @@ try_or_end_on s (suc more) d = goes_on (may_fetch s d.machine) (trying more) end
 issue_same : (s : Setup) (m : Machine) → wants_time s m ≡ false → length (issue_phase s m).window ≡ length m.window
 unfolding issue_phase
 issue_same s m is =
-    ap (λ (x : Machine). length x.window) (cond-false (wants_time s m) (replayed m) (issued s m) is) ∙ walk_length s m.cycle m.arch (busy_divisions m.window) m.window [] none_used m.caches
+    ap (λ (x : Machine). length x.window) (cond-false (wants_time s m) (replayed m) (issued s m) is) ∙ walk_length s m (none_passed m) m.window
 
 issue_fetched : (s : Setup) (m : Machine) → (issue_phase s m).counts.fetched ≡ m.counts.fetched
 unfolding issue_phase flushed

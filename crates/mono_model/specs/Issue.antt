@@ -1,6 +1,6 @@
 -- The fourth phase of a cycle: records with operands and a unit begin to execute, from the oldest to the youngest
 -- (Hennessy and Patterson, Computer Architecture, section 3.6, issue and execute; section 3.4, Tomasulo's algorithm).
-use Rattle.std.specs.Prelude.{◌≡◌, refl, ℕ, ◌+◌, ◌&&◌, nat_le, nat_lt, if◌then◌else◌, Bool, true, false, is_none, Option, Some, None, List, [], ◌∷◌}
+use Rattle.std.specs.Prelude.{ℕ, ◌+◌, ◌&&◌, nat_le, nat_lt, if◌then◌else◌, Bool, true, false, is_none, is_some, unwrap_or, Option, Some, None, List, [], ◌∷◌}
 use Rattle.fsim_base.specs.declared.access.Access.{Access}
 use Rattle.fsim_base.specs.declared.access.Access.TheVariants as access
 use Rattle.fsim_base.specs.declared.access.Spot.TheVariants.{Ram, Device}
@@ -27,15 +27,6 @@ pub record Used : Type 0 where
 abbrev pub none_used : Used
 none_used = record { alu = 0; mul = 0; div = 0; mem = 0 }
 
--- whether a unit is free for a class, where so many divisions were executing when the phase began
-abbrev pub has_unit : Params → ℕ → Used → Class → Bool
-has_unit p busy used class.Alu = nat_lt used.alu p.alu_count
-has_unit p busy used class.Serial = nat_lt used.alu p.alu_count
-has_unit p busy used class.Mul = nat_lt used.mul p.mul_count
-has_unit p busy used class.Div = nat_lt (busy + used.div) p.div_count
-has_unit p busy used class.Load = nat_lt used.mem p.mem_count
-has_unit p busy used class.Store = nat_lt used.mem p.mem_count
-
 abbrev pub with_used : Class → Used → Used
 with_used class.Alu used = record used { alu = used.alu + 1 }
 with_used class.Serial used = record used { alu = used.alu + 1 }
@@ -52,8 +43,36 @@ latency_of p class.Div = p.div_latency
 latency_of p class.Load = p.mem_latency
 latency_of p class.Store = p.mem_latency
 
--- whether a class allows the issue, by its access and the older records: a load of a device, a CSR instruction and MRET
--- issue only as the oldest; any other load only when all older stores are done
+-- What the walk carries to a record: the older records as they are by now, the youngest first, with the units that they
+-- began to use in this cycle and the caches that they left.
+pub record Passed : Type 0 where
+  pub older : List Record
+  pub used : Used
+  pub caches : CachesState
+
+-- The first condition: it waits, and has passed the front of the pipeline.
+abbrev pub is_past_front : Params → ℕ → Record → Bool
+is_past_front p cycle rec = is_waiting rec && nat_le (rec.since + p.core_front) cycle
+
+-- The second: each of its sources has a value.
+abbrev pub has_operands : Arch → List Record → Record → Bool
+has_operands a older rec =
+    is_some (operand a.regs older (first_source rec.found)) && is_some (operand a.regs older (second_source rec.found))
+
+-- With these it executes. It sees memory under the older stores, and the committed CSRs and devices.
+abbrev pub operand_value : Arch → List Record → Option ℕ → ℕ
+operand_value a older source = unwrap_or (operand a.regs older source) 0
+
+abbrev pub seen_from : Arch → List Record → Option ℕ → Seen
+seen_from a older time = record { bytes = loaded_byte a.ram older; csrs = a.csrs; devices = a.devices; time = time }
+
+unfoldable pub ready_result : Setup → Arch → List Record → Record → Result
+ready_result s a older rec =
+    executed (ram_range s.params) rec.found rec.addr
+    (operand_value a older (first_source rec.found)) (operand_value a older (second_source rec.found)) (seen_from a older rec.time)
+
+-- The third: its class allows it. A load of a device, a CSR instruction and MRET issue only as the oldest; any other load
+-- only when all older stores are done.
 abbrev pub is_oldest : List Record → Bool
 is_oldest [] = true
 is_oldest (rec ∷ older) = false
@@ -70,22 +89,23 @@ class_allows class.Load made older = load_allows made older
 class_allows class.Store made older = true
 class_allows class.Serial made older = is_oldest older
 
--- the record has passed the front of the pipeline
-abbrev pub is_past_front : Params → ℕ → Record → Bool
-is_past_front p cycle rec = is_waiting rec && nat_le (rec.since + p.core_front) cycle
+-- The fourth: a unit is free. In a cycle at most `count` records of each kind issue. Of divisions, those of the window that
+-- execute, with the new one, are at most `div_count`.
+abbrev pub has_unit : Params → ℕ → Used → Class → Bool
+has_unit p dividing used class.Alu = nat_lt used.alu p.alu_count
+has_unit p dividing used class.Serial = nat_lt used.alu p.alu_count
+has_unit p dividing used class.Mul = nat_lt used.mul p.mul_count
+has_unit p dividing used class.Div = nat_le (dividing + 1) p.div_count
+has_unit p dividing used class.Load = nat_lt used.mem p.mem_count
+has_unit p dividing used class.Store = nat_lt used.mem p.mem_count
 
--- what it sees: memory under the older stores, and the architectural CSRs and devices
-abbrev pub seen_from : Arch → List Record → Option ℕ → Seen
-seen_from a older time = record { bytes = loaded_byte a.ram older; csrs = a.csrs; devices = a.devices; time = time }
-
-abbrev pub result_with : Setup → Arch → List Record → Record → Option ℕ → Option ℕ → Option Result
-result_with s a older rec (Some x) (Some y) = Some (executed (ram_range s.params) rec.found rec.addr x y (seen_from a older rec.time))
-result_with s a older rec x y = None
-
--- its result, where each of its sources has a value
-unfoldable pub ready_result : Setup → Arch → List Record → Record → Option Result
-ready_result s a older rec =
-    result_with s a older rec (operand a.regs older (first_source rec.found)) (operand a.regs older (second_source rec.found))
+-- A record issues where all of these hold.
+abbrev pub issues : Setup → Machine → Passed → Record → List Record → Bool
+issues s m p rec younger =
+    is_past_front s.params m.cycle rec
+    && has_operands m.arch p.older rec
+    && class_allows (class_at rec) (ready_result s m.arch p.older rec).access p.older
+    && has_unit s.params (busy_divisions p.older + busy_divisions younger) p.used (class_at rec)
 
 -- a load of RAM without a cause accesses the data cache, on wrong paths too
 abbrev pub no_miss : CachesState → Served
@@ -95,66 +115,58 @@ abbrev pub cached : Setup → Option Cause → Access → CachesState → Served
 cached s None (access.Load addr width Ram) caches = loaded (caches_params s.params) caches addr
 cached s cause made caches = no_miss caches
 
--- The walk: the records from a place on, with the units used before it and the caches behind it.
-pub record Walked : Type 0 where
-  pub records : List Record
-  pub caches : CachesState
-
--- a record as it goes on, with the units and caches behind it
+-- A record behind its turn, with the units begun and the caches behind it.
 pub record Turned : Type 0 where
   pub turned : Record
   pub used : Used
   pub caches : CachesState
 
-abbrev pub unchanged : Record → Used → CachesState → Turned
-unchanged rec used caches = record { turned = rec; used = used; caches = caches }
+abbrev pub unchanged : Passed → Record → Turned
+unchanged p rec = record { turned = rec; used = p.used; caches = p.caches }
 
-abbrev pub begun : Setup → ℕ → Record → Result → Used → Served → Turned
-begun s cycle rec r used d = record {
-  turned = record rec { stage = until (cycle + latency_of s.params (class_at rec) + d.cycles) r };
-  used = with_used (class_at rec) used;
-  caches = d.state;
-}
+-- it has its result when the latency of its class and the miss of the cache are over
+abbrev pub begun : Setup → ℕ → Passed → Record → Result → Turned
+begun s cycle p rec r =
+    let served = cached s r.cause r.access p.caches in
+    record {
+      turned = record rec { stage = until (cycle + latency_of s.params (class_at rec) + served.cycles) r };
+      used = with_used (class_at rec) p.used;
+      caches = served.state;
+    }
 
-abbrev pub begun_if : Setup → ℕ → ℕ → List Record → Record → Option Result → Used → CachesState → Turned
-begun_if s cycle busy older rec None used caches = unchanged rec used caches
-begun_if s cycle busy older rec (Some r) used caches =
-    if class_allows (class_at rec) r.access older && has_unit s.params busy used (class_at rec)
-    then begun s cycle rec r used (cached s r.cause r.access caches)
-    else unchanged rec used caches
+unfoldable pub turn_of : Setup → Machine → Passed → Record → List Record → Turned
+turn_of s m p rec younger =
+    if issues s m p rec younger then begun s m.cycle p rec (ready_result s m.arch p.older rec) else unchanged p rec
 
-unfoldable pub turn_of : Setup → ℕ → Arch → ℕ → List Record → Record → Used → CachesState → Turned
-turn_of s cycle a busy older rec used caches =
-    if is_past_front s.params cycle rec
-    then begun_if s cycle busy older rec (ready_result s a older rec) used caches
-    else unchanged rec used caches
+-- The walk over the window, from the oldest record to the youngest: the records behind it, and the caches.
+pub record Walked : Type 0 where
+  pub records : List Record
+  pub caches : CachesState
 
 abbrev pub walked_on : Record → Walked → Walked
 walked_on rec w = record w { records = rec ∷ w.records }
 
--- the walk over the records from a place on; the older ones stand youngest first
-unfoldable pub walk : Setup → ℕ → Arch → ℕ → List Record → List Record → Used → CachesState → Walked
-walk s cycle a busy [] older used caches = record { records = []; caches = caches }
-walk s cycle a busy (rec ∷ rest) older used caches =
-    let t = turn_of s cycle a busy older rec used caches in
-    walked_on t.turned (walk s cycle a busy rest (t.turned ∷ older) t.used t.caches)
+abbrev pub passed : Turned → List Record → Passed
+passed t older = record { older = t.turned ∷ older; used = t.used; caches = t.caches }
 
-pub walk-cons : (s : Setup) (cycle : ℕ) (a : Arch) (busy : ℕ) (rec : Record) (rest older : List Record) (used : Used) (caches : CachesState) →
-    walk s cycle a busy (rec ∷ rest) older used caches ≡
-    (let t = turn_of s cycle a busy older rec used caches in
-    walked_on t.turned (walk s cycle a busy rest (t.turned ∷ older) t.used t.caches))
-unfolding walk
-walk-cons s cycle a busy rec rest older used caches = refl
+-- from a place on, in the machine as it was before the phase
+unfoldable pub walk : Setup → Machine → Passed → List Record → Walked
+walk s m p [] = record { records = []; caches = p.caches }
+walk s m p (rec ∷ younger) =
+    let t = turn_of s m p rec younger in
+    walked_on t.turned (walk s m (passed t p.older) younger)
 
--- The oldest record, where it reads the time and has none, is sent back to fetch to be given this cycle as its time.
-abbrev pub wants_time_result : Record → Option Result → Bool
-wants_time_result rec None = false
-wants_time_result rec (Some r) = is_none rec.time && is_time_read rec.found r.access
+-- The oldest record, where it reads the time and has none and the first two conditions hold, is sent back to fetch to be
+-- given this cycle as its time.
+abbrev pub wants_time_result : Record → Result → Bool
+wants_time_result rec r = is_none rec.time && is_time_read rec.found r.access
 
 abbrev pub wants_time_first : Setup → Machine → List Record → Bool
 wants_time_first s m [] = false
-wants_time_first s m (rec ∷ rest) =
-    if is_past_front s.params m.cycle rec then wants_time_result rec (ready_result s m.arch [] rec) else false
+wants_time_first s m (rec ∷ younger) =
+    is_past_front s.params m.cycle rec
+    && has_operands m.arch [] rec
+    && wants_time_result rec (ready_result s m.arch [] rec)
 
 unfoldable pub wants_time : Setup → Machine → Bool
 wants_time s m = wants_time_first s m m.window
@@ -168,9 +180,13 @@ replayed m =
     let f = flushed [] (oldest_address m m.window) m in
     record f { kept = Some m.cycle; counts = record f.counts { replays = f.counts.replays + 1 } }
 
+-- before the oldest record
+abbrev pub none_passed : Machine → Passed
+none_passed m = record { older = []; used = none_used; caches = m.caches }
+
 abbrev pub issued : Setup → Machine → Machine
 issued s m =
-    let w = walk s m.cycle m.arch (busy_divisions m.window) m.window [] none_used m.caches in
+    let w = walk s m (none_passed m) m.window in
     record m { window = w.records; caches = w.caches }
 
 unfoldable pub issue_phase : Setup → Machine → Machine

@@ -105,7 +105,7 @@ module _ (s : Setup) (cycle busy : ℕ) where
       let idle : (is_waiting_state slot.state && has_operands older slot) ≡ false = rw there at not in
       let rests : turn_of s cycle busy older slot used caches ≡ unchanged slot used caches =
       turn_rests s cycle busy older slot used caches
-      (never (is_waiting_state slot.state) _ (has_operands older slot) (class_allows slot.class slot.access older) (has_unit s.params busy used slot.class) idle) in
+      (never (is_waiting_state slot.state) _ (has_operands older slot) (class_allows slot.class slot.access older) (has_unit s.params (busy + used.div) used slot.class) idle) in
       walk_turns slots place slot used caches there
       ∙ ap (λ (t : Turned). walk_from (slice_set slots place t.turned) (suc place) t.used t.caches) rests
       ∙ ap (λ (xs : List Slot). walk_from xs (suc place) used caches) (same_slot slots place slot there)

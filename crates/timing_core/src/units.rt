@@ -16,7 +16,7 @@ pub(crate) struct Used {
 }
 
 impl Used {
-    ghost use Rattle.std.specs.Prelude.{◌-◌, ◌<◌, ◌^◌, true};
+    ghost use Rattle.std.specs.Prelude.{◌+◌, ◌-◌, ◌<◌, ◌^◌, true};
     ghost use Rattle.mono_model.specs.Issue.{none_used, has_unit, with_used};
     ghost use Rattle.timing_core.specs.Units.{used_in, kind_count};
 
@@ -34,7 +34,7 @@ impl Used {
 
     /// Whether a unit is free for a class, where so many divisions were executing when the phase began.
     pub(crate) fn has_unit(self, params: &Params, busy: u32, class: Class) -> bool
-        ensures unit { result ≡ has_unit params.now busy (used_in self) class }
+        ensures unit { result ≡ has_unit params.now (busy + self.div) (used_in self) class }
         ensures countable { result ≡ true → kind_count class self < 2 ^ 32 - 1 }
     {
         match class {

@@ -17,24 +17,25 @@ use Rattle.mono_model.specs.declared.setup.Setup.{Setup}
 use Rattle.mono_model.specs.Setup.{ram_range}
 use Rattle.mono_model.specs.Arch.{Arch}
 use Rattle.mono_model.specs.Found.{Found, first_source, second_source, destination_in}
-use Rattle.mono_model.specs.Result.{Result, executed, is_time_read}
+use Rattle.mono_model.specs.Result.{Result, is_time_read}
 use Rattle.mono_model.specs.Sequence.{seen_in, result_at}
 use Rattle.mono_model.specs.Path.{path, time_of, entry}
 use Rattle.mono_model.specs.Window as window
-use Rattle.mono_model.specs.Window.{Record, Stage, waiting, until, done, class_at, is_register, value_at, value_if, written_value, operand, is_store_class}
+use Rattle.mono_model.specs.Window.{Record, Stage, waiting, until, done, class_at, is_waiting, is_register, value_at, value_if, written_value, operand, is_store_class}
 use Rattle.mono_model.specs.Machine.{Machine, flushed}
 use Rattle.mono_model.specs.Issue as mono
 use Rattle.mono_model.specs.Issue.{Used, none_used, has_unit, with_used, latency_of, cached, seen_from}
 use Rattle.mono_model.specs.Demand.{Demand, demand_issue}
 use Rattle.machine_laws.specs.Relation.{Tracked, Tracks, HoldsResult, Related}
 use Rattle.machine_laws.proofs.Path.{Follows, path_steps}
-use Rattle.machine_laws.proofs.Operands.{Olders, operand_is}
-use Rattle.machine_laws.proofs.Issue.{same_result, ready_is, turn_tracked}
+use Rattle.machine_laws.proofs.Operands.{Olders}
+use Rattle.machine_laws.proofs.Issue.{same_result, value_is, ready_is, turn_tracked}
 use Rattle.timing_laws.specs.Slots.{found_in, is_done_state}
 use Rattle.timing_laws.specs.Timing.{Timing, quiet, ordering}
 use Rattle.timing_laws.specs.Issue as timing
 use Rattle.timing_laws.specs.Seen.{state_of, slot_of, slots_of, seen}
 use Rattle.timing_laws.proofs.Accesses.{executed_access}
+use Rattle.timing_laws.proofs.Divisions.{dividing_is, dividing_on}
 use Rattle.timing_laws.proofs.Entries.{waiting_same, entry_access, entry_cause, entry_unserved, slot_says, slot_class, cut_seen, IsPhase}
 
 -- the states of a record and of its slot
@@ -57,13 +58,6 @@ some_if : (b : Bool) (value : ℕ) → is_some (value_if b value) ≡ b
 some_if true value = refl
 some_if false value = refl
 
--- both operands are there, or there is no result
-both : (s : Setup) (a : Arch) (older : List Record) (rec : Record) (first second : Option ℕ) →
-    (is_some first && is_some second) ≡ is_some (mono.result_with s a older rec first second)
-both s a older rec (Some x) (Some y) = refl
-both s a older rec (Some x) None = refl
-both s a older rec None second = refl
-
 -- the oldest instruction may issue, whatever its class
 first_allows : (c : Class) (made : Access) → mono.class_allows c made [] ≡ true
 first_allows class.Alu made = refl
@@ -82,12 +76,10 @@ first_value : (a : Arch) (source : Option ℕ) → is_some (operand a.regs [] so
 first_value a None = refl
 first_value a (Some register) = refl
 
-first_ready : (s : Setup) (a : Arch) (rec : Record) → true ≡ is_some (mono.ready_result s a [] rec)
-unfolding mono.ready_result
-first_ready s a rec =
-    sym (ap (λ (b : Bool). true && b) (first_value a (second_source rec.found)))
-    ∙ sym (ap (λ (b : Bool). b && is_some (operand a.regs [] (second_source rec.found))) (first_value a (first_source rec.found)))
-    ∙ both s a [] rec (operand a.regs [] (first_source rec.found)) (operand a.regs [] (second_source rec.found))
+first_ready : (a : Arch) (rec : Record) → mono.has_operands a [] rec ≡ true
+first_ready a rec =
+    ap (λ (b : Bool). b && is_some (operand a.regs [] (second_source rec.found))) (first_value a (first_source rec.found))
+    ∙ first_value a (second_source rec.found)
 
 -- the order that gives a time
 ordered : (s : Setup) (d : Demand) → (Time (seen s d).done (seen s d).cycle ∷ []) ++ d.orders ≡ Time d.done d.machine.cycle ∷ d.orders
@@ -145,8 +137,7 @@ module _ (s : Setup) (os : List Order) where
     value_same n older (Some register) olds = written_same n older register olds
 
     ready_same : (n : ℕ) (older : List Record) (rec : Record) (behind : ℕ) → Tracked s (time_of os n) (path s os n) behind rec → Olders s (time_of os) (path s os) a n older →
-        timing.has_operands (slots_down n older) (slot_of (entry s os n) rec) ≡ is_some (mono.ready_result s a older rec)
-    unfolding mono.ready_result
+        timing.has_operands (slots_down n older) (slot_of (entry s os n) rec) ≡ mono.has_operands a older rec
     ready_same n older rec behind tracked olds =
         let slots : List Slot = slots_down n older in
         let slot : Slot = slot_of (entry s os n) rec in
@@ -154,7 +145,6 @@ module _ (s : Setup) (os : List Order) where
         ∙ ap (λ (o : Option ℕ). timing.has_value slots (first_source rec.found) && timing.has_value slots o) (slot_says s os n second_source (λ cause. refl) behind rec tracked)
         ∙ ap (λ (b : Bool). b && timing.has_value slots (second_source rec.found)) (value_same n older (first_source rec.found) olds)
         ∙ ap (λ (b : Bool). is_some (operand a.regs older (first_source rec.found)) && b) (value_same n older (second_source rec.found) olds)
-        ∙ both s a older rec (operand a.regs older (first_source rec.found)) (operand a.regs older (second_source rec.found))
 
     stores_same : (n : ℕ) (older : List Record) → Olders s (time_of os) (path s os) a n older → timing.are_stores_done (slots_down n older) ≡ window.are_stores_done older
     stores_same n [] olds = refl
@@ -185,126 +175,145 @@ module _ (s : Setup) (os : List Order) where
     allows_same n older class.Serial made olds = oldest_same n older olds
 
     -- the access of a record whose operands are there is the entry's, also where it may not issue yet
-    access_with : (n : ℕ) (older : List Record) (rec : Record) (behind : ℕ) (r : Result) (first second : Option ℕ) → Tracked s (time_of os n) (path s os n) behind rec →
-        Olders s (time_of os) (path s os) a n older → operand a.regs older (first_source rec.found) ≡ first → operand a.regs older (second_source rec.found) ≡ second →
-        mono.result_with s a older rec first second ≡ Some r → (entry s os n).access ≡ r.access
-    access_with n older rec behind r (Some x) (Some y) tracked olds first second gives =
+    access_same : (n : ℕ) (older : List Record) (rec : Record) (behind : ℕ) → Tracked s (time_of os n) (path s os n) behind rec →
+        Olders s (time_of os) (path s os) a n older → mono.has_operands a older rec ≡ true → (entry s os n).access ≡ (mono.ready_result s a older rec).access
+    unfolding mono.ready_result
+    access_same n older rec behind tracked olds has =
         let range = ram_range s.params in
-        let e : executed range rec.found rec.addr x y (seen_from a older rec.time) ≡ r = cc in
+        let first = first_source rec.found in
+        let second = second_source rec.found in
+        let x : ℕ = mono.operand_value a older first in
+        let y : ℕ = mono.operand_value a older second in
+        let both = and_parts (is_some (operand a.regs older first)) (is_some (operand a.regs older second)) has in
         let whole = same_result s (time_of os) (path s os) a n rec behind x y tracked
-        (operand_is s (time_of os) (path s os) a n older (first_source rec.found) x olds first)
-        (operand_is s (time_of os) (path s os) a n older (second_source rec.found) y olds second) in
+        (value_is s (time_of os) (path s os) a n older first olds both.0)
+        (value_is s (time_of os) (path s os) a n older second olds both.1) in
         entry_access s os n ∙ ap (λ (t : Result). t.access) (sym whole)
         ∙ executed_access range (seen_in rec.time (path s os n)) (seen_from a older rec.time) rec.found rec.addr x y
-        ∙ ap (λ (t : Result). t.access) e
-    access_with n older rec behind r (Some x) None tracked olds first second gives = cc
-    access_with n older rec behind r None second tracked olds first second_is gives = cc
 
-    access_same : (n : ℕ) (older : List Record) (rec : Record) (behind : ℕ) (r : Result) → Tracked s (time_of os n) (path s os n) behind rec →
-        Olders s (time_of os) (path s os) a n older → mono.ready_result s a older rec ≡ Some r → (entry s os n).access ≡ r.access
-    unfolding mono.ready_result
-    access_same n older rec behind r tracked olds gives =
-        access_with n older rec behind r (operand a.regs older (first_source rec.found)) (operand a.regs older (second_source rec.found)) tracked olds refl refl gives
-
+  module _ (m : Machine) where
     abbrev seen_turned : ℕ → mono.Turned → timing.Turned
     seen_turned n t = record { turned = slot_of (entry s os n) t.turned; used = t.used; caches = t.caches }
 
     -- a slot that begins, or not
-    abbrev slot_turned : ℕ → ℕ → Record → Bool → Class → Used → Served → CachesState → timing.Turned
-    slot_turned cycle n rec b c used d caches =
+    abbrev slot_turned : ℕ → Record → Bool → Class → Used → Served → CachesState → timing.Turned
+    slot_turned n rec b c used d caches =
         if b
         then record {
-          turned = record (slot_of (entry s os n) rec) { state = Until (cycle + latency_of s.params c + d.cycles) };
+          turned = record (slot_of (entry s os n) rec) { state = Until (m.cycle + latency_of s.params c + d.cycles) };
           used = with_used c used;
           caches = d.state;
         }
         else timing.unchanged (slot_of (entry s os n) rec) used caches
 
-    begun_seen : (cycle busy n : ℕ) (older : List Record) (rec : Record) (behind : ℕ) (used : Used) (caches : CachesState) (ready : Option Result) →
-        Tracked s (time_of os n) (path s os n) behind rec → Olders s (time_of os) (path s os) a n older → mono.ready_result s a older rec ≡ ready →
-        slot_turned cycle n rec (is_some ready && mono.class_allows (class_at rec) (entry s os n).access older && has_unit s.params busy used (class_at rec))
-        (class_at rec) used (cached s (entry s os n).cause (entry s os n).access caches) caches
-        ≡ seen_turned n (mono.begun_if s cycle busy older rec ready used caches)
-    begun_seen cycle busy n older rec behind used caches None tracked olds is = refl
-    begun_seen cycle busy n older rec behind used caches (Some r) tracked olds is =
-        ap (λ (made : Access). turned_by made (entry s os n).cause) (access_same n older rec behind r tracked olds is)
-        ∙ by_test (mono.class_allows (class_at rec) r.access older && has_unit s.params busy used (class_at rec)) refl
+    -- one whose operands are there
+    ready_seen : (n : ℕ) (w : mono.Passed) (rec : Record) (behind dividing : ℕ) → Tracked s (time_of os n) (path s os n) behind rec →
+        Olders s (time_of os) (path s os) m.arch n w.older → mono.has_operands m.arch w.older rec ≡ true →
+        (let r = mono.ready_result s m.arch w.older rec in
+        slot_turned n rec (mono.class_allows (class_at rec) (entry s os n).access w.older && has_unit s.params dividing w.used (class_at rec))
+        (class_at rec) w.used (cached s (entry s os n).cause (entry s os n).access w.caches) w.caches
+        ≡ seen_turned n (if mono.class_allows (class_at rec) r.access w.older && has_unit s.params dividing w.used (class_at rec)
+        then mono.begun s m.cycle w rec r else mono.unchanged w rec))
+    ready_seen n w rec behind dividing tracked olds has =
+        ap (λ (made : Access). turned_by made (entry s os n).cause) (access_same m.arch n w.older rec behind tracked olds has)
+        ∙ by_test (mono.class_allows (class_at rec) r.access w.older && has_unit s.params dividing w.used (class_at rec)) refl
       where
+        r : Result
+        r = mono.ready_result s m.arch w.older rec
+
         turned_by : Access → Option Cause → timing.Turned
         turned_by made cause =
-            slot_turned cycle n rec (mono.class_allows (class_at rec) made older && has_unit s.params busy used (class_at rec)) (class_at rec) used (cached s cause made caches) caches
+            slot_turned n rec (mono.class_allows (class_at rec) made w.older && has_unit s.params dividing w.used (class_at rec)) (class_at rec) w.used (cached s cause made w.caches) w.caches
 
-        by_test : (b : Bool) → (mono.class_allows (class_at rec) r.access older && has_unit s.params busy used (class_at rec)) ≡ b →
-            slot_turned cycle n rec b (class_at rec) used (cached s (entry s os n).cause r.access caches) caches
-            ≡ seen_turned n (if b then mono.begun s cycle rec r used (cached s r.cause r.access caches) else mono.unchanged rec used caches)
+        by_test : (b : Bool) → (mono.class_allows (class_at rec) r.access w.older && has_unit s.params dividing w.used (class_at rec)) ≡ b →
+            slot_turned n rec b (class_at rec) w.used (cached s (entry s os n).cause r.access w.caches) w.caches
+            ≡ seen_turned n (if b then mono.begun s m.cycle w rec r else mono.unchanged w rec)
         by_test true may =
-            let held : r ≡ result_at s (time_of os n) (path s os n) =
-            ready_is s (time_of os) (path s os) a n older rec behind r tracked olds is (and_parts (mono.class_allows (class_at rec) r.access older) (has_unit s.params busy used (class_at rec)) may).0 in
-            ap (λ (c : Option Cause). slot_turned cycle n rec true (class_at rec) used (cached s c r.access caches) caches) (entry_cause s os n ∙ ap (λ (t : Result). t.cause) (sym held))
+            let allows = (and_parts (mono.class_allows (class_at rec) r.access w.older) (has_unit s.params dividing w.used (class_at rec)) may).0 in
+            let held : r ≡ result_at s (time_of os n) (path s os n) = ready_is s (time_of os) (path s os) m.arch n w.older rec behind tracked olds has allows in
+            ap (λ (c : Option Cause). slot_turned n rec true (class_at rec) w.used (cached s c r.access w.caches) w.caches) (entry_cause s os n ∙ ap (λ (t : Result). t.cause) (sym held))
         by_test false may = refl
 
-    turn_seen : (cycle busy n : ℕ) (older : List Record) (rec : Record) (behind : ℕ) (used : Used) (caches : CachesState) → Tracked s (time_of os n) (path s os n) behind rec →
-        Olders s (time_of os) (path s os) a n older →
-        timing.turn_of s cycle busy (slots_down n older) (slot_of (entry s os n) rec) used caches ≡ seen_turned n (mono.turn_of s cycle a busy older rec used caches)
+    turn_seen : (busy n : ℕ) (w : mono.Passed) (rec : Record) (younger : List Record) (behind : ℕ) → Tracked s (time_of os n) (path s os n) behind rec →
+        Olders s (time_of os) (path s os) m.arch n w.older → busy + w.used.div ≡ window.busy_divisions w.older + window.busy_divisions (rec ∷ younger) →
+        timing.turn_of s m.cycle busy (slots_down n w.older) (slot_of (entry s os n) rec) w.used w.caches ≡ seen_turned n (mono.turn_of s m w rec younger)
     unfolding timing.turn_of mono.turn_of
-    turn_seen cycle busy n older rec behind used caches tracked olds =
-        let slots : List Slot = slots_down n older in
+    turn_seen busy n w rec younger behind tracked olds counted =
+        let slots : List Slot = slots_down n w.older in
         let slot : Slot = slot_of (entry s os n) rec in
         let p = s.params in
         let e = entry s os n in
-        let late : Bool = nat_le (rec.since + p.core_front) cycle in
-        let d : Served = cached s e.cause e.access caches in
-        ap (λ (c : Class). slot_turned cycle n rec (timing.is_past_front p cycle slot && timing.has_operands slots slot && timing.class_allows c e.access slots && has_unit p busy used c) c used d caches)
+        let k : ℕ = busy + w.used.div in
+        let late : Bool = nat_le (rec.since + p.core_front) m.cycle in
+        let d : Served = cached s e.cause e.access w.caches in
+        ap (λ (c : Class). slot_turned n rec (timing.is_past_front p m.cycle slot && timing.has_operands slots slot && timing.class_allows c e.access slots && has_unit p k w.used c) c w.used d w.caches)
         (slot_class s os n behind rec tracked)
-        ∙ ap (λ (b : Bool). slot_turned cycle n rec (b && late && timing.has_operands slots slot && timing.class_allows (class_at rec) e.access slots && has_unit p busy used (class_at rec)) (class_at rec) used d caches)
+        ∙ ap (λ (b : Bool). slot_turned n rec (b && late && timing.has_operands slots slot && timing.class_allows (class_at rec) e.access slots && has_unit p k w.used (class_at rec)) (class_at rec) w.used d w.caches)
         (waiting_same rec.stage)
-        ∙ ap (λ (b : Bool). slot_turned cycle n rec (mono.is_past_front p cycle rec && b && timing.class_allows (class_at rec) e.access slots && has_unit p busy used (class_at rec)) (class_at rec) used d caches)
-        (ready_same n older rec behind tracked olds)
-        ∙ ap (λ (b : Bool). slot_turned cycle n rec (mono.is_past_front p cycle rec && is_some (mono.ready_result s a older rec) && b && has_unit p busy used (class_at rec)) (class_at rec) used d caches)
-        (allows_same n older (class_at rec) e.access olds)
-        ∙ by_past (mono.is_past_front p cycle rec)
+        ∙ ap (λ (b : Bool). slot_turned n rec (mono.is_past_front p m.cycle rec && b && timing.class_allows (class_at rec) e.access slots && has_unit p k w.used (class_at rec)) (class_at rec) w.used d w.caches)
+        (ready_same m.arch n w.older rec behind tracked olds)
+        ∙ ap (λ (b : Bool). slot_turned n rec (mono.is_past_front p m.cycle rec && mono.has_operands m.arch w.older rec && b && has_unit p k w.used (class_at rec)) (class_at rec) w.used d w.caches)
+        (allows_same m.arch n w.older (class_at rec) e.access olds)
+        ∙ by_past (mono.is_past_front p m.cycle rec) refl
       where
-        by_past : (b : Bool) →
-            slot_turned cycle n rec (b && is_some (mono.ready_result s a older rec) && mono.class_allows (class_at rec) (entry s os n).access older && has_unit s.params busy used (class_at rec))
-            (class_at rec) used (cached s (entry s os n).cause (entry s os n).access caches) caches
-            ≡ seen_turned n (if b then mono.begun_if s cycle busy older rec (mono.ready_result s a older rec) used caches else mono.unchanged rec used caches)
-        by_past true = begun_seen cycle busy n older rec behind used caches (mono.ready_result s a older rec) tracked olds refl
-        by_past false = refl
+        r : Result
+        r = mono.ready_result s m.arch w.older rec
 
-    walk_seen : (cycle busy n : ℕ) (rest older : List Record) (used : Used) (caches : CachesState) (fetch_addr : ℕ) (kept : Option ℕ) →
-        ((m : ℕ) → n ≤ m → Follows s (time_of os m) (path s os m) (path s os (suc m))) → Tracks s (time_of os) (path s os) n rest fetch_addr kept →
-        Olders s (time_of os) (path s os) a n older →
-        timing.walk s cycle busy (slots_of (entry s os) n rest) (slots_down n older) used caches
-        ≡ record {
-          slots = slots_of (entry s os) n (mono.walk s cycle a busy rest older used caches).records;
-          caches = (mono.walk s cycle a busy rest older used caches).caches;
-        }
+        dividing : ℕ
+        dividing = window.busy_divisions w.older + window.busy_divisions younger
+
+        seen_by : Bool → ℕ → timing.Turned
+        seen_by b count =
+            slot_turned n rec (b && mono.class_allows (class_at rec) (entry s os n).access w.older && has_unit s.params count w.used (class_at rec))
+            (class_at rec) w.used (cached s (entry s os n).cause (entry s os n).access w.caches) w.caches
+
+        made_by : Bool → mono.Turned
+        made_by b =
+            if b && mono.class_allows (class_at rec) r.access w.older && has_unit s.params dividing w.used (class_at rec)
+            then mono.begun s m.cycle w rec r else mono.unchanged w rec
+
+        by_has : (b : Bool) → mono.has_operands m.arch w.older rec ≡ b → seen_by b dividing ≡ seen_turned n (made_by b)
+        by_has true has = ready_seen n w rec behind dividing tracked olds has
+        by_has false has = refl
+
+        by_past : (b : Bool) → mono.is_past_front s.params m.cycle rec ≡ b →
+            seen_by (b && mono.has_operands m.arch w.older rec) (busy + w.used.div) ≡ seen_turned n (made_by (b && mono.has_operands m.arch w.older rec))
+        by_past true past =
+            let waits = (and_parts (is_waiting rec) (nat_le (rec.since + s.params.core_front) m.cycle) past).0 in
+            ap (λ (count : ℕ). seen_by (mono.has_operands m.arch w.older rec) count) (dividing_is busy w.used w.older rec younger waits counted)
+            ∙ by_has (mono.has_operands m.arch w.older rec) refl
+        by_past false past = refl
+
+    walk_seen : (busy n : ℕ) (w : mono.Passed) (rest : List Record) (fetch_addr : ℕ) (kept : Option ℕ) →
+        ((k : ℕ) → n ≤ k → Follows s (time_of os k) (path s os k) (path s os (suc k))) → Tracks s (time_of os) (path s os) n rest fetch_addr kept →
+        Olders s (time_of os) (path s os) m.arch n w.older → busy + w.used.div ≡ window.busy_divisions w.older + window.busy_divisions rest →
+        timing.walk s m.cycle busy (slots_of (entry s os) n rest) (slots_down n w.older) w.used w.caches
+        ≡ record { slots = slots_of (entry s os) n (mono.walk s m w rest).records; caches = (mono.walk s m w rest).caches }
     unfolding timing.walk mono.walk
-    walk_seen cycle busy n [] older used caches fetch_addr kept steps tracks olds = refl
-    walk_seen cycle busy n (rec ∷ rest) older used caches fetch_addr kept steps tracks olds =
-        let t : mono.Turned = mono.turn_of s cycle a busy older rec used caches in
+    walk_seen busy n w [] fetch_addr kept steps tracks olds counted = refl
+    walk_seen busy n w (rec ∷ rest) fetch_addr kept steps tracks olds counted =
+        let t : mono.Turned = mono.turn_of s m w rec rest in
         let now : Tracked s (time_of os n) (path s os n) (path s os (suc n)).pc t.turned =
-        turn_tracked s (time_of os) (path s os) a cycle busy n older rec (path s os (suc n)).pc used caches tracks.0 olds in
-        ap (λ (x : timing.Turned). timing.walked_on x.turned (timing.walk s cycle busy (slots_of (entry s os) (suc n) rest) (x.turned ∷ slots_down n older) x.used x.caches))
-        (turn_seen cycle busy n older rec (path s os (suc n)).pc used caches tracks.0 olds)
-        ∙ ap (λ (w : timing.Walked). timing.walked_on (slot_of (entry s os n) t.turned) w)
-        (walk_seen cycle busy (suc n) rest (t.turned ∷ older) t.used t.caches fetch_addr kept (λ m from. steps m (omega arith)) tracks.1 (now, steps n (omega arith), olds))
+        turn_tracked s (time_of os) (path s os) m n w rec rest (path s os (suc n)).pc tracks.0 olds in
+        ap (λ (x : timing.Turned). timing.walked_on x.turned (timing.walk s m.cycle busy (slots_of (entry s os) (suc n) rest) (x.turned ∷ slots_down n w.older) x.used x.caches))
+        (turn_seen busy n w rec rest (path s os (suc n)).pc tracks.0 olds counted)
+        ∙ ap (λ (v : timing.Walked). timing.walked_on (slot_of (entry s os n) t.turned) v)
+        (walk_seen busy (suc n) (mono.passed t w.older) rest fetch_addr kept (λ k from. steps k (omega arith)) tracks.1 (now, steps n (omega arith), olds)
+        (dividing_on s m busy w rec rest counted))
 
   -- the oldest record wants a time exactly where its entry was told without one
-  wants_ready : (m : Machine) (n : ℕ) (rec : Record) (behind : ℕ) (ready : Option Result) → m.arch ≡ path s os n → Tracked s (time_of os n) (path s os n) behind rec →
-      mono.ready_result s m.arch [] rec ≡ ready → (entry s os n).unserved ≡ mono.wants_time_result rec ready
-  wants_ready m n rec behind None here tracked is =
-      let some : true ≡ is_some (mono.ready_result s m.arch [] rec) = first_ready s m.arch rec in
-      let none : is_some (mono.ready_result s m.arch [] rec) ≡ false = ap is_some is in
-      cc
-  wants_ready m n rec behind (Some r) here tracked is =
+  wants_ready : (m : Machine) (n : ℕ) (rec : Record) (behind : ℕ) → m.arch ≡ path s os n → Tracked s (time_of os n) (path s os n) behind rec →
+      (entry s os n).unserved ≡ (mono.has_operands m.arch [] rec && mono.wants_time_result rec (mono.ready_result s m.arch [] rec))
+  wants_ready m n rec behind here tracked =
+      let r : Result = mono.ready_result s m.arch [] rec in
       let held : r ≡ result_at s (time_of os n) (path s os n) =
-      ready_is s (time_of os) (path s os) m.arch n [] rec behind r tracked here is (first_allows (class_at rec) r.access) in
+      ready_is s (time_of os) (path s os) m.arch n [] rec behind tracked here (first_ready m.arch rec) (first_allows (class_at rec) r.access) in
       entry_unserved s os n
       ∙ ap (λ (f : Found). is_time_read f (result_at s (time_of os n) (path s os n)).access && is_none (time_of os n)) (sym tracked.found)
       ∙ ap (λ (t : Result). is_time_read rec.found t.access && is_none (time_of os n)) (sym held)
       ∙ ap (λ (t : Option ℕ). is_time_read rec.found r.access && is_none t) (sym tracked.time)
       ∙ and_comm (is_time_read rec.found r.access) (is_none rec.time)
+      ∙ ap (λ (b : Bool). b && mono.wants_time_result rec r) (sym (first_ready m.arch rec))
 
   wants_first : (m : Machine) (n : ℕ) (records : List Record) (fetch_addr : ℕ) (kept : Option ℕ) → m.arch ≡ path s os n → Tracks s (time_of os) (path s os) n records fetch_addr kept →
       timing.wants_time_first s.params m.cycle (slots_of (entry s os) n records) ≡ mono.wants_time_first s m records
@@ -313,8 +322,9 @@ module _ (s : Setup) (os : List Order) where
       ap (λ (b : Bool). b && nat_le (rec.since + s.params.core_front) m.cycle && (entry s os n).unserved) (waiting_same rec.stage)
       ∙ by_past (mono.is_past_front s.params m.cycle rec)
     where
-      by_past : (b : Bool) → (b && (entry s os n).unserved) ≡ (if b then mono.wants_time_result rec (mono.ready_result s m.arch [] rec) else false)
-      by_past true = wants_ready m n rec (path s os (suc n)).pc (mono.ready_result s m.arch [] rec) here tracks.0 refl
+      by_past : (b : Bool) → (b && (entry s os n).unserved)
+          ≡ (b && mono.has_operands m.arch [] rec && mono.wants_time_result rec (mono.ready_result s m.arch [] rec))
+      by_past true = wants_ready m n rec (path s os (suc n)).pc here tracks.0
       by_past false = refl
 
 wants_seen : (s : Setup) (d : Demand) → Related s d → timing.wants_time s (seen s d) ≡ mono.wants_time s d.machine
@@ -328,8 +338,8 @@ issued_seen s d related =
     let slots : List Slot = slots_of (entry s d.orders) d.done m.window in
     let e =
     ap (λ (k : ℕ). timing.walk s m.cycle k slots [] none_used m.caches) (busy_seen s d.orders d.done m.window m.fetch_addr m.kept related.window)
-    ∙ walk_seen s d.orders m.arch m.cycle (window.busy_divisions m.window) d.done m.window [] none_used m.caches m.fetch_addr m.kept
-    (λ n from. path_steps s d.orders d.done n related.within from) related.window related.arch in
+    ∙ walk_seen s d.orders m (window.busy_divisions m.window) d.done (mono.none_passed m) m.window m.fetch_addr m.kept
+    (λ n from. path_steps s d.orders d.done n related.within from) related.window related.arch (omega arith) in
     λ i. record (seen s d) { slots = (e i).slots; caches = (e i).caches }
 
 replayed_seen : (s : Setup) (d : Demand) → timing.replayed (seen s d) ≡ seen s (record d { machine = mono.replayed d.machine; orders = Time d.done d.machine.cycle ∷ d.orders })

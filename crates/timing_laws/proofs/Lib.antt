@@ -7,6 +7,7 @@ pub mod Tick
 pub mod Complete
 pub mod Fetch
 pub mod Commit
+pub mod Divisions
 pub mod Issue
 pub mod Turning
 pub mod Stepping

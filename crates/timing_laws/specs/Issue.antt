@@ -80,9 +80,10 @@ class_allows class.Store made older = true
 class_allows class.Serial made older = is_oldest older
 
 -- A slot begins to execute where it has passed the front, its operands are there, its class allows it and a unit is free.
+-- So many divisions were executing when the phase began.
 abbrev pub may_begin : Params → ℕ → ℕ → List Slot → Slot → Used → Bool
 may_begin p cycle busy older slot used =
-    is_past_front p cycle slot && has_operands older slot && class_allows slot.class slot.access older && has_unit p busy used slot.class
+    is_past_front p cycle slot && has_operands older slot && class_allows slot.class slot.access older && has_unit p (busy + used.div) used slot.class
 
 -- a slot as it goes on, with the units used and the caches behind it
 pub record Turned : Type 0 where
