@@ -1,16 +1,17 @@
 #!/bin/sh
-# Times `fast run` on the loops of bench/func.sh, a branch that nobody can foresee and a compiled C program, each cut off
-# after so many cycles, under the plain and the wide machine of examples/machines, with rings of 1, 64 and 4,096 entries,
-# and then on twice and four times as many cycles. Run it on an idle machine.
+# Times `fast run`, on two threads and on one, on the loops of bench/func.sh, a branch that nobody can foresee and a compiled
+# C program, each cut off after so many cycles, under the plain and the wide machine of examples/machines, with rings of 1,
+# 64, 4,096 and 65,536 entries, and then on twice and four times as many cycles.
 #
-#     bench/run.sh [SIMULATOR]    a program that takes the same words; its reports have to be the same, byte for byte
+#     bench/run.sh [SIMULATOR]    a program that takes the same words but --threads; its reports have to be the same
 #
-# A line for each: milliseconds of the best of five runs of the whole program, millions of cycles and of instructions in a
-# second; with a simulator, which runs in turn with `fast`, its milliseconds and how many times as long as these `fast` takes.
-# CYCLES in the environment is the number of cycles, 1,000,000 if left out.
+# A line for each: milliseconds of the best of some runs of the whole program, and millions of cycles in a second, on two
+# threads and on one; with a simulator, which runs in turn with `fast`, its milliseconds and how many times as long as these
+# `fast` takes. In the environment: CYCLES, 1,000,000 if left out; ROUNDS, how many runs, 5; and MACHINES, PROGRAMS and RINGS.
 here=$(cd "$(dirname "$0")/.." && pwd) || exit 1
 simulator=$1
 cycles=${CYCLES:-1000000}
+rounds=${ROUNDS:-5}
 work=$(mktemp -d) || exit 1
 trap 'rm -rf "$work"' EXIT
 
@@ -60,35 +61,51 @@ best() {
     if [ -n "$1" ] && [ "$1" -le "$2" ]; then echo "$1"; else echo "$2"; fi
 }
 
+# report: whether it is that of two threads
+compare() {
+    cmp "$work/two" "$1" >&2 || exit 1
+}
+
 # program, machine, ring, cycles: a line of what they take
 measure() {
     set -- "$1" "$2" "$3" "$4" run "$work/$1" "$here/examples/machines/$2.toml" --ring "$3" --cycles "$4"
     name="$1, $2, ring $3, $4 cycles" count=$4
     shift 4
-    ours= theirs=
-    for round in 1 2 3 4 5; do
-        time=$(time_of "$work/ours" "$here/fast" "$@") || exit 1
-        ours=$(best "$ours" "$time")
+    two= one= theirs= round=0
+    while [ $round -lt "$rounds" ]; do
+        round=$((round + 1))
+        time=$(time_of "$work/two" "$here/out/fast" "$@") || exit 1
+        two=$(best "$two" "$time")
+        time=$(time_of "$work/one" "$here/out/fast" "$@" --threads 1) || exit 1
+        one=$(best "$one" "$time")
+        compare "$work/one"
         [ -n "$simulator" ] || continue
         time=$(time_of "$work/theirs" "$simulator" "$@") || exit 1
         theirs=$(best "$theirs" "$time")
-        cmp "$work/ours" "$work/theirs" >&2 || exit 1
+        compare "$work/theirs"
     done
-    awk -v name="$name" -v ours="$ours" -v theirs="$theirs" -v cycles="$count" '
-        /^instructions: / { instructions = $2 }
-        END {
-            printf "%s: %d ms, %.2f million cycles and %.2f million instructions in a second", name, ours,
-                cycles / ours / 1000, instructions / ours / 1000
-            if (theirs) printf "; %d ms, %.2f times as long", theirs, ours / theirs
+    awk -v name="$name" -v two="$two" -v one="$one" -v theirs="$theirs" -v cycles="$count" '
+        # (a run takes a millisecond at least)
+        function told(threads, time) {
+            time = time ? time : 1
+            line = sprintf("%s: %d ms, %.2f million cycles in a second", threads, time, cycles / time / 1000)
+            if (theirs) line = line sprintf(", %.2f times as long", time / theirs)
+            return line
+        }
+        BEGIN {
+            theirs = theirs == "0" ? 1 : theirs
+            printf "%s: %s; %s", name, told("2 threads", two), told("1 thread", one)
+            if (theirs) printf "; the simulator: %d ms", theirs
             print ""
-        }' "$work/ours"
+        }'
 }
 
+# The first call builds the program, which is then timed by itself.
 "$here/fast" run "$work/arithmetic" "$here/examples/machines/plain.toml" --cycles 1 >/dev/null
-for machine in plain wide; do
-    for program in arithmetic memory division branches compiled; do
-        for ring in 1 64 4096; do
-            measure $program $machine $ring "$cycles"
+for machine in ${MACHINES:-plain wide}; do
+    for program in ${PROGRAMS:-arithmetic memory division branches compiled}; do
+        for ring in ${RINGS:-1 64 4096 65536}; do
+            measure "$program" "$machine" "$ring" "$cycles"
         done
     done
 done
