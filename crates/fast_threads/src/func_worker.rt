@@ -107,7 +107,7 @@ impl<D: Device> FuncWorker<D> {
 
     /// A turn: the next order is obeyed, or else the next entry made and handed over. Says whether
     /// there was anything to do.
-    fn turn<R: Wait>(&mut self, rt: &R) -> bool
+    pub fn turn<R: Wait>(&mut self, rt: &R) -> bool
         ensures setup { self.new.setup ≡ self.old.setup }
     {
         if self.obey(rt) {
@@ -124,18 +124,20 @@ impl<D: Device> FuncWorker<D> {
 
     /// Obeys the next order, if there is one. Where it opens an epoch, the computed entry is of no
     /// use any more.
-    fn obey<R: Wait>(&mut self, rt: &R) -> bool
+    pub fn obey<R: Wait>(&mut self, rt: &R) -> bool
         ensures setup { self.new.setup ≡ self.old.setup }
     {
         let Some(order) = self.end.next(rt) else {
             return false;
         };
+        let committed = self.side.committed();
         self.side.obey(order);
         if order.opens_epoch() {
             self.computed = None;
             self.lookahead = Lookahead::new();
         } else {
-            self.lookahead.widen();
+            let count = self.side.committed().saturating_sub(committed);
+            self.lookahead.note_commit(count);
         }
         true
     }

@@ -1,40 +1,53 @@
-/// How many entries may be made behind an order that opens an epoch, before it is known that the
-/// timing side needs more.
-const FIRST: u32 = 4;
+/// How many entries may be under way behind an order that opens an epoch, before it is known that
+/// the timing side needs more.
+const FIRST: u64 = 4;
 
-/// How far the functional side runs ahead of what the timing side is known to need.
+/// Up to here the allowance doubles; from here on it grows one by one.
+const KNEE: u64 = 64;
+
+/// How far the functional side runs ahead of what it knows to be committed.
 ///
-/// Entries that were made before an order which opens an epoch were made for nothing: they are
-/// undone on this side and let go on the other. So few are made behind such an order, and more the
-/// longer none comes.
+/// Entries that were made before an order which opens an epoch were made for nothing: they are undone
+/// on this side and let go on the other. So few are made behind such an order, and more the longer
+/// none comes.
 #[derive(Clone, Copy, Debug)]
 pub struct Lookahead {
-    made: u32,
-    allowed: u32,
+    /// How many entries were made since the last opening that aren't known to be committed.
+    ahead: u64,
+    allowed: u64,
 }
 
 impl Lookahead {
     /// Behind an order that opens an epoch, and at the start of a run.
     pub fn new() -> Lookahead {
         Lookahead {
-            made: 0,
+            ahead: 0,
             allowed: FIRST,
         }
     }
 
     /// Whether one more entry may be made now.
     pub fn may_run_ahead(&self) -> bool {
-        self.made < self.allowed
+        self.ahead < self.allowed
     }
 
     /// One more entry was made.
     pub fn note_entry(&mut self) {
-        self.made = self.made.saturating_add(1);
+        self.ahead = self.ahead.saturating_add(1);
     }
 
-    /// The entries are of use, since some are committed, or the side has nothing else to do: twice
-    /// as many may be made.
+    /// So many instructions were committed: the entries are of use.
+    pub fn note_commit(&mut self, count: u64) {
+        self.ahead = self.ahead.saturating_sub(count);
+        self.widen();
+    }
+
+    /// More entries may be made, since some are of use, or the side has nothing else to do.
     pub fn widen(&mut self) {
-        self.allowed = self.allowed.saturating_mul(2);
+        self.allowed = if self.allowed < KNEE {
+            self.allowed * 2
+        } else {
+            self.allowed.saturating_add(1)
+        };
     }
 }

@@ -100,7 +100,7 @@ impl TimeWorker {
 
     /// A turn: the order in hand is sent, or else the entry taken that the side needs, or a step
     /// made. Says whether there was anything to do.
-    fn turn<R: Wait>(&mut self, rt: &R) -> bool
+    pub fn turn<R: Wait>(&mut self, rt: &R) -> bool
         ensures setup { self.new.setup ≡ self.old.setup }
     {
         if let Some(order) = self.hand {
