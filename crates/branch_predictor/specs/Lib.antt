@@ -1,3 +1,3 @@
 pub mod Params
 pub mod Predictor
-pub mod Predicts
+pub mod PredictorStandsFor

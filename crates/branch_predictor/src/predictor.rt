@@ -23,12 +23,12 @@ pub struct Predictor {
 impl Predictor {
     ghost use Rattle.std.specs.Prelude.{ℕ, IfOk};
     ghost use Rattle.branch_predictor.specs.Predictor.{Predicting, untrained, counter_index, is_taken, target_of, predicted, counted, placed, trained};
-    ghost use Rattle.branch_predictor.specs.Predicts.{Predicts};
+    ghost use Rattle.branch_predictor.specs.PredictorStandsFor.{PredictorStandsFor};
 
     /// A predictor of these sizes that has learnt nothing. It takes its memory here and none later.
     pub fn new(alloc: Global, p: PredParams) -> Result<Predictor, NoMemory>
         requires in_range { IsInRange p }
-        ensures untrained { IfOk result (λ it. Predicts it p untrained) }
+        ensures untrained { IfOk result (λ it. PredictorStandsFor it p untrained) }
     {
         let Ok(counters) = vec![in alloc; 1u8; p.counters as usize] else {
             return Err(NoMemory);
@@ -47,7 +47,7 @@ impl Predictor {
     /// The index of the counter of the branch at an address.
     fn counter_index(&self, addr: u32) -> usize
         ensures within { result < vec_len self.now.counters }
-        ensures index { (p : PredParams) (s : Predicting) → Predicts self.now p s →
+        ensures index { (p : PredParams) (s : Predicting) → PredictorStandsFor self.now p s →
             result ≡ counter_index p s addr }
     {
         let selector = selector(self.params.kind, addr / 4, self.history);
@@ -56,7 +56,7 @@ impl Predictor {
 
     /// Whether the branch at an address is predicted taken.
     fn is_taken(&self, addr: u32) -> bool
-        ensures { (p : PredParams) (s : Predicting) → Predicts self.now p s →
+        ensures { (p : PredParams) (s : Predicting) → PredictorStandsFor self.now p s →
             result ≡ is_taken p s addr }
     {
         self.params.kind != PredKind::Static && self.counters[self.counter_index(addr)] >= 2
@@ -64,7 +64,7 @@ impl Predictor {
 
     /// What the target buffer knows of an address.
     fn target_of(&self, addr: u32) -> Option<Target>
-        ensures { (p : PredParams) (s : Predicting) → Predicts self.now p s →
+        ensures { (p : PredParams) (s : Predicting) → PredictorStandsFor self.now p s →
             result ≡ target_of p s addr }
     {
         if self.params.targets == 0 {
@@ -79,7 +79,7 @@ impl Predictor {
     /// The address that is taken to follow the instruction at an address.
     #[tactic(auto, unfolding(crate::specs::Predictor::predicted))]
     pub fn predict(&self, addr: u32) -> u32
-        ensures predicted { (p : PredParams) (s : Predicting) → Predicts self.now p s →
+        ensures predicted { (p : PredParams) (s : Predicting) → PredictorStandsFor self.now p s →
             result ≡ predicted p s addr }
     {
         let behind = wrap_add(addr, 4);
@@ -96,8 +96,8 @@ impl Predictor {
 
     /// Learns the outcome of the branch at an address.
     fn count(&mut self, addr: u32, taken: bool)
-        ensures { (p : PredParams) (s : Predicting) → Predicts self.old p s →
-            Predicts self.new p (counted p addr taken s) }
+        ensures { (p : PredParams) (s : Predicting) → PredictorStandsFor self.old p s →
+            PredictorStandsFor self.new p (counted p addr taken s) }
     {
         let index = self.counter_index(addr);
         self.counters[index] = moved(taken, self.counters[index]);
@@ -106,8 +106,8 @@ impl Predictor {
 
     /// Writes a target to its place.
     fn place(&mut self, target: Target)
-        ensures { (p : PredParams) (s : Predicting) → Predicts self.old p s →
-            Predicts self.new p (placed p target s) }
+        ensures { (p : PredParams) (s : Predicting) → PredictorStandsFor self.old p s →
+            PredictorStandsFor self.new p (placed p target s) }
     {
         if self.params.targets != 0 {
             let index = place_in(self.params.targets, target.addr / 4);
@@ -118,8 +118,8 @@ impl Predictor {
     /// Learns from an instruction that was committed without a fault and went from `addr` to `next`.
     #[tactic(auto, unfolding(crate::specs::Predictor::trained))]
     pub fn train(&mut self, addr: u32, flow: Flow, next: u32)
-        ensures trained { (p : PredParams) (s : Predicting) → Predicts self.old p s →
-            Predicts self.new p (trained p s addr flow next) }
+        ensures trained { (p : PredParams) (s : Predicting) → PredictorStandsFor self.old p s →
+            PredictorStandsFor self.new p (trained p s addr flow next) }
     {
         let target = Target { addr, flow, next };
         match flow {

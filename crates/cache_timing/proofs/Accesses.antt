@@ -7,24 +7,24 @@ use Rattle.cache_timing.specs.declared.cache.Cache.{Cache}
 use Rattle.cache_timing.specs.declared.cache.Touch.TheVariants as touch
 use Rattle.cache_timing.specs.Cache.{put_at, fronted, holds, touched_line, touched, written_back}
 use Rattle.cache_timing.specs.Ages.{IsOrder}
-use Rattle.cache_timing.specs.Keeps.{IsSet, Keeps, IsPut, Absent, line_at, age_at}
+use Rattle.cache_timing.specs.CacheStandsFor.{IsSet, CacheStandsFor, IsPut, Absent, line_at, age_at}
 use Rattle.cache_timing.proofs.Lists.{holds-absent}
 use Rattle.cache_timing.proofs.Touches.{line_of, fits_at, IsSet-hit, holds-hit, IsSet-miss, dropped-miss, absent-from_ways}
-use Rattle.cache_timing.proofs.Kept.{IsUpdate-put, Keeps-put}
+use Rattle.cache_timing.proofs.Kept.{IsUpdate-put, CacheStandsFor-put}
 
 -- what is shown at the cache's own sizes holds at those that it has
-pub at_sizes : (it : Cache) (p : CacheParams) (back : Bool) (sets : ℕ → List Line) (Q : CacheParams → Type 0) → Keeps it p back sets →
-    (Keeps it it.params back sets → Q it.params) → Q p
+pub at_sizes : (it : Cache) (p : CacheParams) (back : Bool) (sets : ℕ → List Line) (Q : CacheParams → Type 0) → CacheStandsFor it p back sets →
+    (CacheStandsFor it it.params back sets → Q it.params) → Q p
 at_sizes it p back sets Q keeps f =
-    let K : CacheParams → Type 0 = λ q. Keeps it q back sets in subst Q keeps.sizes (f (subst K (sym keeps.sizes) keeps))
+    let K : CacheParams → Type 0 = λ q. CacheStandsFor it q back sets in subst Q keeps.sizes (f (subst K (sym keeps.sizes) keeps))
 
-hit_here : (old new : Cache) (back : Bool) (sets : ℕ → List Line) (way : ℕ) (held : Line) (writes : Bool) → Keeps old old.params back sets →
+hit_here : (old new : Cache) (back : Bool) (sets : ℕ → List Line) (way : ℕ) (held : Line) (writes : Bool) → CacheStandsFor old old.params back sets →
     IsPut old new (held.number % old.params.sets) way (line_of held.number (writes || held.dirty)) → held.number % old.params.sets < old.params.sets →
     way < old.params.ways → line_at old (held.number % old.params.sets) way ≡ Some held →
-    Keeps new old.params back (touched_line old.params held.number writes sets).sets
+    CacheStandsFor new old.params back (touched_line old.params held.number writes sets).sets
 hit_here old new back sets way held writes keeps put within here there =
     let set : ℕ = held.number % old.params.sets in
-    Keeps-put old new old.params back sets set way (line_of held.number (writes || held.dirty)) (take old.params.ways (fronted held.number writes (sets set)))
+    CacheStandsFor-put old new old.params back sets set way (line_of held.number (writes || held.dirty)) (take old.params.ways (fronted held.number writes (sets set)))
     keeps put here
     (IsSet-hit old.params (line_at old set) (line_at new set) (age_at old set) (age_at new set) way held writes (sets set)
     (IsUpdate-put old new set way (line_of held.number (writes || held.dirty)) put here within) (keeps.lists set within) there)
@@ -38,19 +38,19 @@ touch_miss : (p : CacheParams) (number : ℕ) (writes : Bool) (sets : ℕ → Li
 touch_miss p number writes sets h = rw h refl
 
 -- a hit
-pub Keeps-hit : (old new : Cache) (p : CacheParams) (back : Bool) (sets : ℕ → List Line) (set way : ℕ) (held : Line) (writes : Bool) →
-    Keeps old p back sets → set ≡ held.number % old.params.sets → IsPut old new set way (line_of held.number (writes || held.dirty)) →
+pub CacheStandsFor-hit : (old new : Cache) (p : CacheParams) (back : Bool) (sets : ℕ → List Line) (set way : ℕ) (held : Line) (writes : Bool) →
+    CacheStandsFor old p back sets → set ≡ held.number % old.params.sets → IsPut old new set way (line_of held.number (writes || held.dirty)) →
     set < old.params.sets → way < old.params.ways → line_at old set way ≡ Some held →
-    Keeps new p back (touched_line p held.number writes sets).sets
-Keeps-hit old new p back sets set way held writes keeps is put within here there =
+    CacheStandsFor new p back (touched_line p held.number writes sets).sets
+CacheStandsFor-hit old new p back sets set way held writes keeps is put within here there =
     let Put : ℕ → Type 0 = λ k. IsPut old new k way (line_of held.number (writes || held.dirty)) in
     let Within : ℕ → Type 0 = λ k. k < old.params.sets in
     let There : ℕ → Type 0 = λ k. line_at old k way ≡ Some held in
-    at_sizes old p back sets (λ q. Keeps new q back (touched_line q held.number writes sets).sets) keeps
+    at_sizes old p back sets (λ q. CacheStandsFor new q back (touched_line q held.number writes sets).sets) keeps
     (λ own. hit_here old new back sets way held writes own (subst Put is put) (subst Within is within) here (subst There is there))
 
 pub touch-hit : (old : Cache) (p : CacheParams) (back : Bool) (sets : ℕ → List Line) (set way : ℕ) (held : Line) (writes : Bool) →
-    Keeps old p back sets → set ≡ held.number % old.params.sets → set < old.params.sets → way < old.params.ways → line_at old set way ≡ Some held →
+    CacheStandsFor old p back sets → set ≡ held.number % old.params.sets → set < old.params.sets → way < old.params.ways → line_at old set way ≡ Some held →
     (touched_line p held.number writes sets).touch ≡ touch.Hit
 touch-hit old p back sets set way held writes keeps is within here there =
     let Held : ℕ → Type 0 = λ k. holds held.number (sets k) ≡ true in
@@ -77,25 +77,25 @@ last_age it set way some oldest o =
     oldest (o.way (it.params.ways - 1)) (o.way_within (it.params.ways - 1) inside) (o.age_of_way (it.params.ways - 1) inside) in
     omega arith
 
-miss_here : (old new : Cache) (back : Bool) (sets : ℕ → List Line) (set way : ℕ) (line : Line) → Keeps old old.params back sets →
+miss_here : (old new : Cache) (back : Bool) (sets : ℕ → List Line) (set way : ℕ) (line : Line) → CacheStandsFor old old.params back sets →
     IsMiss old set way line.number → IsPut old new set way line → line.number * old.params.line < 2 ^ 32 →
-    Keeps new old.params back (put_at set (take old.params.ways (fronted line.number line.dirty (sets set))) sets)
+    CacheStandsFor new old.params back (put_at set (take old.params.ways (fronted line.number line.dirty (sets set))) sets)
 miss_here old new back sets set way line keeps miss put fits =
     let own : IsSet old.params (line_at old set) (age_at old set) (sets set) = keeps.lists set miss.within in
-    Keeps-put old new old.params back sets set way line (take old.params.ways (fronted line.number line.dirty (sets set))) keeps put miss.here
+    CacheStandsFor-put old new old.params back sets set way line (take old.params.ways (fronted line.number line.dirty (sets set))) keeps put miss.here
     (IsSet-miss old.params (line_at old set) (line_at new set) (age_at old set) (age_at new set) way line.number line.dirty (sets set)
     (IsUpdate-put old new set way line put miss.here miss.within) own (miss.oldest own.order)
     (absent-from_ways old.params (line_at old set) (age_at old set) line.number (sets set) own miss.missing) fits)
 
-pub Keeps-miss : (old new : Cache) (p : CacheParams) (back : Bool) (sets : ℕ → List Line) (set way : ℕ) (line : Line) → Keeps old p back sets →
+pub CacheStandsFor-miss : (old new : Cache) (p : CacheParams) (back : Bool) (sets : ℕ → List Line) (set way : ℕ) (line : Line) → CacheStandsFor old p back sets →
     IsMiss old set way line.number → IsPut old new set way line → line.number * old.params.line < 2 ^ 32 →
-    Keeps new p back (touched_line p line.number line.dirty sets).sets
-Keeps-miss old new p back sets set way line keeps miss put fits =
-    let After : ℕ → Type 0 = λ k. Keeps new old.params back (put_at k (take old.params.ways (fronted line.number line.dirty (sets k))) sets) in
-    at_sizes old p back sets (λ q. Keeps new q back (touched_line q line.number line.dirty sets).sets) keeps
+    CacheStandsFor new p back (touched_line p line.number line.dirty sets).sets
+CacheStandsFor-miss old new p back sets set way line keeps miss put fits =
+    let After : ℕ → Type 0 = λ k. CacheStandsFor new old.params back (put_at k (take old.params.ways (fronted line.number line.dirty (sets k))) sets) in
+    at_sizes old p back sets (λ q. CacheStandsFor new q back (touched_line q line.number line.dirty sets).sets) keeps
     (λ own. subst After miss.place (miss_here old new back sets set way line own miss put fits))
 
-touch_miss_here : (old : Cache) (back : Bool) (sets : ℕ → List Line) (set way number : ℕ) (writes : Bool) → Keeps old old.params back sets →
+touch_miss_here : (old : Cache) (back : Bool) (sets : ℕ → List Line) (set way number : ℕ) (writes : Bool) → CacheStandsFor old old.params back sets →
     IsMiss old set way number →
     (holds number (sets set) ≡ false) × (slice_get (fronted number writes (sets set)) old.params.ways ≡ line_at old set way)
 touch_miss_here old back sets set way number writes keeps miss =
@@ -106,7 +106,7 @@ touch_miss_here old back sets set way number writes keeps miss =
     )
 
 -- a miss drops what the way held
-pub touch-miss : (old : Cache) (p : CacheParams) (back : Bool) (sets : ℕ → List Line) (set way number : ℕ) (writes : Bool) → Keeps old p back sets →
+pub touch-miss : (old : Cache) (p : CacheParams) (back : Bool) (sets : ℕ → List Line) (set way number : ℕ) (writes : Bool) → CacheStandsFor old p back sets →
     IsMiss old set way number → (touched_line p number writes sets).touch ≡ touch.Miss (written_back p.line (line_at old set way))
 touch-miss old p back sets set way number writes keeps miss =
     at_sizes old p back sets (λ q. (touched_line q number writes sets).touch ≡ touch.Miss (written_back q.line (line_at old set way))) keeps
@@ -124,7 +124,7 @@ line_fits p line age set way own here None is = tt
 line_fits p line age set way own here (Some l) is = fits_at p.line set (age way) l own.fit (sym (own.lines way here) ∙ is)
 
 -- the address of what a way holds has 32 bits
-pub fits-at : (it : Cache) (p : CacheParams) (back : Bool) (sets : ℕ → List Line) (set way : ℕ) → Keeps it p back sets → set < it.params.sets →
+pub fits-at : (it : Cache) (p : CacheParams) (back : Bool) (sets : ℕ → List Line) (set way : ℕ) → CacheStandsFor it p back sets → set < it.params.sets →
     way < it.params.ways → IfSome (line_at it set way) (λ l. l.number * it.params.line < 2 ^ 32)
 fits-at it p back sets set way keeps within here =
     at_sizes it p back sets (λ _. IfSome (line_at it set way) (λ l. l.number * it.params.line < 2 ^ 32)) keeps
@@ -137,7 +137,7 @@ written_back-some size bits line power dirty fits =
     let whole : line.number * 2 ^ bits % 2 ^ 32 ≡ line.number * size = omega arith in rw dirty (ap Some whole)
 
 -- the address of a dirty line by a shift
-pub dirty-at : (it : Cache) (p : CacheParams) (back : Bool) (sets : ℕ → List Line) (set way : ℕ) (line : Line) → Keeps it p back sets →
+pub dirty-at : (it : Cache) (p : CacheParams) (back : Bool) (sets : ℕ → List Line) (set way : ℕ) (line : Line) → CacheStandsFor it p back sets →
     set < it.params.sets → way < it.params.ways → line_at it set way ≡ Some line → line.dirty ≡ true →
     Some (line.number * 2 ^ it.line_bits % 2 ^ 32) ≡ written_back p.line (line_at it set way)
 dirty-at it p back sets set way line keeps within here is dirty =
@@ -158,14 +158,14 @@ unfolding touched
 line_touched p back sets addr write some = grind (arith, some)
 
 -- a cache without ways is left as it is
-pub touched-none : (it : Cache) (p : CacheParams) (back : Bool) (sets : ℕ → List Line) (addr : ℕ) (write : Bool) → Keeps it p back sets →
+pub touched-none : (it : Cache) (p : CacheParams) (back : Bool) (sets : ℕ → List Line) (addr : ℕ) (write : Bool) → CacheStandsFor it p back sets →
     it.params.ways ≡ 0 → touched p back sets addr write ≡ record { sets = sets; touch = touch.None }
 touched-none it p back sets addr write keeps none =
     nothing_touched p back sets addr write (ap (λ (q : CacheParams). q.ways) (sym keeps.sizes) ∙ none)
 
 -- an access goes to the line of its number, which a shift finds
 pub touched-some : (it : Cache) (p : CacheParams) (back : Bool) (sets : ℕ → List Line) (addr : ℕ) (write : Bool) (number : ℕ) (writes : Bool) →
-    Keeps it p back sets → it.params.ways ≢ 0 → number ≡ addr / 2 ^ it.line_bits → writes ≡ (it.back && write) →
+    CacheStandsFor it p back sets → it.params.ways ≢ 0 → number ≡ addr / 2 ^ it.line_bits → writes ≡ (it.back && write) →
     touched p back sets addr write ≡ touched_line p number writes sets
 touched-some it p back sets addr write number writes keeps some shifted policy =
     let length : p.line ≡ 2 ^ it.line_bits = ap (λ (q : CacheParams). q.line) (sym keeps.sizes) ∙ it.line_power in

@@ -9,7 +9,7 @@ use Rattle.cache_timing.specs.declared.cache.Line.{Line}
 use Rattle.cache_timing.specs.declared.cache.Cache.{Cache}
 use Rattle.cache_timing.specs.Cache.{put_at}
 use Rattle.cache_timing.specs.Ages.{IsOrder, age_of}
-use Rattle.cache_timing.specs.Keeps.{IsSet, Keeps, IsPut, line_at, age_at}
+use Rattle.cache_timing.specs.CacheStandsFor.{IsSet, CacheStandsFor, IsPut, line_at, age_at}
 use Rattle.cache_timing.proofs.Sets.{IsUpdate}
 
 -- ways of other sets, and other ways of this one, lie elsewhere
@@ -84,10 +84,10 @@ lists_after old new sets set way line lines put here own i before (inr e) =
     (IsSet-same old.params (line_at old i) (line_at new i) (age_at old i) (age_at new i) (sets i) before
     (λ w h. other_line old new set way i w line put here h (inl e)) (λ w h. ap (λ word. age_of word w) (put.others i e)))
 
-pub Keeps-put : (old new : Cache) (p : CacheParams) (back : Bool) (sets : ℕ → List Line) (set way : ℕ) (line : Line) (lines : List Line) →
-    Keeps old p back sets → IsPut old new set way line → way < old.params.ways →
-    IsSet old.params (line_at new set) (age_at new set) lines → Keeps new p back (put_at set lines sets)
-Keeps-put old new p back sets set way line lines keeps put here own = record {
+pub CacheStandsFor-put : (old new : Cache) (p : CacheParams) (back : Bool) (sets : ℕ → List Line) (set way : ℕ) (line : Line) (lines : List Line) →
+    CacheStandsFor old p back sets → IsPut old new set way line → way < old.params.ways →
+    IsSet old.params (line_at new set) (age_at new set) lines → CacheStandsFor new p back (put_at set lines sets)
+CacheStandsFor-put old new p back sets set way line lines keeps put here own = record {
   sizes = put.sizes ∙ keeps.sizes;
   policy = put.policy ∙ keeps.policy;
   lists = λ i within.

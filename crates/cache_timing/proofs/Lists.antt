@@ -7,7 +7,7 @@ use Rattle.std.proofs.lemmas.Option.{same_Some, none-some}
 use Rattle.std.proofs.lemmas.List.Elements.{All-nil, All-cons, All-head, All-tail, All-filter, All-take}
 use Rattle.cache_timing.specs.declared.cache.Line.{Line}
 use Rattle.cache_timing.specs.Cache.{holds, holds_dirty, without}
-use Rattle.cache_timing.specs.Keeps.{Absent, Distinct}
+use Rattle.cache_timing.specs.CacheStandsFor.{Absent, Distinct}
 
 -- a line has another number than this one
 abbrev IsOther : ℕ → Line → Type 0

@@ -5,7 +5,7 @@ use Rattle.std.specs.List.{remove}
 use Rattle.cache_timing.specs.declared.params.CacheParams.{CacheParams}
 use Rattle.cache_timing.specs.declared.cache.Line.{Line}
 use Rattle.cache_timing.specs.Ages.{age_after}
-use Rattle.cache_timing.specs.Keeps.{IsSet, Distinct}
+use Rattle.cache_timing.specs.CacheStandsFor.{IsSet, Distinct}
 use Rattle.cache_timing.proofs.Order.{Place, same, nearer, farther, place_of, IsOrder-used, age_after-first, age_after-raised, age_after-kept}
 use Rattle.cache_timing.proofs.Places.{slice_get-remove_below, slice_get-remove_above}
 

@@ -10,7 +10,7 @@ use Rattle.cache_timing.specs.declared.params.CacheParams.{CacheParams}
 use Rattle.cache_timing.specs.declared.cache.Line.{Line}
 use Rattle.cache_timing.specs.declared.cache.Cache.{Cache}
 use Rattle.cache_timing.specs.Ages.{age_of}
-use Rattle.cache_timing.specs.Keeps.{IsSet, Keeps, line_at, age_at}
+use Rattle.cache_timing.specs.CacheStandsFor.{IsSet, CacheStandsFor, line_at, age_at}
 use Rattle.cache_timing.specs.Cache.{no_lines}
 
 -- whether each of so many ways has its own number as its age
@@ -52,9 +52,9 @@ start_age it e few set way within here =
     ap (λ ages. age_of (slice_index ages set) way) e
     ∙ ap (λ word. age_of word way) (get_or-replicate it.params.sets set START 0 within) ∙ age_of-start way (omega arith)
 
-pub Keeps-start : (it : Cache) (count : ℕ) → it.lines.items ≡ replicate count None → it.ages.items ≡ replicate it.params.sets START →
-    it.params.ways ≤ 16 → Keeps it it.params it.back no_lines
-Keeps-start it count lines ages few = record {
+pub CacheStandsFor-start : (it : Cache) (count : ℕ) → it.lines.items ≡ replicate count None → it.ages.items ≡ replicate it.params.sets START →
+    it.params.ways ≤ 16 → CacheStandsFor it it.params it.back no_lines
+CacheStandsFor-start it count lines ages few = record {
   sizes = refl;
   policy = refl;
   lists = λ i within.

@@ -9,7 +9,7 @@ use Rattle.std.proofs.lemmas.Option.{slice_get_within, get_or_from_slice_get}
 use Rattle.cache_timing.specs.declared.params.CacheParams.{CacheParams}
 use Rattle.cache_timing.specs.declared.cache.Line.{Line}
 use Rattle.cache_timing.specs.Cache.{fronted, without, holds, holds_dirty}
-use Rattle.cache_timing.specs.Keeps.{IsSet, Absent, Distinct}
+use Rattle.cache_timing.specs.CacheStandsFor.{IsSet, Absent, Distinct}
 use Rattle.cache_timing.proofs.Lists.{without-absent, holds_dirty-absent, without-at, holds-at, holds_dirty-at, absent-without, distinct-without, distinct-take, absent-from_places}
 use Rattle.cache_timing.proofs.Places.{take-front}
 use Rattle.cache_timing.proofs.Sets.{IsUpdate, IsSet-used}

@@ -2,5 +2,5 @@ pub mod Params
 pub mod Cache
 pub mod Caches
 pub mod Ages
-pub mod Keeps
-pub mod KeepsAll
+pub mod CacheStandsFor
+pub mod CachesStandFor

@@ -80,12 +80,12 @@ fn start_ages(alloc: Global, count: u32) -> Result<Vec<u64>, NoMemory>
 impl Cache {
     ghost use Rattle.std.specs.Prelude.{ℕ, List, ◌-◌, ◌%◌, ◌≢◌, Bool, ◌&&◌, IfSome, IfNone, Some};
     ghost use Rattle.cache_timing.specs.Cache.{no_lines, touched, touched_line, written_back};
-    ghost use Rattle.cache_timing.specs.Keeps.{Keeps, IsPut, line_at, age_at};
+    ghost use Rattle.cache_timing.specs.CacheStandsFor.{CacheStandsFor, IsPut, line_at, age_at};
 
     /// A cache that holds nothing. It takes its memory here and none later.
     pub fn new(alloc: Global, p: CacheParams, back: bool) -> Result<Cache, NoMemory>
         requires in_range { IsInRange p }
-        ensures empty { IfOk result (λ it. Keeps it p back no_lines) }
+        ensures empty { IfOk result (λ it. CacheStandsFor it p back no_lines) }
     {
         let lines = empty_ways(alloc, p.sets * p.ways)?;
         let ages = start_ages(alloc, p.sets)?;
@@ -160,7 +160,7 @@ impl Cache {
     fn dirty_address(&self, set: u32, way: u32) -> Option<u32>
         requires set_within { set < self.now.params.sets }
         requires way_within { way < self.now.params.ways }
-        ensures { (p : CacheParams) (back : Bool) (sets : ℕ → List Line) → Keeps self.now p back sets →
+        ensures { (p : CacheParams) (back : Bool) (sets : ℕ → List Line) → CacheStandsFor self.now p back sets →
             result ≡ written_back p.line (line_at self.now set way) }
     {
         match self.line_at(set, way) {
@@ -175,10 +175,10 @@ impl Cache {
         requires set_within { set < self.old.params.sets }
         requires way_within { way < self.old.params.ways }
         requires held { line_at self.old set way ≡ Some held }
-        ensures met { (p : CacheParams) (back : Bool) (sets : ℕ → List Line) → Keeps self.old p back sets →
+        ensures met { (p : CacheParams) (back : Bool) (sets : ℕ → List Line) → CacheStandsFor self.old p back sets →
             (touched_line p held.number writes sets).touch ≡ Touch.Hit }
-        ensures kept { (p : CacheParams) (back : Bool) (sets : ℕ → List Line) → Keeps self.old p back sets →
-            Keeps self.new p back (touched_line p held.number writes sets).sets }
+        ensures kept { (p : CacheParams) (back : Bool) (sets : ℕ → List Line) → CacheStandsFor self.old p back sets →
+            CacheStandsFor self.new p back (touched_line p held.number writes sets).sets }
     {
         self.put(set, way, held.touched(writes));
     }
@@ -192,10 +192,10 @@ impl Cache {
             line_at self.old set way ≡ Some held →
             held.number ≢ line.number }
         requires fits { line.number * self.old.params.line < 2 ^ 32 }
-        ensures met { (p : CacheParams) (back : Bool) (sets : ℕ → List Line) → Keeps self.old p back sets →
+        ensures met { (p : CacheParams) (back : Bool) (sets : ℕ → List Line) → CacheStandsFor self.old p back sets →
             (touched_line p line.number line.dirty sets).touch ≡ Touch.Miss result }
-        ensures kept { (p : CacheParams) (back : Bool) (sets : ℕ → List Line) → Keeps self.old p back sets →
-            Keeps self.new p back (touched_line p line.number line.dirty sets).sets }
+        ensures kept { (p : CacheParams) (back : Bool) (sets : ℕ → List Line) → CacheStandsFor self.old p back sets →
+            CacheStandsFor self.new p back (touched_line p line.number line.dirty sets).sets }
     {
         let way = self.oldest(set);
         let dropped = self.dirty_address(set, way);
@@ -207,10 +207,10 @@ impl Cache {
     fn access_line(&mut self, number: u32, writes: bool) -> Touch
         requires some_way { 0 < self.old.params.ways }
         requires fits { number * self.old.params.line < 2 ^ 32 }
-        ensures met { (p : CacheParams) (back : Bool) (sets : ℕ → List Line) → Keeps self.old p back sets →
+        ensures met { (p : CacheParams) (back : Bool) (sets : ℕ → List Line) → CacheStandsFor self.old p back sets →
             (touched_line p number writes sets).touch ≡ result }
-        ensures kept { (p : CacheParams) (back : Bool) (sets : ℕ → List Line) → Keeps self.old p back sets →
-            Keeps self.new p back (touched_line p number writes sets).sets }
+        ensures kept { (p : CacheParams) (back : Bool) (sets : ℕ → List Line) → CacheStandsFor self.old p back sets →
+            CacheStandsFor self.new p back (touched_line p number writes sets).sets }
     {
         let set = place_in(self.params.sets, number);
         match self.find(set, number) {
@@ -231,10 +231,10 @@ impl Cache {
 
     /// An access to an address. `Touch::None` comes exactly where the cache has no ways.
     pub fn access(&mut self, addr: u32, write: bool) -> Touch
-        ensures touch { (p : CacheParams) (back : Bool) (sets : ℕ → List Line) → Keeps self.old p back sets →
+        ensures touch { (p : CacheParams) (back : Bool) (sets : ℕ → List Line) → CacheStandsFor self.old p back sets →
             result ≡ (touched p back sets addr write).touch }
-        ensures sets { (p : CacheParams) (back : Bool) (sets : ℕ → List Line) → Keeps self.old p back sets →
-            Keeps self.new p back (touched p back sets addr write).sets }
+        ensures sets { (p : CacheParams) (back : Bool) (sets : ℕ → List Line) → CacheStandsFor self.old p back sets →
+            CacheStandsFor self.new p back (touched p back sets addr write).sets }
     {
         if self.params.ways == 0 {
             return Touch::None;

@@ -19,12 +19,12 @@ impl Caches {
     ghost use Rattle.cache_timing.specs.Params.{AreInRange};
     ghost use Rattle.cache_timing.specs.Caches.{CachesState, cold, icache_touched, dcache_touched, l2_touched, missed, drained, followed, fetched, loaded, stored};
     ghost use Rattle.cache_timing.specs.Cache.{touched};
-    ghost use Rattle.cache_timing.specs.KeepsAll.{KeepsAll};
+    ghost use Rattle.cache_timing.specs.CachesStandFor.{CachesStandFor};
 
     /// Caches that hold nothing. They take their memory here and none later.
     pub fn new(alloc: Global, p: &AllCaches) -> Result<Caches, NoMemory>
         requires in_range { AreInRange p.now }
-        ensures cold { IfOk result (λ it. KeepsAll it p.now cold) }
+        ensures cold { IfOk result (λ it. CachesStandFor it p.now cold) }
     {
         Ok(Caches {
             params: *p,
@@ -37,7 +37,7 @@ impl Caches {
 
     /// What was counted so far.
     pub fn counts(&self) -> CacheCounts
-        ensures counts { (p : AllCaches) (s : CachesState) → KeepsAll self.now p s →
+        ensures counts { (p : AllCaches) (s : CachesState) → CachesStandFor self.now p s →
             result ≡ s.counts }
     {
         self.counts
@@ -45,10 +45,10 @@ impl Caches {
 
     /// An access to the instruction cache alone.
     fn touch_icache(&mut self, addr: u32) -> Touch
-        ensures touch { (p : AllCaches) (s : CachesState) → KeepsAll self.old p s →
+        ensures touch { (p : AllCaches) (s : CachesState) → CachesStandFor self.old p s →
             result ≡ (touched p.icache false s.icache addr false).touch }
-        ensures state { (p : AllCaches) (s : CachesState) → KeepsAll self.old p s →
-            KeepsAll self.new p (icache_touched s (touched p.icache false s.icache addr false)) }
+        ensures state { (p : AllCaches) (s : CachesState) → CachesStandFor self.old p s →
+            CachesStandFor self.new p (icache_touched s (touched p.icache false s.icache addr false)) }
     {
         let touch = self.icache.access(addr, false);
         self.counts.count_icache(touch);
@@ -57,10 +57,10 @@ impl Caches {
 
     /// An access to the data cache alone.
     fn touch_dcache(&mut self, addr: u32, write: bool) -> Touch
-        ensures touch { (p : AllCaches) (s : CachesState) → KeepsAll self.old p s →
+        ensures touch { (p : AllCaches) (s : CachesState) → CachesStandFor self.old p s →
             result ≡ (touched p.dcache p.back s.dcache addr write).touch }
-        ensures state { (p : AllCaches) (s : CachesState) → KeepsAll self.old p s →
-            KeepsAll self.new p (dcache_touched s (touched p.dcache p.back s.dcache addr write)) }
+        ensures state { (p : AllCaches) (s : CachesState) → CachesStandFor self.old p s →
+            CachesStandFor self.new p (dcache_touched s (touched p.dcache p.back s.dcache addr write)) }
     {
         let touch = self.dcache.access(addr, write);
         self.counts.count_dcache(touch);
@@ -69,10 +69,10 @@ impl Caches {
 
     /// An access to the second level alone.
     fn touch_l2(&mut self, addr: u32) -> Touch
-        ensures touch { (p : AllCaches) (s : CachesState) → KeepsAll self.old p s →
+        ensures touch { (p : AllCaches) (s : CachesState) → CachesStandFor self.old p s →
             result ≡ (touched p.l2 false s.l2 addr false).touch }
-        ensures state { (p : AllCaches) (s : CachesState) → KeepsAll self.old p s →
-            KeepsAll self.new p (l2_touched s (touched p.l2 false s.l2 addr false)) }
+        ensures state { (p : AllCaches) (s : CachesState) → CachesStandFor self.old p s →
+            CachesStandFor self.new p (l2_touched s (touched p.l2 false s.l2 addr false)) }
     {
         let touch = self.l2.access(addr, false);
         self.counts.count_l2(touch);
@@ -81,10 +81,10 @@ impl Caches {
 
     /// Sends a miss of the first level on to the second. The result is the cycles that it adds: `own` without a second level.
     fn miss(&mut self, own: u32, addr: u32) -> u32
-        ensures cycles { (p : AllCaches) (s : CachesState) → KeepsAll self.old p s →
+        ensures cycles { (p : AllCaches) (s : CachesState) → CachesStandFor self.old p s →
             result ≡ (missed p own s addr).cycles }
-        ensures state { (p : AllCaches) (s : CachesState) → KeepsAll self.old p s →
-            KeepsAll self.new p (missed p own s addr).state }
+        ensures state { (p : AllCaches) (s : CachesState) → CachesStandFor self.old p s →
+            CachesStandFor self.new p (missed p own s addr).state }
     {
         match self.touch_l2(addr) {
             Touch::None => own,
@@ -95,8 +95,8 @@ impl Caches {
 
     /// Writes back the dirty line that was dropped, if one was: it starts at this address.
     fn drain(&mut self, dropped: Option<u32>)
-        ensures { (p : AllCaches) (s : CachesState) → KeepsAll self.old p s →
-            KeepsAll self.new p (drained p dropped s) }
+        ensures { (p : AllCaches) (s : CachesState) → CachesStandFor self.old p s →
+            CachesStandFor self.new p (drained p dropped s) }
     {
         if let Some(first) = dropped {
             self.counts.count_writeback();
@@ -106,10 +106,10 @@ impl Caches {
 
     /// What follows in the second level after an access of the first.
     fn follow(&mut self, own: u32, addr: u32, touch: Touch) -> u32
-        ensures cycles { (p : AllCaches) (s : CachesState) → KeepsAll self.old p s →
+        ensures cycles { (p : AllCaches) (s : CachesState) → CachesStandFor self.old p s →
             result ≡ (followed p own addr touch s).cycles }
-        ensures state { (p : AllCaches) (s : CachesState) → KeepsAll self.old p s →
-            KeepsAll self.new p (followed p own addr touch s).state }
+        ensures state { (p : AllCaches) (s : CachesState) → CachesStandFor self.old p s →
+            CachesStandFor self.new p (followed p own addr touch s).state }
     {
         match touch {
             Touch::None | Touch::Hit => 0,
@@ -124,10 +124,10 @@ impl Caches {
     /// The fetch of an instruction. The result is the cycles that it adds.
     #[tactic(auto, unfolding(crate::specs::Caches::fetched))]
     pub fn fetch(&mut self, addr: u32) -> u32
-        ensures cycles { (p : AllCaches) (s : CachesState) → KeepsAll self.old p s →
+        ensures cycles { (p : AllCaches) (s : CachesState) → CachesStandFor self.old p s →
             result ≡ (fetched p s addr).cycles }
-        ensures state { (p : AllCaches) (s : CachesState) → KeepsAll self.old p s →
-            KeepsAll self.new p (fetched p s addr).state }
+        ensures state { (p : AllCaches) (s : CachesState) → CachesStandFor self.old p s →
+            CachesStandFor self.new p (fetched p s addr).state }
     {
         let touch = self.touch_icache(addr);
         self.follow(self.params.icache.miss, addr, touch)
@@ -136,10 +136,10 @@ impl Caches {
     /// A load from RAM. The result is the cycles that it adds.
     #[tactic(auto, unfolding(crate::specs::Caches::loaded))]
     pub fn load(&mut self, addr: u32) -> u32
-        ensures cycles { (p : AllCaches) (s : CachesState) → KeepsAll self.old p s →
+        ensures cycles { (p : AllCaches) (s : CachesState) → CachesStandFor self.old p s →
             result ≡ (loaded p s addr).cycles }
-        ensures state { (p : AllCaches) (s : CachesState) → KeepsAll self.old p s →
-            KeepsAll self.new p (loaded p s addr).state }
+        ensures state { (p : AllCaches) (s : CachesState) → CachesStandFor self.old p s →
+            CachesStandFor self.new p (loaded p s addr).state }
     {
         let touch = self.touch_dcache(addr, false);
         self.follow(self.params.dcache.miss, addr, touch)
@@ -148,8 +148,8 @@ impl Caches {
     /// A store to RAM, which adds no cycles.
     #[tactic(auto, unfolding(crate::specs::Caches::stored))]
     pub fn store(&mut self, addr: u32)
-        ensures state { (p : AllCaches) (s : CachesState) → KeepsAll self.old p s →
-            KeepsAll self.new p (stored p s addr) }
+        ensures state { (p : AllCaches) (s : CachesState) → CachesStandFor self.old p s →
+            CachesStandFor self.new p (stored p s addr) }
     {
         let touch = self.touch_dcache(addr, true);
         self.follow(self.params.dcache.miss, addr, touch);

@@ -29,7 +29,7 @@ final-end s m = refl
 -- The machine at a boundary is the monolithic one.
 pub boundary_mono : (s : Setup) (x : Split) → IsReached s x → is_boundary x ≡ true → IsMono s x.place
 boundary_mono s x reached at =
-    let both = and_parts (is_place_boundary x.place && is_none x.hand) (length x.listed == 0) at in
+    let both = and_parts (is_place_boundary x.place && is_none x.hand) (length x.listed_orders == 0) at in
     (reached_run s x reached).machine (and_parts (is_place_boundary x.place) (is_none x.hand) both.0).0
 
 -- What is reported is the machine after so many cycles.

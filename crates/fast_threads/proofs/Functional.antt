@@ -14,7 +14,7 @@ use Rattle.machine_laws.proofs.OrderSteps.{told_named}
 use Rattle.side_laws.proofs.Goes.{along_start, along_produced, along_obeyed, along_end}
 use Rattle.side_laws.proofs.Obeying.{may_obey, may_produce}
 use Rattle.func_model.specs.declared.walk.Walk.{Walk}
-use Rattle.func_model.specs.Walk.{Stands, IsFresh, IsForward, IsAtRest, IsProduced, IsObeyed, position_by}
+use Rattle.func_model.specs.Walk.{WalkStandsFor, IsFresh, IsForward, IsAtRest, IsProduced, IsObeyed, position_by}
 use Rattle.trace_ring.specs.Ring.{Follows}
 use Rattle.trace_ring.specs.Orders.{IsInPlace}
 use Rattle.trace_ring.specs.Ends.{FuncAt, func_start, func_pushed, func_taken}
@@ -29,7 +29,7 @@ unfolding first
 first_zero s = refl
 
 -- at the start of a run
-pub func_starts : {D : Type 0} (s : Setup) (side : Walk D) → is_setup s ≡ true → Stands s [] side → IsFresh side → IsFuncAt (func_start s) side None
+pub func_starts : {D : Type 0} (s : Setup) (side : Walk D) → is_setup s ≡ true → WalkStandsFor s [] side → IsFresh side → IsFuncAt (func_start s) side None
 func_starts s side sound stands fresh = record {
   sound = sound;
   orders = [];
@@ -87,8 +87,8 @@ module _ {D : Type 0} (end : FuncAt) (side : Walk D) (computed : Option Entry) (
     pub func_may_obey : MayObey o side
     func_may_obey = may_obey end.setup is.orders o side is.sound is.along next_order
 
-    module _ (new : Walk D) (stands : (s : Setup) (os : List Order) → Stands s os side → Stands s (o ∷ os) new) (moved : IsObeyed o side new) where
-      behind : Stands end.setup (o ∷ is.orders) new
+    module _ (new : Walk D) (stands : (s : Setup) (os : List Order) → WalkStandsFor s os side → WalkStandsFor s (o ∷ os) new) (moved : IsObeyed o side new) where
+      behind : WalkStandsFor end.setup (o ∷ is.orders) new
       behind = stands end.setup is.orders is.along.stands
 
       next_may : MayObeyNext end.setup is.orders o
@@ -143,7 +143,7 @@ module _ {D : Type 0} (end : FuncAt) (side : Walk D) (computed : Option Entry) (
 
 -- an entry is computed, or none
 module _ {D : Type 0} (end : FuncAt) (side : Walk D) (is : IsFuncAt end side None) (new : Walk D) where
-  pub func_computed : (result : Option Entry) → ((s : Setup) (os : List Order) → Stands s os side → IsProduced s os side new result) →
+  pub func_computed : (result : Option Entry) → ((s : Setup) (os : List Order) → WalkStandsFor s os side → IsProduced s os side new result) →
       IfSome result (λ e. IsForward side new) → (IsNone result ↔ IsAtRest side) → IfNone result (new ≡ side) → IsFuncAt end new result
   func_computed None produced moved none same =
       let P : Walk D → Type 0 = λ w. IsFuncAt {D = D} end w None in

@@ -21,7 +21,7 @@ use Rattle.time_model.specs.declared.state.TimeState.{TimeState}
 use Rattle.time_model.specs.declared.turn.Turn.{Turn}
 use Rattle.time_model.specs.declared.turn.Turn.TheVariants.{Moved, Ordered, Want, CycleEnd, Halted}
 use Rattle.time_model.specs.Turns.{turn_told}
-use Rattle.time_model.specs.Stands.{StandsAt, IsStep, IsMade, IsRight, is_over, wants_in}
+use Rattle.time_model.specs.Standing.{TimeSideStandsFor, IsStep, IsMade, IsRight, is_over, wants_in}
 use Rattle.time_model.proofs.Owing.{stands_wants}
 use Rattle.trace_ring.specs.Ring.{IsNamed}
 use Rattle.trace_ring.specs.Ends.{TimeAt, time_start, time_pushed, time_taken}
@@ -32,7 +32,7 @@ unfolding place
 none_told s = refl
 
 -- at the start of a run
-pub time_starts : (s : Setup) (side : TimeState) → is_setup s ≡ true → StandsAt s 0 side → IsTimeAt (time_start s) side None false
+pub time_starts : (s : Setup) (side : TimeState) → is_setup s ≡ true → TimeSideStandsFor s 0 side → IsTimeAt (time_start s) side None false
 time_starts s side sound stands = record {
   sound = sound;
   steps = 0;
@@ -62,7 +62,7 @@ time_same end behind side hand is_halted is same =
 
 -- an entry is taken from the queue, and handed to the side or let go
 pub time_takes : (end behind : TimeAt) (side new : TimeState) (e : Entry) (hand : Option Order) (is_halted : Bool) (is : IsTimeAt end side hand is_halted) → behind ≡ time_taken end e →
-    StandsAt end.setup is.steps new → IsTimeAt behind new hand is_halted
+    TimeSideStandsFor end.setup is.steps new → IsTimeAt behind new hand is_halted
 time_takes end behind side new e hand is_halted is taken stands =
     let P : TimeAt → Type 0 = λ x. IsTimeAt x new hand is_halted in
     subst P (sym taken) (record {
@@ -213,10 +213,10 @@ module _ (end : TimeAt) (side : TimeState) (hand : Option Order) (is : IsTimeAt 
       let p = place end.setup is.steps in
       halted_machine end.setup is.steps (setup_facts end.setup is.sound).some_cycle (and_parts (is_halted p.run.at) (p.owed == 0) (is.over refl)).0
 
-  pub end_at_end : (result : End) → ((s : Setup) (k : ℕ) → StandsAt s k side → result ≡ (place s k).run.demand.machine.end) → result ≡ (mono end.setup end.setup.cycles).end
+  pub end_at_end : (result : End) → ((s : Setup) (k : ℕ) → TimeSideStandsFor s k side → result ≡ (place s k).run.demand.machine.end) → result ≡ (mono end.setup end.setup.cycles).end
   end_at_end result told = told end.setup is.steps is.stands ∙ ap (λ (m : Machine). m.end) machine_at_end
 
-  pub stats_at_end : (result : Stats) → ((s : Setup) (k : ℕ) → StandsAt s k side → result ≡ stats_of s (place s k).run.demand.machine) →
+  pub stats_at_end : (result : Stats) → ((s : Setup) (k : ℕ) → TimeSideStandsFor s k side → result ≡ stats_of s (place s k).run.demand.machine) →
       result ≡ stats_of end.setup (mono end.setup end.setup.cycles)
   stats_at_end result told = told end.setup is.steps is.stands ∙ ap (stats_of end.setup) machine_at_end
 

@@ -4,7 +4,7 @@ use Rattle.mono_model.specs.declared.setup.Setup.{Setup}
 use Rattle.mono_model.specs.Cycle.{mono}
 use Rattle.func_model.specs.declared.contents.Contents.{Contents}
 use Rattle.func_model.specs.declared.walk.Walk.{Walk}
-use Rattle.func_model.specs.Contents.{StandsFor}
+use Rattle.func_model.specs.Contents.{ContentsStandFor}
 use Rattle.fast_threads.specs.Workers.{FuncWork, TimeWork}
 
 -- the run's setup, the functional side, and whether the run has ended
@@ -19,7 +19,7 @@ session_at func ended = record { setup = func.setup; func = func.side; ended = e
 -- what a functional side holds is the state of the monolithic machine behind all its cycles:
 -- registers, memory, devices and output
 abbrev pub HoldsEnd : {D : Type 0} → Setup → Contents D → Type 0
-HoldsEnd s contents = StandsFor s (mono s s.cycles).arch contents
+HoldsEnd s contents = ContentsStandFor s (mono s s.cycles).arch contents
 
 -- the run has ended: the timing side has told its last order, and the functional side has obeyed it
 pub record IsOver {D : Type 0} (func : FuncWork D) (time : TimeWork) : Type 0 where

@@ -10,7 +10,7 @@ use Rattle.mono_model.specs.Demand.{place, told}
 use Rattle.side_laws.specs.Along.{IsAlong}
 use Rattle.func_model.specs.declared.walk.Walk.{Walk}
 use Rattle.time_model.specs.declared.state.TimeState.{TimeState}
-use Rattle.time_model.specs.Stands.{StandsAt, is_over}
+use Rattle.time_model.specs.Standing.{TimeSideStandsFor, is_over}
 use Rattle.trace_ring.specs.Ring.{IsNamed, Follows}
 use Rattle.trace_ring.specs.Orders.{IsInPlace}
 use Rattle.trace_ring.specs.Ends.{FuncAt, TimeAt}
@@ -75,7 +75,7 @@ pub record IsTimeAt (end : TimeAt) (side : TimeState) (hand : Option Order)
   pub sound : is_setup end.setup ≡ true
   -- so many steps of the demand run were made
   pub steps : ℕ
-  pub stands : StandsAt end.setup steps side
+  pub stands : TimeSideStandsFor end.setup steps side
   pub orders : length (told (place end.setup steps)) ≡ end.pushed + in_hand hand
   -- the one in hand is the next to push
   pub next : IfSome hand (λ o. IsInPlace end.setup end.pushed o)

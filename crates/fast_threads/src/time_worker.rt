@@ -37,7 +37,7 @@ impl TimeWorker {
     ghost use Rattle.mono_model.specs.Setup.{is_setup};
     ghost use Rattle.mono_model.specs.Cycle.{mono};
     ghost use Rattle.mono_model.specs.Machine.{stats_of};
-    ghost use Rattle.time_model.specs.Stands.{wants_in};
+    ghost use Rattle.time_model.specs.Standing.{wants_in};
     ghost use Rattle.trace_ring.specs.Ends.{time_start};
 
     /// The timing side at the start of a run, with its end of the queues. All memory of the side is

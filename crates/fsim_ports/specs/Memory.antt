@@ -2,7 +2,7 @@
 use Rattle.std.specs.Prelude.{ℕ, ◌-◌, Bool, ◌&&◌, ◌||◌, List, [], ◌∷◌, ◌++◌, length, is_some}
 use Rattle.std.specs.Prelude.{nat_lt, if◌then◌else◌}
 use Rattle.fsim_ports.specs.Files.{Names, lookup}
-use Rattle.fsim_ports.specs.Plan.{Plan, empty_plan, is_due, called, faulted}
+use Rattle.fsim_ports.specs.Plan.{Plan, empty_plan, is_to_fail, called, faulted}
 
 -- a name that is added again has its new bytes
 abbrev pub with_file : Names → List ℕ → List ℕ → Names
@@ -15,7 +15,7 @@ pub record FilesInMemory : Type 0 where
 
 -- the next read fails: it is planned, and the name is there
 abbrev pub read_fails : FilesInMemory → List ℕ → Bool
-read_fails files name = is_due files.plan && is_some (lookup files.names name)
+read_fails files name = is_to_fail files.plan && is_some (lookup files.names name)
 
 -- the plan after a read
 abbrev pub plan_after_read : FilesInMemory → List ℕ → Plan
@@ -33,7 +33,7 @@ empty_sink room = record { bytes = []; room = room; plan = empty_plan }
 
 -- the next put fails: it is planned, or the piece doesn't fit in what is left of the room
 abbrev pub put_fails : SinkInMemory → List ℕ → Bool
-put_fails sink piece = is_due sink.plan || nat_lt (sink.room - length sink.bytes) (length piece)
+put_fails sink piece = is_to_fail sink.plan || nat_lt (sink.room - length sink.bytes) (length piece)
 
 -- the sink after a put
 abbrev pub after_put : SinkInMemory → List ℕ → SinkInMemory

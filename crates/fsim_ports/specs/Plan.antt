@@ -17,8 +17,8 @@ abbrev pub with_failing : Plan → ℕ → Plan
 with_failing plan call = record plan { failing = plan.failing ++ call ∷ [] }
 
 -- the next call is to fail
-abbrev pub is_due : Plan → Bool
-is_due plan = list_any (λ call. call == risen plan.calls) plan.failing
+abbrev pub is_to_fail : Plan → Bool
+is_to_fail plan = list_any (λ call. call == risen plan.calls) plan.failing
 
 -- the plan after a call
 abbrev pub called : Plan → Plan

@@ -68,11 +68,11 @@ impl Files for MemoryFiles {
         ensures fails { (result ≡ Part.Failed) ↔ IsTrue (read_fails self.old name.now) }
         ensures plan { self.new.plan ≡ plan_after_read self.old name.now }
     {
-        let is_due = self.plan.next_call();
+        let is_to_fail = self.plan.next_call();
         let Some(file) = self.table.find(name) else {
             return Part::Missing;
         };
-        if is_due {
+        if is_to_fail {
             self.plan.count_fault();
             return Part::Failed;
         }

@@ -75,8 +75,8 @@ impl Sink for MemorySink {
         ensures whole { IfOk result (λ count. count ≡ length bytes.now) }
         ensures after { self.new ≡ after_put self.old bytes.now }
     {
-        let is_due = self.plan.next_call();
-        if is_due || self.room - self.bytes.len() < bytes.len() {
+        let is_to_fail = self.plan.next_call();
+        if is_to_fail || self.room - self.bytes.len() < bytes.len() {
             self.plan.count_fault();
             return Err(Failed);
         }

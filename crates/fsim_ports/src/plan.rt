@@ -1,5 +1,5 @@
 ghost use Rattle.std.specs.Prelude.{◌≡◌, ◌≤◌, OnOk, OnErr};
-ghost use Rattle.fsim_ports.specs.Plan.{Plan, empty_plan, with_failing, is_due, called, faulted};
+ghost use Rattle.fsim_ports.specs.Plan.{Plan, empty_plan, with_failing, is_to_fail, called, faulted};
 
 use fsim_base::NoMemory;
 use std::alloc::Global;
@@ -44,7 +44,7 @@ impl FaultPlan {
 
     /// Counts a call, and answers whether it is to fail.
     pub fn next_call(&mut self) -> bool
-        ensures due { result ≡ is_due self.old }
+        ensures due { result ≡ is_to_fail self.old }
         ensures counted { self.new ≡ called self.old }
     {
         self.calls = self.calls.saturating_add(1);

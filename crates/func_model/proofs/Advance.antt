@@ -17,7 +17,7 @@ use Rattle.mono_model.specs.Effect.{effect, note_of, is_fence_result}
 use Rattle.mono_model.specs.Sequence.{found_next, result_at}
 use Rattle.phys_mem.specs.Ram.{text_from}
 use Rattle.func_model.specs.Hart.{found_by}
-use Rattle.func_model.specs.declared.done.Stepped.{Stepped}
+use Rattle.func_model.specs.declared.performed.Stepped.{Stepped}
 use Rattle.func_model.specs.Steps.{behind, result_of, stepped_by}
 use Rattle.func_model.specs.Contents.{after_instruction, before}
 

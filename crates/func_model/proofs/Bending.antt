@@ -11,8 +11,8 @@ use Rattle.mono_model.specs.Path.{path, time_of, openings, GoesOn, has_stop}
 use Rattle.mono_model.specs.Demand.{number_of}
 use Rattle.func_model.specs.declared.contents.Contents.{Contents}
 use Rattle.func_model.specs.declared.walk.Walk.{Walk}
-use Rattle.func_model.specs.Contents.{StandsFor}
-use Rattle.func_model.specs.Walk.{LeadsBack, Holds, Stands, IsSameBut, IsMoved, IsObeyed, HasRoom, given_at, committed_of, bytes_before}
+use Rattle.func_model.specs.Contents.{ContentsStandFor}
+use Rattle.func_model.specs.Walk.{LeadsBack, IsOnPath, WalkStandsFor, IsSameBut, IsMoved, IsObeyed, HasRoom, given_at, committed_of, bytes_before}
 use Rattle.mono_model.proofs.Path.{path_below, path_at_set, path_at_interrupt, path_at_time, path_at_sync, path_commit, path_stop}
 use Rattle.func_model.proofs.Leading.{leads_along}
 use Rattle.func_model.proofs.Outputs.{bytes_before_is}
@@ -36,13 +36,13 @@ opened_by : (o : Order) (os : List Order) (epoch : ℕ) → opens_epoch_of o ≡
 opened_by o os epoch opens is = rw opens (omega (arith, is))
 
 -- a walk at the number of an order that leaves memory there as it is
-pub bent_holds : {D : Type 0} (s : Setup) (o : Order) (os : List Order) (n pc : ℕ) (walk : Walk D) (contents : Contents D) (given : Option (ℕ × ℕ)) (stops : Bool) → Holds s os walk →
-    Bends s o os n pc → walk.position ≡ n → walk.committed ≤ n → StandsFor s (record (path s os n) { pc = pc }) contents → contents.hart.room ≡ walk.contents.hart.room →
+pub bent_holds : {D : Type 0} (s : Setup) (o : Order) (os : List Order) (n pc : ℕ) (walk : Walk D) (contents : Contents D) (given : Option (ℕ × ℕ)) (stops : Bool) → IsOnPath s os walk →
+    Bends s o os n pc → walk.position ≡ n → walk.committed ≤ n → ContentsStandFor s (record (path s os n) { pc = pc }) contents → contents.hart.room ≡ walk.contents.hart.room →
     ((k : ℕ) → given_at given k ≡ time_of (o ∷ os) k) →
-    Holds s (o ∷ os) (record walk { contents = contents; epoch = walk.epoch + 1; given = given; is_stopped = stops })
+    IsOnPath s (o ∷ os) (record walk { contents = contents; epoch = walk.epoch + 1; given = given; is_stopped = stops })
 bent_holds {D} s o os n pc walk contents given stops h bends here from stands space times =
-    let P : Arch → Type 0 = λ a. StandsFor {D = D} s a contents in
-    let Q : ℕ → Type 0 = λ k. StandsFor {D = D} s (path s (o ∷ os) k) contents in
+    let P : Arch → Type 0 = λ a. ContentsStandFor {D = D} s a contents in
+    let Q : ℕ → Type 0 = λ k. ContentsStandFor {D = D} s (path s (o ∷ os) k) contents in
     let end : walk.committed + length walk.journal.steps ≡ n = ends_at walk.committed walk.position walk.journal.steps (omega (arith, here)) h.held ∙ here in
     let W : List ℕ → Type 0 = λ output. length output ≤ s.output in
     record {
@@ -67,13 +67,13 @@ no_steps : (steps : List Past) → length steps ≡ 0 → steps ≡ []
 no_steps [] is = refl
 no_steps (x ∷ xs) is = cc
 
-pub settled_holds : {D : Type 0} (s : Setup) (o : Order) (os : List Order) (n : ℕ) (to : Arch) (walk : Walk D) (contents : Contents D) (given : Option (ℕ × ℕ)) → Holds s os walk →
-    Settles s o os n to → walk.position ≡ n → walk.committed ≡ n → StandsFor s to contents → contents.hart.room ≡ walk.contents.hart.room →
+pub settled_holds : {D : Type 0} (s : Setup) (o : Order) (os : List Order) (n : ℕ) (to : Arch) (walk : Walk D) (contents : Contents D) (given : Option (ℕ × ℕ)) → IsOnPath s os walk →
+    Settles s o os n to → walk.position ≡ n → walk.committed ≡ n → ContentsStandFor s to contents → contents.hart.room ≡ walk.contents.hart.room →
     ((k : ℕ) → given_at given k ≡ time_of (o ∷ os) k) →
-    Holds s (o ∷ os) (record walk { contents = contents; epoch = walk.epoch + 1; given = given })
+    IsOnPath s (o ∷ os) (record walk { contents = contents; epoch = walk.epoch + 1; given = given })
 settled_holds {D} s o os n to walk contents given h settles here all stands space times =
-    let P : Arch → Type 0 = λ a. StandsFor {D = D} s a contents in
-    let Q : ℕ → Type 0 = λ k. StandsFor {D = D} s (path s (o ∷ os) k) contents in
+    let P : Arch → Type 0 = λ a. ContentsStandFor {D = D} s a contents in
+    let Q : ℕ → Type 0 = λ k. ContentsStandFor {D = D} s (path s (o ∷ os) k) contents in
     let none : walk.journal.steps ≡ [] = no_steps walk.journal.steps (omega (arith, h.held, here, all)) in
     let L : List Past → Type 0 = λ xs. LeadsBack (ram_range s.params) (path s (o ∷ os)) walk.committed xs in
     let W : ℕ → Type 0 = λ k. length (path s (o ∷ os) k).output ≤ s.output in
@@ -92,9 +92,9 @@ settled_holds {D} s o os n to walk contents given h settles here all stands spac
     }
 
 -- what the contents stand for, where the walk is
-pub contents_at : {D : Type 0} (s : Setup) (os : List Order) (n : ℕ) (walk : Walk D) → Holds s os walk → walk.position ≡ n → StandsFor s (path s os n) walk.contents
+pub contents_at : {D : Type 0} (s : Setup) (os : List Order) (n : ℕ) (walk : Walk D) → IsOnPath s os walk → walk.position ≡ n → ContentsStandFor s (path s os n) walk.contents
 contents_at {D} s os n walk h here =
-    let P : ℕ → Type 0 = λ k. StandsFor {D = D} s (path s os k) walk.contents in
+    let P : ℕ → Type 0 = λ k. ContentsStandFor {D = D} s (path s os k) walk.contents in
     subst P here h.contents
 
 pub committed_position : {D : Type 0} (walk next : Walk D) (n : ℕ) → next ≡ record walk { journal = next.journal; committed = n } → next.position ≡ walk.position
@@ -119,17 +119,17 @@ unfolding synced
 settles_sync s m os = record { opens = refl; at = path_at_sync s m os; output = refl }
 
 -- a walk that stands where it holds, by its position
-pub stands_at_number : {D : Type 0} (s : Setup) (o : Order) (os : List Order) (n : ℕ) (walk : Walk D) → Holds s (o ∷ os) walk → walk.position ≡ n → GoesOn (o ∷ os) n →
-    walk.committed ≡ committed_of (o ∷ os) → walk.is_stopped ≡ has_stop (o ∷ os) → Stands s (o ∷ os) walk
+pub stands_at_number : {D : Type 0} (s : Setup) (o : Order) (os : List Order) (n : ℕ) (walk : Walk D) → IsOnPath s (o ∷ os) walk → walk.position ≡ n → GoesOn (o ∷ os) n →
+    walk.committed ≡ committed_of (o ∷ os) → walk.is_stopped ≡ has_stop (o ∷ os) → WalkStandsFor s (o ∷ os) walk
 stands_at_number s o os n walk h here on done stopped =
     let P : ℕ → Type 0 = λ k. GoesOn (o ∷ os) k in
     record { holds = h; done = done; stopped = stopped; on = λ still. subst P (sym here) on }
 
 -- Commit leaves the path
-pub commit_stands : {D : Type 0} (s : Setup) (os : List Order) (n : ℕ) (walk next : Walk D) → Stands s os walk → Holds s os next → next.position ≡ walk.position → next.is_stopped ≡ walk.is_stopped →
-    next.committed ≡ n → Stands s (Commit n ∷ os) next
+pub commit_stands : {D : Type 0} (s : Setup) (os : List Order) (n : ℕ) (walk next : Walk D) → WalkStandsFor s os walk → IsOnPath s os next → next.position ≡ walk.position → next.is_stopped ≡ walk.is_stopped →
+    next.committed ≡ n → WalkStandsFor s (Commit n ∷ os) next
 commit_stands {D} s os n walk next h holds here still done =
-    let P : (ℕ → Arch) → Type 0 = λ p. StandsFor {D = D} s (p next.position) next.contents in
+    let P : (ℕ → Arch) → Type 0 = λ p. ContentsStandFor {D = D} s (p next.position) next.contents in
     let L : (ℕ → Arch) → Type 0 = λ p. LeadsBack (ram_range s.params) p next.committed next.journal.steps in
     let W : (ℕ → Arch) → Type 0 = λ p. length (p next.committed).output ≤ s.output in
     let G : ℕ → Type 0 = λ k. GoesOn os k in
@@ -151,7 +151,7 @@ commit_stands {D} s os n walk next h holds here still done =
     }
 
 -- what is committed has room in the output
-pub within_path : {D : Type 0} (s : Setup) (os : List Order) (walk : Walk D) (n : ℕ) → Stands s os walk → (walk.position < n → walk.is_stopped ≡ false) → walk.committed ≤ n → bytes_before walk n ≤ walk.limit →
+pub within_path : {D : Type 0} (s : Setup) (os : List Order) (walk : Walk D) (n : ℕ) → WalkStandsFor s os walk → (walk.position < n → walk.is_stopped ≡ false) → walk.committed ≤ n → bytes_before walk n ≤ walk.limit →
     length (path s os n).output ≤ s.output
 within_path s os walk n h running from within = omega (arith, bytes_before_is s os walk h n running from, within, h.holds.limit)
 

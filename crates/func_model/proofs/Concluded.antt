@@ -12,7 +12,7 @@ use Rattle.mono_model.specs.Result.{Seen, Result, spot_of, loaded_at, resulting,
 use Rattle.fsim_base.specs.declared.access.Access.{Access}
 use Rattle.fsim_base.specs.declared.access.Access.TheVariants as access
 use Rattle.fsim_base.specs.declared.cause.Cause.{Cause}
-use Rattle.func_model.specs.declared.done.Done.{Done}
+use Rattle.func_model.specs.declared.performed.Performed.{Performed}
 use Rattle.machine_csr.specs.declared.csrs.Csrs.{Csrs}
 use Rattle.undo_journal.specs.declared.past.Change.{Change}
 use Rattle.func_model.specs.Steps.{finished, concluded, outcome_made, outcome_result, plain_with, failed_with, Told}
@@ -38,20 +38,20 @@ pub load_result : (range : RamRange) (e : Seen) (o : Outcome) (addr : ℕ) (widt
 load_result range e o addr width signed none there = rw (none, there) refl
 
 -- what is told of one result is told of an equal one
-pub told_same : (limit : ℕ) (r s : Result) (a : Arch) (done : Done) → r ≡ s → Told limit r a done → Told limit s a done
+pub told_same : (limit : ℕ) (r s : Result) (a : Arch) (done : Performed) → r ≡ s → Told limit r a done → Told limit s a done
 told_same limit r s a done same told =
     let P : Result → Type 0 = λ x. Told limit x a done in
     subst P same told
 
 -- what is told where nothing was reached, and of a trap
-pub told_plain : (limit value next : ℕ) (change : Change) (a : Arch) (done : Done) → done ≡ plain_with change →
+pub told_plain : (limit value next : ℕ) (change : Change) (a : Arch) (done : Performed) → done ≡ plain_with change →
     Told limit (resulting value next access.Nothing) a done
 told_plain limit value next change a done is =
-    let P : Done → Type 0 = λ x. Told limit (resulting value next access.Nothing) a x in
+    let P : Performed → Type 0 = λ x. Told limit (resulting value next access.Nothing) a x in
     subst P (sym is) (record { stepped = refl; sent = refl; access = refl; cause = refl })
 
-pub told_failed : (limit next : ℕ) (tried : Access) (cause : Cause) (mtval : ℕ) (before : Csrs) (a : Arch) (done : Done) → done ≡ failed_with tried cause before →
+pub told_failed : (limit next : ℕ) (tried : Access) (cause : Cause) (mtval : ℕ) (before : Csrs) (a : Arch) (done : Performed) → done ≡ failed_with tried cause before →
     Told limit (failing_access next tried cause mtval) a done
 told_failed limit next tried cause mtval before a done is =
-    let P : Done → Type 0 = λ x. Told limit (failing_access next tried cause mtval) a x in
+    let P : Performed → Type 0 = λ x. Told limit (failing_access next tried cause mtval) a x in
     subst P (sym is) (record { stepped = refl; sent = refl; access = refl; cause = refl })

@@ -10,14 +10,14 @@ use Rattle.mono_model.specs.Path.{path}
 use Rattle.func_model.specs.declared.contents.Contents.{Contents}
 use Rattle.func_model.specs.declared.walk.Walk.{Walk}
 use Rattle.func_model.specs.Undo.{undone, IsRestorable}
-use Rattle.func_model.specs.Contents.{StandsFor}
-use Rattle.func_model.specs.Walk.{IsStep, LeadsBack, Holds, Stands, IsSameBut, IsHolding, IsStanding}
+use Rattle.func_model.specs.Contents.{ContentsStandFor}
+use Rattle.func_model.specs.Walk.{IsStep, LeadsBack, IsOnPath, WalkStandsFor, IsSameBut, IsOnSomePath, IsStanding}
 use Rattle.func_model.proofs.Leading.{leads_less, leads_from, length_from}
 use Rattle.func_model.proofs.Walking.{one_longer}
 
 -- what holds as instructions are taken back until `n` is the next one
 pub record Backing {D : Type 0} (n : ℕ) (opened walk : Walk D) : Type 0 where
-  pub holds : (s : Setup) (os : List Order) → Holds s os opened → Holds s os walk
+  pub holds : (s : Setup) (os : List Order) → IsOnPath s os opened → IsOnPath s os walk
   pub others : IsSameBut opened walk
   pub within : walk.position ≤ opened.position
   pub above : n < opened.position → n ≤ walk.position
@@ -33,7 +33,7 @@ backing_start n walk = record {
 }
 
 -- the journal's newest step, where the position is above what is committed
-last_step : {D : Type 0} (s : Setup) (os : List Order) (walk : Walk D) (steps : List Past) (past : Past) → Holds s os walk → walk.committed < walk.position → walk.journal.steps ≡ steps ++ past ∷ [] →
+last_step : {D : Type 0} (s : Setup) (os : List Order) (walk : Walk D) (steps : List Past) (past : Past) → IsOnPath s os walk → walk.committed < walk.position → walk.journal.steps ≡ steps ++ past ∷ [] →
     LeadsBack (ram_range s.params) (path s os) walk.committed steps × IsStep (ram_range s.params) (path s os) (walk.position - 1) past
 last_step s os walk steps past h above is =
     let L : List Past → Type 0 = λ xs. LeadsBack (ram_range s.params) (path s os) walk.committed xs in
@@ -46,13 +46,13 @@ last_step s os walk steps past h above is =
     place : (committed position count whole : ℕ) → committed < position → whole ≡ position - committed → whole ≡ count + 1 → committed + count ≡ position - 1
     place committed position count whole above held is = omega arith
 
-pub last_restorable : {D : Type 0} (n : ℕ) (opened walk : Walk D) (journal : Log) (past : Past) → IsHolding opened → opened.committed ≤ n → Backing n opened walk → n < walk.position →
+pub last_restorable : {D : Type 0} (n : ℕ) (opened walk : Walk D) (journal : Log) (past : Past) → IsOnSomePath opened → opened.committed ≤ n → Backing n opened walk → n < walk.position →
     walk.journal ≡ record journal { steps = journal.steps ++ past ∷ [] } → IsRestorable past
 last_restorable n opened walk journal past holding from at more is =
     (last_step holding.setup holding.orders walk journal.steps past (at.holds holding.setup holding.orders holding.holds) (omega (arith, at.others.committed)) (ap (λ (j : Log). j.steps) is)).1.restorable
 
 -- there is such a step
-pub not_empty : {A : Type 0} {D : Type 0} (n : ℕ) (opened walk : Walk D) → IsHolding opened → opened.committed ≤ n → Backing n opened walk → n < walk.position → walk.journal.steps ≡ [] → A
+pub not_empty : {A : Type 0} {D : Type 0} (n : ℕ) (opened walk : Walk D) → IsOnSomePath opened → opened.committed ≤ n → Backing n opened walk → n < walk.position → walk.journal.steps ≡ [] → A
 not_empty n opened walk holding from at more empty =
     let h = at.holds holding.setup holding.orders holding.holds in
     let none : length walk.journal.steps ≡ 0 = ap (length {A = Past}) empty in
@@ -61,15 +61,15 @@ not_empty n opened walk holding from at more empty =
 -- one instruction is taken back
 pub backing_more : {D : Type 0} (n : ℕ) (opened walk : Walk D) (contents : Contents D) (journal : Log) (past : Past) → opened.committed ≤ n → Backing n opened walk → n < walk.position →
     walk.journal ≡ record journal { steps = journal.steps ++ past ∷ [] } →
-    ((s : Setup) (a : Arch) → StandsFor s a walk.contents → StandsFor s (undone (ram_range s.params) past a) contents) → contents.hart.room ≡ walk.contents.hart.room →
+    ((s : Setup) (a : Arch) → ContentsStandFor s a walk.contents → ContentsStandFor s (undone (ram_range s.params) past a) contents) → contents.hart.room ≡ walk.contents.hart.room →
     Backing n opened (record walk { contents = contents; journal = journal; position = walk.position - 1 })
 backing_more {D} n opened walk contents journal past from at more is stands space =
     let steps : walk.journal.steps ≡ journal.steps ++ past ∷ [] = ap (λ (j : Log). j.steps) is in
     let above : walk.committed < walk.position = omega (arith, at.others.committed) in
-    let back : (s : Setup) (os : List Order) → Holds s os opened → Holds s os (record walk { contents = contents; journal = journal; position = walk.position - 1 }) = λ s os h.
-    let now : Holds s os walk = at.holds s os h in
+    let back : (s : Setup) (os : List Order) → IsOnPath s os opened → IsOnPath s os (record walk { contents = contents; journal = journal; position = walk.position - 1 }) = λ s os h.
+    let now : IsOnPath s os walk = at.holds s os h in
     let last = last_step s os walk journal.steps past now above steps in
-    let P : Arch → Type 0 = λ a. StandsFor {D = D} s a contents in
+    let P : Arch → Type 0 = λ a. ContentsStandFor {D = D} s a contents in
     let next : walk.position ≡ suc (walk.position - 1) = omega arith in
     record {
       contents = subst P (ap (undone (ram_range s.params) past) (ap (path s os) next) ∙ last.1.back) (stands s (path s os walk.position) now.contents);
@@ -95,7 +95,7 @@ backing_more {D} n opened walk contents journal past from at more is stands spac
 
 -- what holds as instructions are executed until `n` is the next one
 pub record Onward {D : Type 0} (n : ℕ) (opened walk : Walk D) : Type 0 where
-  pub stands : (s : Setup) (os : List Order) → Stands s os opened → Stands s os walk
+  pub stands : (s : Setup) (os : List Order) → WalkStandsFor s os opened → WalkStandsFor s os walk
   pub others : IsSameBut opened walk
   pub from : opened.position ≤ walk.position
   pub below : opened.position ≤ n → walk.position ≤ n
@@ -115,7 +115,7 @@ onward_standing n opened walk standing at =
     record { setup = standing.setup; orders = standing.orders; stands = at.stands standing.setup standing.orders standing.stands }
 
 pub onward_more : {D : Type 0} (n : ℕ) (opened walk next : Walk D) → Onward n opened walk → walk.position < n →
-    ((s : Setup) (os : List Order) → Stands s os walk → Stands s os next) → next.position ≡ walk.position + 1 → IsSameBut walk next → Onward n opened next
+    ((s : Setup) (os : List Order) → WalkStandsFor s os walk → WalkStandsFor s os next) → next.position ≡ walk.position + 1 → IsSameBut walk next → Onward n opened next
 onward_more {D} n opened walk next at less stands further others = record {
   stands = λ s os h. stands s os (at.stands s os h);
   others = record {
@@ -131,9 +131,9 @@ onward_more {D} n opened walk next at less stands further others = record {
 }
 
 -- more is committed
-pub committed_holds : {D : Type 0} (s : Setup) (os : List Order) (walk : Walk D) (n : ℕ) (journal : Log) → Holds s os walk → walk.committed ≤ n →
+pub committed_holds : {D : Type 0} (s : Setup) (os : List Order) (walk : Walk D) (n : ℕ) (journal : Log) → IsOnPath s os walk → walk.committed ≤ n →
     journal ≡ record walk.journal { steps = from_number n walk.journal.steps } → length (path s os n).output ≤ s.output →
-    Holds s os (record walk { journal = journal; committed = n })
+    IsOnPath s os (record walk { journal = journal; committed = n })
 committed_holds s os walk n journal h from is within =
     let steps : journal.steps ≡ from_number n walk.journal.steps = ap (λ (j : Log). j.steps) is in
     let L : List Past → Type 0 = λ xs. LeadsBack (ram_range s.params) (path s os) n xs in

@@ -23,7 +23,7 @@ use Rattle.func_model.specs.declared.walk.Walk.{Walk}
 use Rattle.func_model.specs.Hart.{arch_of, found_by}
 use Rattle.func_model.specs.Contents.{output_in}
 use Rattle.func_model.specs.Undo.{undone, shortened}
-use Rattle.func_model.specs.Walk.{LeadsBack, Stands, given_at, seq_by, ahead, bytes_sent, bytes_before}
+use Rattle.func_model.specs.Walk.{LeadsBack, WalkStandsFor, given_at, seq_by, ahead, bytes_sent, bytes_before}
 use Rattle.mono_model.proofs.Path.{path_next, goes_on_after}
 use Rattle.func_model.proofs.Leading.{leads_from, length_from}
 
@@ -134,7 +134,7 @@ unfolding arch_of
 output_is walk a is = ap (λ (x : Arch). x.output) is
 
 -- the bytes before an instruction are those of the path
-pub bytes_before_is : {D : Type 0} (s : Setup) (os : List Order) (walk : Walk D) → Stands s os walk → (n : ℕ) → (walk.position < n → walk.is_stopped ≡ false) → walk.committed ≤ n →
+pub bytes_before_is : {D : Type 0} (s : Setup) (os : List Order) (walk : Walk D) → WalkStandsFor s os walk → (n : ℕ) → (walk.position < n → walk.is_stopped ≡ false) → walk.committed ≤ n →
     bytes_before walk n ≡ length (path s os n).output
 unfolding bytes_before
 bytes_before_is {D} s os walk stands n running from = elim (cases_lt walk.position n) [

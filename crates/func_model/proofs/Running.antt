@@ -15,17 +15,17 @@ use Rattle.mono_model.specs.Effect.{effect, note_of, is_fence_result}
 use Rattle.mono_model.specs.Sequence.{found_next, result_at}
 use Rattle.mono_model.specs.Final.{end_of, has_ended}
 use Rattle.mono_model.specs.Alone.{Alone, alone, alone_final, alone-suc, alone_start, alone_step, after_interrupt, instruction, has_no_room, with_fence, end_after, count_cause, is_pending}
-use Rattle.func_model.specs.declared.done.Stepped.{Stepped}
-use Rattle.func_model.specs.declared.done.Stepped.TheVariants as code
+use Rattle.func_model.specs.declared.performed.Stepped.{Stepped}
+use Rattle.func_model.specs.declared.performed.Stepped.TheVariants as code
 use Rattle.func_model.specs.declared.contents.Contents.{Contents}
 use Rattle.func_model.specs.Steps.{is_full, stepped_by}
-use Rattle.func_model.specs.Contents.{StandsFor, retired_in, after_instruction, before}
+use Rattle.func_model.specs.Contents.{ContentsStandFor, retired_in, after_instruction, before}
 use Rattle.func_model.specs.Hart.{arch_of}
 use Rattle.func_model.proofs.Counts.{effect_retired}
 
 -- a side at a state of the run that goes on with step `made`, unless that is past the limit
 pub record RunsAt {D : Type 0} (s : Setup) (m : Alone) (made count : ℕ) (side : Contents D) : Type 0 where
-  pub stands : StandsFor s m.arch side
+  pub stands : ContentsStandFor s m.arch side
   pub steps : m.steps ≡ made
   pub taken : m.interrupts ≡ count
   pub end : m.end ≡ (if made == s.cycles then end.Limit else end.Running)
@@ -35,7 +35,7 @@ pub record Invariant {D : Type 0} (limit most made count : ℕ) (opened side : C
   pub retired_bound : retired_in side ≤ made
   pub count_bound : count ≤ made
   pub room : side.hart.room ≡ opened.hart.room
-  pub running : (s : Setup) → s.cycles ≡ limit → s.output ≡ most → StandsFor s (start s) opened → RunsAt s (alone s made) made count side
+  pub running : (s : Setup) → s.cycles ≡ limit → s.output ≡ most → ContentsStandFor s (start s) opened → RunsAt s (alone s made) made count side
 
 -- how the answer of a step tells of its note
 out_on : (full : Bool) → (if full then code.Full else code.On) ≡ code.On → full ≡ false
@@ -102,11 +102,11 @@ behind_next s m = after_instruction s (found_next s m.arch) (result_at s (Some m
 
 -- a step that goes on
 pub step_on : {D : Type 0} (s : Setup) (m : Alone) (count : ℕ) (side : Contents D) → m.interrupts ≡ count → stepped_by s.output m.arch.output (note_next s m) ≡ code.On →
-    StandsFor s (behind_next s m) side → RunsAt s (instruction s m) (m.steps + 1) count side
+    ContentsStandFor s (behind_next s m) side → RunsAt s (instruction s m) (m.steps + 1) count side
 step_on {D} s m count side taken on h =
     let room : has_no_room s (note_next s m) m.arch ≡ false = on_room s (note_next s m) m.arch on in
     let space : is_full s.output m.arch.output (note_next s m) ≡ false = on_full s (note_next s m) m.arch on in
-    let P : Arch → Type 0 = λ a. StandsFor {D = D} s a side in
+    let P : Arch → Type 0 = λ a. ContentsStandFor {D = D} s a side in
     record {
       stands = rw room (rw space at h);
       steps = rw room refl;
@@ -116,20 +116,20 @@ step_on {D} s m count side taken on h =
 
 -- a step that ends the run: the side stands behind it
 pub record Stopped {D : Type 0} (s : Setup) (m : Alone) (made count : ℕ) (how : End) (side : Contents D) : Type 0 where
-  pub stands : StandsFor s m.arch side
+  pub stands : ContentsStandFor s m.arch side
   pub steps : m.steps ≡ made
   pub taken : m.interrupts ≡ count
   pub end : m.end ≡ how
 
 pub step_full : {D : Type 0} (s : Setup) (m : Alone) (count : ℕ) (side : Contents D) → m.interrupts ≡ count → stepped_by s.output m.arch.output (note_next s m) ≡ code.Full →
-    StandsFor s (behind_next s m) side → Stopped s (instruction s m) m.steps count end.OutputFull side
+    ContentsStandFor s (behind_next s m) side → Stopped s (instruction s m) m.steps count end.OutputFull side
 step_full {D} s m count side taken full h =
     let room : has_no_room s (note_next s m) m.arch ≡ true = full_room s (note_next s m) m.arch full in
     let space : is_full s.output m.arch.output (note_next s m) ≡ true = full_full s (note_next s m) m.arch full in
     record { stands = rw room (rw space at h); steps = rw room refl; taken = rw room taken; end = rw room refl }
 
 pub step_ended : {D : Type 0} (s : Setup) (m : Alone) (count : ℕ) (halt : Halt) (side : Contents D) → m.interrupts ≡ count → stepped_by s.output m.arch.output (note_next s m) ≡ code.Ended halt →
-    StandsFor s (behind_next s m) side → Stopped s (instruction s m) (m.steps + 1) count (end_of halt) side
+    ContentsStandFor s (behind_next s m) side → Stopped s (instruction s m) (m.steps + 1) count (end_of halt) side
 step_ended {D} s m count halt side taken ended h =
     let room : has_no_room s (note_next s m) m.arch ≡ false = ended_room s (note_next s m) m.arch halt ended in
     let space : is_full s.output m.arch.output (note_next s m) ≡ false = ended_full s (note_next s m) m.arch halt ended in
@@ -192,7 +192,7 @@ alone_goes_on s n going = ap (alone s) (add-one n) ∙ alone-suc s n ∙ going_s
 
 -- the state behind the interrupt
 pub record Ready {D : Type 0} (s : Setup) (m : Alone) (made count : ℕ) (side : Contents D) : Type 0 where
-  pub stands : StandsFor s m.arch side
+  pub stands : ContentsStandFor s m.arch side
   pub steps : m.steps ≡ made
   pub taken : m.interrupts ≡ count
 
@@ -209,9 +209,9 @@ if_taken true m = refl
 if_taken false m = sym (add-zero m.interrupts)
 
 pub interrupt_ready : {D : Type 0} (s : Setup) (m : Alone) (made count one : ℕ) (side : Contents D) → m.steps ≡ made → m.interrupts ≡ count →
-    one ≡ (if timer_pending m.arch.csrs made (compare_of m.arch.devices) then 1 else 0) → StandsFor s (before made m.arch) side → Ready s (after_interrupt m) made (count + one) side
+    one ≡ (if timer_pending m.arch.csrs made (compare_of m.arch.devices) then 1 else 0) → ContentsStandFor s (before made m.arch) side → Ready s (after_interrupt m) made (count + one) side
 interrupt_ready {D} s m made count one side steps taken pending h =
-    let P : Arch → Type 0 = λ a. StandsFor {D = D} s a side in
+    let P : Arch → Type 0 = λ a. ContentsStandFor {D = D} s a side in
     let arch : before made m.arch ≡ (after_interrupt m).arch = ap (λ (k : ℕ). before k m.arch) (sym steps) ∙ sym (if_arch (is_pending m) m) in
     record {
       stands = subst P arch h;
@@ -226,28 +226,28 @@ stepped_at : (s : Setup) (m : Alone) (made : ℕ) (answer : Stepped) → m.steps
 stepped_at s m made answer steps is = is ∙ ap (λ (k : ℕ). stepped_by s.output m.arch.output (note_of (result_at s (Some k) m.arch) m.arch)) (sym steps)
 
 stands_at : {D : Type 0} (s : Setup) (m : Alone) (made : ℕ) (side : Contents D) → m.steps ≡ made →
-    StandsFor s (after_instruction s (found_next s m.arch) (result_at s (Some made) m.arch) made m.arch) side → StandsFor s (behind_next s m) side
+    ContentsStandFor s (after_instruction s (found_next s m.arch) (result_at s (Some made) m.arch) made m.arch) side → ContentsStandFor s (behind_next s m) side
 stands_at {D} s m made side steps h =
-    let P : ℕ → Type 0 = λ k. StandsFor {D = D} s (after_instruction s (found_next s m.arch) (result_at s (Some k) m.arch) k m.arch) side in
+    let P : ℕ → Type 0 = λ k. ContentsStandFor {D = D} s (after_instruction s (found_next s m.arch) (result_at s (Some k) m.arch) k m.arch) side in
     subst P (sym steps) h
 
 pub goes_on : {D : Type 0} (s : Setup) (m : Alone) (made count : ℕ) (answer : Stepped) (ready_side side : Contents D) → Ready s m made count ready_side →
     answer ≡ stepped_by s.output m.arch.output (note_of (result_at s (Some made) m.arch) m.arch) →
-    StandsFor s (after_instruction s (found_next s m.arch) (result_at s (Some made) m.arch) made m.arch) side → answer ≡ code.On → RunsAt s (instruction s m) (made + 1) count side
+    ContentsStandFor s (after_instruction s (found_next s m.arch) (result_at s (Some made) m.arch) made m.arch) side → answer ≡ code.On → RunsAt s (instruction s m) (made + 1) count side
 goes_on {D} s m made count answer ready_side side ready is h on =
     let P : ℕ → Type 0 = λ k. RunsAt {D = D} s (instruction s m) (k + 1) count side in
     subst P ready.steps (step_on s m count side ready.taken (sym (stepped_at s m made answer ready.steps is) ∙ on) (stands_at s m made side ready.steps h))
 
 pub stops_full : {D : Type 0} (s : Setup) (m : Alone) (made count : ℕ) (answer : Stepped) (ready_side side : Contents D) → Ready s m made count ready_side →
     answer ≡ stepped_by s.output m.arch.output (note_of (result_at s (Some made) m.arch) m.arch) →
-    StandsFor s (after_instruction s (found_next s m.arch) (result_at s (Some made) m.arch) made m.arch) side → answer ≡ code.Full → Stopped s (instruction s m) made count end.OutputFull side
+    ContentsStandFor s (after_instruction s (found_next s m.arch) (result_at s (Some made) m.arch) made m.arch) side → answer ≡ code.Full → Stopped s (instruction s m) made count end.OutputFull side
 stops_full {D} s m made count answer ready_side side ready is h full =
     let P : ℕ → Type 0 = λ k. Stopped {D = D} s (instruction s m) k count end.OutputFull side in
     subst P ready.steps (step_full s m count side ready.taken (sym (stepped_at s m made answer ready.steps is) ∙ full) (stands_at s m made side ready.steps h))
 
 pub stops_ended : {D : Type 0} (s : Setup) (m : Alone) (made count : ℕ) (halt : Halt) (answer : Stepped) (ready_side side : Contents D) → Ready s m made count ready_side →
     answer ≡ stepped_by s.output m.arch.output (note_of (result_at s (Some made) m.arch) m.arch) →
-    StandsFor s (after_instruction s (found_next s m.arch) (result_at s (Some made) m.arch) made m.arch) side → answer ≡ code.Ended halt → Stopped s (instruction s m) (made + 1) count (end_of halt) side
+    ContentsStandFor s (after_instruction s (found_next s m.arch) (result_at s (Some made) m.arch) made m.arch) side → answer ≡ code.Ended halt → Stopped s (instruction s m) (made + 1) count (end_of halt) side
 stops_ended {D} s m made count halt answer ready_side side ready is h ended =
     let P : ℕ → Type 0 = λ k. Stopped {D = D} s (instruction s m) (k + 1) count (end_of halt) side in
     subst P ready.steps (step_ended s m count halt side ready.taken (sym (stepped_at s m made answer ready.steps is) ∙ ended) (stands_at s m made side ready.steps h))
@@ -272,18 +272,18 @@ whole_is s limit made within ended =
     let split : limit ≡ (limit - (made + 1)) + (made + 1) = omega arith in
     ap (alone s) split ∙ alone_stays s (made + 1) (limit - (made + 1)) ended
 
-pub stands_retired : {D : Type 0} (s : Setup) (a : Arch) (side : Contents D) → StandsFor s a side → retired_in side ≡ a.csrs.retired
+pub stands_retired : {D : Type 0} (s : Setup) (a : Arch) (side : Contents D) → ContentsStandFor s a side → retired_in side ≡ a.csrs.retired
 unfolding arch_of
 stands_retired s a side h = ap (λ (x : Arch). x.csrs.retired) h.arch
 
 -- what one step of the side ensures in a run
 pub record Steps {D : Type 0} (s : Setup) (made one : ℕ) (answer : Stepped) (now mid next : Contents D) : Type 0 where
-  pub pending : (a : Arch) → StandsFor s a now → one ≡ (if timer_pending a.csrs made (compare_of a.devices) then 1 else 0)
-  pub interrupted : (a : Arch) → StandsFor s a now → StandsFor s (before made a) mid
-  pub stepped : (a : Arch) → StandsFor s a mid → answer ≡ stepped_by s.output a.output (note_of (result_at s (Some made) a) a)
-  pub stands : (a : Arch) → StandsFor s a mid → StandsFor s (after_instruction s (found_next s a) (result_at s (Some made) a) made a) next
+  pub pending : (a : Arch) → ContentsStandFor s a now → one ≡ (if timer_pending a.csrs made (compare_of a.devices) then 1 else 0)
+  pub interrupted : (a : Arch) → ContentsStandFor s a now → ContentsStandFor s (before made a) mid
+  pub stepped : (a : Arch) → ContentsStandFor s a mid → answer ≡ stepped_by s.output a.output (note_of (result_at s (Some made) a) a)
+  pub stands : (a : Arch) → ContentsStandFor s a mid → ContentsStandFor s (after_instruction s (found_next s a) (result_at s (Some made) a) made a) next
 
-pub starts : {D : Type 0} (s : Setup) (limit : ℕ) (side : Contents D) → 1 ≤ limit → s.cycles ≡ limit → StandsFor s (start s) side → RunsAt s (alone s 0) 0 0 side
+pub starts : {D : Type 0} (s : Setup) (limit : ℕ) (side : Contents D) → 1 ≤ limit → s.cycles ≡ limit → ContentsStandFor s (start s) side → RunsAt s (alone s 0) 0 0 side
 unfolding alone alone_start
 starts s limit side some is h = record { stands = h; steps = refl; taken = refl; end = ap (λ (b : Bool). if b then end.Limit else end.Running) (sym off) }
   where
@@ -328,21 +328,21 @@ runs_ended {D} s made count one halt answer now mid next below at step ended =
 -- what is reported of a run that stopped behind step `made`
 pub reports : {D : Type 0} (s : Setup) (limit made steps count : ℕ) (how : End) (result : Final) (side : Contents D) → made + 1 ≤ limit → has_ended how ≡ true →
     Stopped s (alone s (made + 1)) steps count how side →
-    ((m : Alone) → StandsFor s m.arch side → m.end ≡ how → m.interrupts ≡ count → m.exceptions ≡ steps - retired_in side → result ≡ alone_final m) → result ≡ alone_final (alone s limit)
+    ((m : Alone) → ContentsStandFor s m.arch side → m.end ≡ how → m.interrupts ≡ count → m.exceptions ≡ steps - retired_in side → result ≡ alone_final m) → result ≡ alone_final (alone s limit)
 reports s limit made steps count how result side within ended at report =
     let m : Alone = alone s (made + 1) in
     report m at.stands at.end at.taken (exceptions_are m steps (retired_in side) (alone_adds s (made + 1)) at.steps (stands_retired s m.arch side at.stands))
     ∙ sym (ap alone_final (whole_is s limit made within (ap has_ended at.end ∙ ended)))
 
 pub rests : {D : Type 0} (s : Setup) (limit made steps count : ℕ) (how : End) (side : Contents D) → made + 1 ≤ limit → has_ended how ≡ true →
-    Stopped s (alone s (made + 1)) steps count how side → StandsFor s (alone s limit).arch side
+    Stopped s (alone s (made + 1)) steps count how side → ContentsStandFor s (alone s limit).arch side
 rests {D} s limit made steps count how side within ended at =
-    let P : Alone → Type 0 = λ m. StandsFor {D = D} s m.arch side in
+    let P : Alone → Type 0 = λ m. ContentsStandFor {D = D} s m.arch side in
     subst P (sym (whole_is s limit made within (ap has_ended at.end ∙ ended))) at.stands
 
 -- a run that reached its limit
 pub limit_reports : {D : Type 0} (s : Setup) (limit made count : ℕ) (result : Final) (side : Contents D) → made ≡ limit → s.cycles ≡ limit → RunsAt s (alone s made) made count side →
-    ((m : Alone) → StandsFor s m.arch side → m.end ≡ end.Limit → m.interrupts ≡ count → m.exceptions ≡ limit - retired_in side → result ≡ alone_final m) → result ≡ alone_final (alone s limit)
+    ((m : Alone) → ContentsStandFor s m.arch side → m.end ≡ end.Limit → m.interrupts ≡ count → m.exceptions ≡ limit - retired_in side → result ≡ alone_final m) → result ≡ alone_final (alone s limit)
 limit_reports s limit made count result side all is at report =
     let m : Alone = alone s made in
     let same : (made == s.cycles) ≡ true = grind (arith, common_steps) in

@@ -11,25 +11,25 @@ use Rattle.mono_model.specs.Found.{Found, word_in, class_in}
 use Rattle.mono_model.specs.Result.{Result, is_time_read}
 use Rattle.mono_model.specs.Effect.{note_of}
 use Rattle.mono_model.specs.Sequence.{seq, entry_at, found_next, result_at, halt_in}
-use Rattle.func_model.specs.declared.done.Done.{Done}
-use Rattle.func_model.specs.declared.done.Stepped.TheVariants as code
+use Rattle.func_model.specs.declared.performed.Performed.{Performed}
+use Rattle.func_model.specs.declared.performed.Stepped.TheVariants as code
 use Rattle.func_model.specs.Steps.{behind, result_of, stepped_by, Told}
 use Rattle.func_model.specs.Undo.{undone, past_of, TakesBack, ended_in}
 use Rattle.func_model.proofs.Advance.{result_same}
 use Rattle.func_model.proofs.Undone.{behind_effect, undone_execute}
 
 -- an instruction that was executed at a state, with what was told of it and the state behind it
-pub record Executed (s : Setup) (time : Option ℕ) (limit : ℕ) (a : Arch) (found : Found) (done : Done) (b : Arch) : Type 0 where
+pub record Executed (s : Setup) (time : Option ℕ) (limit : ℕ) (a : Arch) (found : Found) (done : Performed) (b : Arch) : Type 0 where
   pub found_is : found ≡ found_next s a
   pub told : Told limit (result_at s time a) a done
   pub made : b ≡ behind limit (found_next s a) (result_at s time a) time a
   pub room : length a.output < limit
 
-abbrev pub Ensured : ℕ → Option ℕ → Done → Arch → RamRange → Found → Arch → Type 0
+abbrev pub Ensured : ℕ → Option ℕ → Performed → Arch → RamRange → Found → Arch → Type 0
 Ensured limit time done b range found x = Told limit (result_of range found time x) x done × (b ≡ behind limit found (result_of range found time x) time x)
 
 -- by what the hart ensures, at its state
-pub executed_at : (s : Setup) (time : Option ℕ) (limit : ℕ) (range : RamRange) (found : Found) (x a b : Arch) (done : Done) → x ≡ a → range ≡ ram_range s.params → found ≡ found_next s a →
+pub executed_at : (s : Setup) (time : Option ℕ) (limit : ℕ) (range : RamRange) (found : Found) (x a b : Arch) (done : Performed) → x ≡ a → range ≡ ram_range s.params → found ≡ found_next s a →
     Told limit (result_of range found time x) x done → b ≡ behind limit found (result_of range found time x) time x → length x.output < limit → Executed s time limit a found done b
 executed_at s time limit range found x a b done here in_range found_is told made room =
     let X : Arch → Type 0 = λ y. Ensured limit time done b range found y in
@@ -47,7 +47,7 @@ executed_at s time limit range found x a b done here in_range found_is told made
     }
 
 -- the state behind it
-pub executed_seq : (s : Setup) (time : Option ℕ) (limit : ℕ) (a : Arch) (found : Found) (done : Done) (b : Arch) → Executed s time limit a found done b → b ≡ seq s time a
+pub executed_seq : (s : Setup) (time : Option ℕ) (limit : ℕ) (a : Arch) (found : Found) (done : Performed) (b : Arch) → Executed s time limit a found done b → b ≡ seq s time a
 unfolding seq
 executed_seq s time limit a found done b e = e.made ∙ behind_effect limit (found_next s a) (result_at s time a) time a e.room
 
@@ -61,7 +61,7 @@ ended_is limit output note.Nothing = refl
 ended_is limit output (note.Out byte) = ended_full (nat_le limit (length output))
 ended_is limit output (note.End halt) = refl
 
-pub entry_told : (s : Setup) (time : Option ℕ) (limit number epoch : ℕ) (a : Arch) (found : Found) (done : Done) (b : Arch) → Executed s time limit a found done b →
+pub entry_told : (s : Setup) (time : Option ℕ) (limit number epoch : ℕ) (a : Arch) (found : Found) (done : Performed) (b : Arch) → Executed s time limit a found done b →
     record {
       number = number;
       epoch = epoch;
@@ -97,7 +97,7 @@ entry_told s time limit number epoch a found done b e =
     }
 
 -- what takes it back, from the state behind it
-pub back_from : (s : Setup) (time : Option ℕ) (limit number : ℕ) (range : RamRange) (found : Found) (r : Result) (x a b : Arch) (done : Done) (past : Past) → x ≡ a → range ≡ ram_range s.params →
+pub back_from : (s : Setup) (time : Option ℕ) (limit number : ℕ) (range : RamRange) (found : Found) (r : Result) (x a b : Arch) (done : Performed) (past : Past) → x ≡ a → range ≡ ram_range s.params →
     past ≡ past_of number found x done → Told limit r x done → b ≡ behind limit found r time x → TakesBack range done x b → length x.output < limit → b ≡ seq s time a →
     undone (ram_range s.params) past (seq s time a) ≡ a
 back_from s time limit number range found r x a b done past here in_range is told made back room next =

@@ -8,15 +8,15 @@ use Rattle.undo_journal.specs.declared.past.Change.{Change}
 use Rattle.undo_journal.specs.declared.past.Change.TheVariants.{Nothing, Memory, Device, System}
 use Rattle.mono_model.specs.Arch.{Arch}
 use Rattle.mono_model.specs.Effect.{counted, with_note}
-use Rattle.func_model.specs.declared.done.Done.{Done}
-use Rattle.func_model.specs.declared.done.Stepped.{Stepped}
-use Rattle.func_model.specs.declared.done.Stepped.TheVariants as code
+use Rattle.func_model.specs.declared.performed.Performed.{Performed}
+use Rattle.func_model.specs.declared.performed.Stepped.{Stepped}
+use Rattle.func_model.specs.declared.performed.Stepped.TheVariants as code
 use Rattle.func_model.specs.Steps.{finished, stepped_by, concluded}
 use Rattle.func_model.specs.Undo.{memory_back, devices_back, csrs_back, uncounted, is_executed, IsRestorableChange, IsOfLoad, TakesBack}
 use Rattle.func_model.proofs.Undone.{counted_back}
 
 -- an instruction that changed nothing but a register
-pub plain_back : (range : RamRange) (done : Done) (a b : Arch) → done.change ≡ Nothing → b.ram ≡ a.ram → b.devices ≡ a.devices → b.csrs ≡ counted a.csrs → TakesBack range done a b
+pub plain_back : (range : RamRange) (done : Performed) (a b : Arch) → done.change ≡ Nothing → b.ram ≡ a.ram → b.devices ≡ a.devices → b.csrs ≡ counted a.csrs → TakesBack range done a b
 plain_back range done a b is memory devices counts = rw is record {
   memory = memory;
   devices = devices;
@@ -25,7 +25,7 @@ plain_back range done a b is memory devices counts = rw is record {
 }
 
 -- a load
-pub load_back : (range : RamRange) (change : Change) (done : Done) (a b : Arch) → done.change ≡ change → IsOfLoad change → b.ram ≡ a.ram → devices_back change b.devices ≡ a.devices →
+pub load_back : (range : RamRange) (change : Change) (done : Performed) (a b : Arch) → done.change ≡ change → IsOfLoad change → b.ram ≡ a.ram → devices_back change b.devices ≡ a.devices →
     b.csrs ≡ counted a.csrs → IsRestorableChange change → TakesBack range done a b
 load_back range Nothing done a b is of_load memory devices counts exists = plain_back range done a b is memory devices counts
 load_back range (Device device undo) done a b is of_load memory devices counts exists = rw is record {
@@ -38,7 +38,7 @@ load_back range (Memory addr width old) done a b is of_load memory devices count
 load_back range (System before) done a b is of_load memory devices counts exists = absurd of_load
 
 -- a store to RAM
-pub stored_back : (range : RamRange) (change : Change) (done : Done) (a b : Arch) → done.change ≡ change → memory_back range change b.ram ≡ a.ram → devices_back change b.devices ≡ a.devices →
+pub stored_back : (range : RamRange) (change : Change) (done : Performed) (a b : Arch) → done.change ≡ change → memory_back range change b.ram ≡ a.ram → devices_back change b.devices ≡ a.devices →
     csrs_back change b.csrs ≡ uncounted b.csrs → b.csrs ≡ counted a.csrs → IsRestorableChange change → TakesBack range done a b
 stored_back range change done a b is memory devices alike counts exists = rw is record {
   memory = memory;

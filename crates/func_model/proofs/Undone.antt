@@ -13,7 +13,7 @@ use Rattle.mono_model.specs.Result.{Result}
 use Rattle.mono_model.specs.Effect.{counted, effect, effect_by, retired, note_of, with_note}
 use Rattle.machine_csr.specs.declared.csrs.Csrs.{Csrs}
 use Rattle.mono_model.specs.Sequence.{byte_in}
-use Rattle.func_model.specs.declared.done.Done.{Done}
+use Rattle.func_model.specs.declared.performed.Performed.{Performed}
 use Rattle.func_model.specs.declared.found.Fetched.{Fetched}
 use Rattle.func_model.specs.declared.found.Fetched.TheVariants as fetched
 use Rattle.func_model.specs.Hart.{found_in, FetchedFits, IsDestination}
@@ -100,7 +100,7 @@ same_parts : (a : Arch) (regs ram text : ℕ → ℕ) (csrs : Csrs) (devices : D
 same_parts a regs ram text csrs devices output r m t c d o = λ i. record { pc = a.pc; regs = r i; ram = m i; text = t i; csrs = c i; devices = d i; output = o i }
 
 -- the undo step of an instruction that was executed leads back to the state before it
-pub undone_execute : (range : RamRange) (number : ℕ) (found : Found) (r : Result) (time : Option ℕ) (limit : ℕ) (a b : Arch) (done : Done) →
+pub undone_execute : (range : RamRange) (number : ℕ) (found : Found) (r : Result) (time : Option ℕ) (limit : ℕ) (a b : Arch) (done : Performed) →
     Told limit r a done → b ≡ behind limit found r time a → TakesBack range done a b → length a.output < limit → undone range (past_of number found a done) b ≡ a
 unfolding undone
 undone_execute range number found r time limit a b done told made back room =
@@ -123,7 +123,7 @@ fetched_exists (fetched.Refused cause) fits = tt
 fetched_exists (fetched.Unknown word) fits = tt
 fetched_exists (fetched.Known word insn) fits = destination_exists insn fits
 
-pub past_restorable : (range : RamRange) (number : ℕ) (what : Fetched) (a b : Arch) (done : Done) → FetchedFits what → TakesBack range done a b → IsRestorable (past_of number (found_in what) a done)
+pub past_restorable : (range : RamRange) (number : ℕ) (what : Fetched) (a b : Arch) (done : Performed) → FetchedFits what → TakesBack range done a b → IsRestorable (past_of number (found_in what) a done)
 past_restorable range number what a b done fits back = record {
   register = register_exists (destination_in (found_in what)) a.regs (fetched_exists what fits);
   change = back.exists;

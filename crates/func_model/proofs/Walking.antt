@@ -15,23 +15,23 @@ use Rattle.func_model.specs.declared.contents.Contents.{Contents}
 use Rattle.func_model.specs.declared.walk.Walk.{Walk}
 use Rattle.func_model.specs.Hart.{arch_of}
 use Rattle.func_model.specs.Undo.{undone, IsRestorable}
-use Rattle.func_model.specs.Contents.{StandsFor, output_in, retired_in}
-use Rattle.func_model.specs.Walk.{IsStep, LeadsBack, Holds, Stands}
+use Rattle.func_model.specs.Contents.{ContentsStandFor, output_in, retired_in}
+use Rattle.func_model.specs.Walk.{IsStep, LeadsBack, IsOnPath, WalkStandsFor}
 use Rattle.mono_model.proofs.Path.{path_next, goes_on_more}
 use Rattle.func_model.proofs.Path.{retired_within}
 use Rattle.func_model.proofs.Leading.{leads_more}
 use Rattle.func_model.proofs.Outputs.{outputs_on, outputs_within}
 
 -- what a side holds is seen on the path
-pub stands_retired : {D : Type 0} (s : Setup) (a : Arch) (contents : Contents D) → StandsFor s a contents → retired_in contents ≡ a.csrs.retired
+pub stands_retired : {D : Type 0} (s : Setup) (a : Arch) (contents : Contents D) → ContentsStandFor s a contents → retired_in contents ≡ a.csrs.retired
 unfolding arch_of
 stands_retired s a contents h = ap (λ (x : Arch). x.csrs.retired) h.arch
 
-pub stands_output : {D : Type 0} (s : Setup) (a : Arch) (contents : Contents D) → StandsFor s a contents → output_in contents ≡ a.output
+pub stands_output : {D : Type 0} (s : Setup) (a : Arch) (contents : Contents D) → ContentsStandFor s a contents → output_in contents ≡ a.output
 unfolding arch_of
 stands_output s a contents h = ap (λ (x : Arch). x.output) h.arch
 
-pub walk_retired : {D : Type 0} (s : Setup) (os : List Order) (walk : Walk D) → Holds s os walk → retired_in walk.contents ≤ walk.position
+pub walk_retired : {D : Type 0} (s : Setup) (os : List Order) (walk : Walk D) → IsOnPath s os walk → retired_in walk.contents ≤ walk.position
 walk_retired s os walk h = omega (arith, stands_retired s (path s os walk.position) walk.contents h.contents, retired_within s os walk.position)
 
 -- the path's output where the journal leads back from
@@ -42,7 +42,7 @@ one_longer (y ∷ xs) x = omega (arith, one_longer xs x)
 pub ends_at : (m n : ℕ) (steps : List Past) → m ≤ n → length steps ≡ n - m → m + length steps ≡ n
 ends_at m n steps below held = omega arith
 
-ahead_output : {D : Type 0} (s : Setup) (os : List Order) (walk : Walk D) → Holds s os walk → walk.committed ≤ walk.position →
+ahead_output : {D : Type 0} (s : Setup) (os : List Order) (walk : Walk D) → IsOnPath s os walk → walk.committed ≤ walk.position →
     length (path s os walk.position).output ≤ s.output + (walk.position - walk.committed)
 ahead_output s os walk h below =
     let end : walk.committed + length walk.journal.steps ≡ walk.position = ends_at walk.committed walk.position walk.journal.steps below h.held in
@@ -67,7 +67,7 @@ by_side {A} m n above below = at (nat_le m n) refl
     at true is = above (grind (arith, common_steps))
     at false is = below (grind (arith, common_steps))
 
-pub step_room : {D : Type 0} (s : Setup) (os : List Order) (walk : Walk D) → Stands s os walk → walk.is_stopped ≡ false → walk.position < walk.committed + walk.journal.room →
+pub step_room : {D : Type 0} (s : Setup) (os : List Order) (walk : Walk D) → WalkStandsFor s os walk → walk.is_stopped ≡ false → walk.position < walk.committed + walk.journal.room →
     length (output_in walk.contents) < walk.contents.hart.room
 step_room s os walk h running room_is =
     let same : length (output_in walk.contents) ≡ length (path s os walk.position).output = ap (length {A = ℕ}) (stands_output s (path s os walk.position) walk.contents h.holds.contents) in
@@ -97,7 +97,7 @@ newest_below : (range : RamRange) (at : ℕ → Arch) (m : ℕ) (steps : List Pa
 newest_below range at m [] leads = tt
 newest_below range at m (first ∷ later) leads = below_end range at m (first ∷ later) (length (first ∷ later) - 1) _ leads refl (omega arith)
 
-pub note_above : {D : Type 0} (s : Setup) (os : List Order) (walk : Walk D) (n : ℕ) → Holds s os walk → walk.committed ≤ walk.position → n ≡ walk.position →
+pub note_above : {D : Type 0} (s : Setup) (os : List Order) (walk : Walk D) (n : ℕ) → IsOnPath s os walk → walk.committed ≤ walk.position → n ≡ walk.position →
     IfSome (newest walk.journal.steps) (λ past. past.number < n)
 note_above s os walk n h below is =
     let P : ℕ → Type 0 = λ k. IfSome (newest walk.journal.steps) (λ past. past.number < k) in
@@ -105,19 +105,19 @@ note_above s os walk n h below is =
 
 -- what one step makes of a walk, with what its contents ensure
 pub record Stepping {D : Type 0} (s : Setup) (os : List Order) (old : Walk D) (contents : Contents D) : Type 0 where
-  pub stands : StandsFor s (seq s (time_of os old.position) (path s os old.position)) contents
+  pub stands : ContentsStandFor s (seq s (time_of os old.position) (path s os old.position)) contents
   pub space : contents.hart.room ≡ old.contents.hart.room
 
-next_state : {D : Type 0} (s : Setup) (os : List Order) (old : Walk D) (contents : Contents D) → Stands s os old → old.is_stopped ≡ false → Stepping s os old contents →
-    StandsFor s (path s os (old.position + 1)) contents
+next_state : {D : Type 0} (s : Setup) (os : List Order) (old : Walk D) (contents : Contents D) → WalkStandsFor s os old → old.is_stopped ≡ false → Stepping s os old contents →
+    ContentsStandFor s (path s os (old.position + 1)) contents
 next_state {D} s os old contents h running made =
-    let P : Arch → Type 0 = λ a. StandsFor {D = D} s a contents in
+    let P : Arch → Type 0 = λ a. ContentsStandFor {D = D} s a contents in
     subst P (sym (ap (path s os) (add-one old.position) ∙ path_next s os old.position (h.on running))) made.stands
 
-pub noted_stands : {D : Type 0} (s : Setup) (os : List Order) (old : Walk D) (contents : Contents D) (journal : Log) (past : Past) → Stands s os old → old.is_stopped ≡ false →
+pub noted_stands : {D : Type 0} (s : Setup) (os : List Order) (old : Walk D) (contents : Contents D) (journal : Log) (past : Past) → WalkStandsFor s os old → old.is_stopped ≡ false →
     Stepping s os old contents → old.committed ≤ old.position → journal ≡ record old.journal { steps = old.journal.steps ++ past ∷ [] } →
     past.number ≡ old.position → undone (ram_range s.params) past (seq s (time_of os old.position) (path s os old.position)) ≡ path s os old.position → IsRestorable past →
-    Stands s os (record old { contents = contents; journal = journal; position = old.position + 1 })
+    WalkStandsFor s os (record old { contents = contents; journal = journal; position = old.position + 1 })
 noted_stands {D} s os old contents journal past h running made below noted number back restorable =
     let end : old.committed + length old.journal.steps ≡ old.position = ends_at old.committed old.position old.journal.steps below h.holds.held in
     let step : IsStep (ram_range s.params) (path s os) old.position past = record {
@@ -148,8 +148,8 @@ noted_stands {D} s os old contents journal past h running made below noted numbe
     grown : (position committed count : ℕ) → committed ≤ position → count ≡ position - committed → count + 1 ≡ position + 1 - committed
     grown position committed count below is = omega arith
 
-pub unnoted_stands : {D : Type 0} (s : Setup) (os : List Order) (old : Walk D) (contents : Contents D) → Stands s os old → old.is_stopped ≡ false → Stepping s os old contents →
-    old.position < old.committed → Stands s os (record old { contents = contents; position = old.position + 1 })
+pub unnoted_stands : {D : Type 0} (s : Setup) (os : List Order) (old : Walk D) (contents : Contents D) → WalkStandsFor s os old → old.is_stopped ≡ false → Stepping s os old contents →
+    old.position < old.committed → WalkStandsFor s os (record old { contents = contents; position = old.position + 1 })
 unnoted_stands {D} s os old contents h running made above = record {
   holds = record {
     contents = next_state s os old contents h running made;
@@ -175,11 +175,11 @@ path_start : (s : Setup) → path s [] 0 ≡ start s
 unfolding path
 path_start s = refl
 
-pub opening_stands : {D : Type 0} (s : Setup) (contents : Contents D) (journal : Log) → StandsFor s (start s) contents → contents.hart.room ≡ s.output + room s → journal ≡ record { room = room s; steps = [] } →
-    Stands s [] (record { contents = contents; journal = journal; position = 0; committed = 0; epoch = 0; given = None; is_stopped = false; limit = s.output })
+pub opening_stands : {D : Type 0} (s : Setup) (contents : Contents D) (journal : Log) → ContentsStandFor s (start s) contents → contents.hart.room ≡ s.output + room s → journal ≡ record { room = room s; steps = [] } →
+    WalkStandsFor s [] (record { contents = contents; journal = journal; position = 0; committed = 0; epoch = 0; given = None; is_stopped = false; limit = s.output })
 unfolding start
 opening_stands {D} s contents journal stands space empty =
-    let P : Arch → Type 0 = λ a. StandsFor {D = D} s a contents in
+    let P : Arch → Type 0 = λ a. ContentsStandFor {D = D} s a contents in
     let L : List Past → Type 0 = λ xs. LeadsBack (ram_range s.params) (path s []) 0 xs in
     let W : Arch → Type 0 = λ a. length a.output ≤ s.output in
     record {
@@ -200,7 +200,7 @@ opening_stands {D} s contents journal stands space empty =
     }
 
 -- a fresh walk stands at the start
-pub fresh_start : {D : Type 0} (s : Setup) (walk : Walk D) → Stands s [] walk → walk.position ≡ 0 → StandsFor s (start s) walk.contents
+pub fresh_start : {D : Type 0} (s : Setup) (walk : Walk D) → WalkStandsFor s [] walk → walk.position ≡ 0 → ContentsStandFor s (start s) walk.contents
 fresh_start {D} s walk h fresh =
-    let P : Arch → Type 0 = λ a. StandsFor {D = D} s a walk.contents in
+    let P : Arch → Type 0 = λ a. ContentsStandFor {D = D} s a walk.contents in
     subst P (ap (path s []) fresh ∙ path_start s) h.holds.contents

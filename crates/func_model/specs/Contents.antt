@@ -15,7 +15,7 @@ use Rattle.func_model.specs.Hart.{arch_of}
 use Rattle.func_model.specs.Steps.{is_full}
 
 -- this state, in a run of this setup
-pub record StandsFor {D : Type 0} (s : Setup) (a : Arch) (side : Contents D) : Type 0 where
+pub record ContentsStandFor {D : Type 0} (s : Setup) (a : Arch) (side : Contents D) : Type 0 where
   pub arch : arch_of side.hart side.bus ≡ a
   pub exec : exec_of side.hart.memory ≡ is_executable s.image
   pub range : range_of side.hart.memory ≡ ram_range s.params

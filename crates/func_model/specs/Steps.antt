@@ -29,9 +29,9 @@ use Rattle.mono_model.specs.Found.{Found, first_source, second_source}
 use Rattle.mono_model.specs.Effect.{counted, with_store, with_access, with_note, access_note, note_of, effect}
 use Rattle.mono_model.specs.Result.{Seen, spot_of, raw_at, accepts_store, Result, executed, resulting, loaded_at, stored_at, failing_access, attempted, csr_value}
 use Rattle.mono_model.specs.Sequence.{seen_in, byte_in}
-use Rattle.func_model.specs.declared.done.Done.{Done}
-use Rattle.func_model.specs.declared.done.Stepped.{Stepped}
-use Rattle.func_model.specs.declared.done.Stepped.TheVariants.{On, Full, Ended}
+use Rattle.func_model.specs.declared.performed.Performed.{Performed}
+use Rattle.func_model.specs.declared.performed.Stepped.{Stepped}
+use Rattle.func_model.specs.declared.performed.Stepped.TheVariants.{On, Full, Ended}
 
 -- an instruction that writes a register, if any, and goes on
 abbrev pub finished : Option ℕ → ℕ → ℕ → Arch → Arch
@@ -111,7 +111,7 @@ abbrev pub outcome_result : RamRange → Seen → Outcome → Result
 outcome_result range e o = caused_result range e o o.cause
 
 -- what is told of an instruction that comes to this, where the output has so much room
-pub record Told (limit : ℕ) (r : Result) (a : Arch) (done : Done) : Type 0 where
+pub record Told (limit : ℕ) (r : Result) (a : Arch) (done : Performed) : Type 0 where
   pub stepped : done.stepped ≡ stepped_by limit a.output (note_of r a)
   pub sent : done.sent ≡ byte_in (note_of r a)
   pub access : done.access ≡ r.access
@@ -151,9 +151,9 @@ abbrev pub behind : ℕ → Found → Result → Option ℕ → Arch → Arch
 behind limit found r time a = if is_full limit a.output (note_of r a) then a else effect found r time a.pc a
 
 -- what is told of an instruction that reached neither memory nor a device
-abbrev pub plain_with : Change → Done
+abbrev pub plain_with : Change → Performed
 plain_with change = record { stepped = On; sent = None; access = access.Nothing; cause = None; change = change }
 
 -- what is told of a trap, with the access that was attempted, and the control and status registers before it
-abbrev pub failed_with : Access → Cause → Csrs → Done
+abbrev pub failed_with : Access → Cause → Csrs → Performed
 failed_with tried cause before = record { stepped = On; sent = None; access = tried; cause = Some cause; change = System before }

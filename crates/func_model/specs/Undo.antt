@@ -13,9 +13,9 @@ use Rattle.undo_journal.specs.declared.past.Change.TheVariants.{Nothing, Memory,
 use Rattle.mono_model.specs.Arch.{Arch, with_register}
 use Rattle.mono_model.specs.Found.{Found, destination_in}
 use Rattle.fsim_base.specs.declared.instruction.Halt.{Halt}
-use Rattle.func_model.specs.declared.done.Done.{Done}
-use Rattle.func_model.specs.declared.done.Stepped.{Stepped}
-use Rattle.func_model.specs.declared.done.Stepped.TheVariants.{On, Full, Ended}
+use Rattle.func_model.specs.declared.performed.Performed.{Performed}
+use Rattle.func_model.specs.declared.performed.Stepped.{Stepped}
+use Rattle.func_model.specs.declared.performed.Stepped.TheVariants.{On, Full, Ended}
 
 -- the registers with one set back
 abbrev pub registers_back : Option OldRegister → (ℕ → ℕ) → (ℕ → ℕ)
@@ -94,7 +94,7 @@ is_executed Full = false
 is_executed (Ended halt) = true
 
 -- what an instruction did to memory, devices, and control and status registers is taken back
-pub record TakesBack (range : RamRange) (done : Done) (before after : Arch) : Type 0 where
+pub record TakesBack (range : RamRange) (done : Performed) (before after : Arch) : Type 0 where
   pub memory : memory_back range done.change after.ram ≡ before.ram
   pub devices : devices_back done.change after.devices ≡ before.devices
   pub csrs : is_executed done.stepped ≡ true → csrs_back done.change after.csrs ≡ before.csrs
@@ -113,7 +113,7 @@ register_before None regs = None
 register_before (Some register) regs = Some (record { register = register; value = regs register })
 
 -- what takes an instruction back that was found at the address of a state, and did this
-abbrev pub past_of : ℕ → Found → Arch → Done → Past
+abbrev pub past_of : ℕ → Found → Arch → Performed → Past
 past_of number found a done = record {
   number = number;
   addr = a.pc;

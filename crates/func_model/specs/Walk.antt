@@ -17,7 +17,7 @@ use Rattle.func_model.specs.declared.walk.Walk.{Walk}
 use Rattle.phys_mem.specs.Ram.{exec_of, range_of}
 use Rattle.func_model.specs.Hart.{arch_of, found_by}
 use Rattle.func_model.specs.Steps.{result_of}
-use Rattle.func_model.specs.Contents.{StandsFor, output_in}
+use Rattle.func_model.specs.Contents.{ContentsStandFor, output_in}
 use Rattle.func_model.specs.Undo.{undone, IsRestorable}
 
 -- one undo step leads back along a path, from behind instruction `n` to before it
@@ -52,8 +52,8 @@ committed_of (o ∷ os) = committed_by o (committed_of os)
 
 -- The side's contents are those of the path before the instruction at its position, and its journal leads back from there
 -- to its committed number.
-pub record Holds {D : Type 0} (s : Setup) (os : List Order) (walk : Walk D) : Type 0 where
-  pub contents : StandsFor s (path s os walk.position) walk.contents
+pub record IsOnPath {D : Type 0} (s : Setup) (os : List Order) (walk : Walk D) : Type 0 where
+  pub contents : ContentsStandFor s (path s os walk.position) walk.contents
   pub back : LeadsBack (ram_range s.params) (path s os) walk.committed walk.journal.steps
   pub held : length walk.journal.steps ≡ walk.position - walk.committed
   pub capacity : walk.journal.room ≡ room s
@@ -66,8 +66,8 @@ pub record Holds {D : Type 0} (s : Setup) (os : List Order) (walk : Walk D) : Ty
 
 -- It stands for the setup, the orders and its position: what is committed and whether it is stopped is as the orders say,
 -- and where it isn't stopped, the path goes on from there by execution.
-pub record Stands {D : Type 0} (s : Setup) (os : List Order) (walk : Walk D) : Type 0 where
-  pub holds : Holds s os walk
+pub record WalkStandsFor {D : Type 0} (s : Setup) (os : List Order) (walk : Walk D) : Type 0 where
+  pub holds : IsOnPath s os walk
   pub done : walk.committed ≡ committed_of os
   pub stopped : walk.is_stopped ≡ has_stop os
   pub on : walk.is_stopped ≡ false → GoesOn os walk.position
@@ -76,16 +76,16 @@ pub record Stands {D : Type 0} (s : Setup) (os : List Order) (walk : Walk D) : T
 pub record IsStanding {D : Type 0} (walk : Walk D) : Type 0 where
   pub setup : Setup
   pub orders : List Order
-  pub stands : Stands setup orders walk
+  pub stands : WalkStandsFor setup orders walk
 
-pub record IsHolding {D : Type 0} (walk : Walk D) : Type 0 where
+pub record IsOnSomePath {D : Type 0} (walk : Walk D) : Type 0 where
   pub setup : Setup
   pub orders : List Order
-  pub holds : Holds setup orders walk
+  pub holds : IsOnPath setup orders walk
 
 -- a walk can be taken to instruction `n`: back by its journal, or on by execution, where it isn't stopped
 pub record CanReach {D : Type 0} (n : ℕ) (walk : Walk D) : Type 0 where
-  pub back : n < walk.position → IsHolding walk
+  pub back : n < walk.position → IsOnSomePath walk
   pub on : walk.position < n → IsStanding walk
   pub running : walk.position < n → walk.is_stopped ≡ false
 
@@ -130,7 +130,7 @@ IsAtRest walk = (walk.is_stopped ≡ true) ⊎ (length walk.journal.steps ≡ wa
 -- the entry of the path at the position, if one was produced
 pub record IsProduced {D : Type 0} (s : Setup) (os : List Order) (old new : Walk D) (result : Option Entry) : Type 0 where
   pub entry_is : IfSome result (λ e. e ≡ entry s os old.position)
-  pub stands : Stands s os new
+  pub stands : WalkStandsFor s os new
 
 -- one instruction, by the addresses of RAM and of text alone
 unfoldable pub seq_by : RamRange → (ℕ → Bool) → Option ℕ → Arch → Arch

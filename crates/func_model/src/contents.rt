@@ -4,9 +4,9 @@ ghost use Rattle.mono_model.specs.Result.{is_time_load, is_time_read};
 ghost use Rattle.func_model.specs.Hart.{found_in};
 ghost use Rattle.func_model.specs.Undo.{ended_in};
 
-use crate::done::Stepped;
 use crate::found::Fetched;
 use crate::hart::{Hart, compare};
+use crate::performed::Stepped;
 use device_bus::{Bus, Device};
 use fsim_base::{Access, Halt, NoMemory, RamRange, Width};
 use machine_csr::Csrs;
@@ -81,15 +81,15 @@ impl<D: Device> Contents<D> {
     ghost use Rattle.mono_model.specs.Effect.{note_of};
     ghost use Rattle.mono_model.specs.Sequence.{found_next, result_at, entry_at, seq};
     ghost use Rattle.func_model.specs.Steps.{stepped_by};
-    ghost use Rattle.func_model.specs.Contents.{StandsFor, retired_in, output_in, after_instruction, before};
+    ghost use Rattle.func_model.specs.Contents.{ContentsStandFor, retired_in, output_in, after_instruction, before};
     ghost use Rattle.func_model.specs.Undo.{undone, IsRestorable};
 
     /// Executes the next instruction with a time, and says how it leaves the run.
     fn advance(&mut self, time: u64, limit: u32) -> Stepped
         requires count { retired_in self.old < 2 ^ 64 - 1 }
         requires limit { limit ≤ self.old.hart.room }
-        ensures stepped { (s : Setup) (a : Arch) → s.output ≡ limit → StandsFor s a self.old → result ≡ stepped_by s.output a.output (note_of (result_at s (Some time) a) a) }
-        ensures stands { (s : Setup) (a : Arch) → s.output ≡ limit → StandsFor s a self.old → StandsFor s (after_instruction s (found_next s a) (result_at s (Some time) a) time a) self.new }
+        ensures stepped { (s : Setup) (a : Arch) → s.output ≡ limit → ContentsStandFor s a self.old → result ≡ stepped_by s.output a.output (note_of (result_at s (Some time) a) a) }
+        ensures stands { (s : Setup) (a : Arch) → s.output ≡ limit → ContentsStandFor s a self.old → ContentsStandFor s (after_instruction s (found_next s a) (result_at s (Some time) a) time a) self.new }
         ensures bound { retired_in self.new ≤ retired_in self.old + 1 }
         ensures room { self.new.hart.room ≡ self.old.hart.room }
     {
@@ -103,9 +103,9 @@ impl<D: Device> Contents<D> {
 
     /// Takes a pending timer interrupt, and counts it.
     fn interrupt(&mut self, time: u64) -> u64
-        ensures pending { (s : Setup) (a : Arch) → StandsFor s a self.old → result ≡ (if timer_pending a.csrs time (compare_of a.devices) then 1 else 0) }
+        ensures pending { (s : Setup) (a : Arch) → ContentsStandFor s a self.old → result ≡ (if timer_pending a.csrs time (compare_of a.devices) then 1 else 0) }
         ensures one { result ≤ 1 }
-        ensures stands { (s : Setup) (a : Arch) → StandsFor s a self.old → StandsFor s (before time a) self.new }
+        ensures stands { (s : Setup) (a : Arch) → ContentsStandFor s a self.old → ContentsStandFor s (before time a) self.new }
         ensures retired { retired_in self.new ≡ retired_in self.old }
         ensures room { self.new.hart.room ≡ self.old.hart.room }
     {
@@ -122,7 +122,7 @@ impl<D: Device> Contents<D> {
 
     /// What is reported of a run that ended so after `made` steps.
     fn report(&self, end: End, made: u64, interrupts: u64) -> Final
-        ensures reported { (s : Setup) (m : Alone) → StandsFor s m.arch self.now → m.end ≡ end → m.interrupts ≡ interrupts → m.exceptions ≡ made - retired_in self.now → result ≡ alone_final m }
+        ensures reported { (s : Setup) (m : Alone) → ContentsStandFor s m.arch self.now → m.end ≡ end → m.interrupts ≡ interrupts → m.exceptions ≡ made - retired_in self.now → result ≡ alone_final m }
     {
         let stats = Stats {
             version: 0,
@@ -161,8 +161,8 @@ impl<D: Device> Contents<D> {
         requires some { 1 ≤ steps }
         requires bounded { steps < 2 ^ 63 }
         requires limit { limit ≤ self.old.hart.room }
-        ensures reported { (s : Setup) → s.cycles ≡ steps → s.output ≡ limit → StandsFor s (start s) self.old → result ≡ alone_final (alone s steps) }
-        ensures contents { (s : Setup) → s.cycles ≡ steps → s.output ≡ limit → StandsFor s (start s) self.old → StandsFor s (alone s steps).arch self.new }
+        ensures reported { (s : Setup) → s.cycles ≡ steps → s.output ≡ limit → ContentsStandFor s (start s) self.old → result ≡ alone_final (alone s steps) }
+        ensures contents { (s : Setup) → s.cycles ≡ steps → s.output ≡ limit → ContentsStandFor s (start s) self.old → ContentsStandFor s (alone s steps).arch self.new }
     {
         let mut interrupts = 0;
         for made in 0..steps {
@@ -194,7 +194,7 @@ impl<D: Device> Contents<D> {
         requires sound { is_setup setup.now ≡ true }
         requires order { map D.kind devices.items ≡ device_order }
         requires ahead { ahead ≤ 65794 }
-        ensures opened { IfOk result (λ contents. StandsFor setup.now (start setup.now) contents) }
+        ensures opened { IfOk result (λ contents. ContentsStandFor setup.now (start setup.now) contents) }
         ensures fresh { IfOk result (λ contents. retired_in contents ≡ 0) }
         ensures room { IfOk result (λ contents. contents.hart.room ≡ setup.now.output + ahead) }
     {
@@ -224,9 +224,9 @@ impl<D: Device> Contents<D> {
     pub fn step(&mut self, number: u64, epoch: u64, time: Option<u64>) -> (Entry, Past)
         requires count { retired_in self.old < 2 ^ 64 - 1 }
         requires room { length (output_in self.old) < self.old.hart.room }
-        ensures stands { (s : Setup) (a : Arch) → StandsFor s a self.old → StandsFor s (seq s time a) self.new }
-        ensures entry { (s : Setup) (a : Arch) → StandsFor s a self.old → result.0 ≡ entry_at s time a number epoch }
-        ensures back { (s : Setup) (a : Arch) → StandsFor s a self.old → undone (ram_range s.params) result.1 (seq s time a) ≡ a }
+        ensures stands { (s : Setup) (a : Arch) → ContentsStandFor s a self.old → ContentsStandFor s (seq s time a) self.new }
+        ensures entry { (s : Setup) (a : Arch) → ContentsStandFor s a self.old → result.0 ≡ entry_at s time a number epoch }
+        ensures back { (s : Setup) (a : Arch) → ContentsStandFor s a self.old → undone (ram_range s.params) result.1 (seq s time a) ≡ a }
         ensures number { result.1.number ≡ number }
         ensures restorable { IsRestorable result.1 }
         ensures room { self.new.hart.room ≡ self.old.hart.room }
@@ -264,7 +264,7 @@ impl<D: Device> Contents<D> {
     /// Takes an instruction back.
     pub fn undo(&mut self, past: Past)
         requires restorable { IsRestorable past }
-        ensures stands { (s : Setup) (a : Arch) → StandsFor s a self.old → StandsFor s (undone (ram_range s.params) past a) self.new }
+        ensures stands { (s : Setup) (a : Arch) → ContentsStandFor s a self.old → ContentsStandFor s (undone (ram_range s.params) past a) self.new }
         ensures room { self.new.hart.room ≡ self.old.hart.room }
     {
         self.hart.restore(&mut self.bus, past);
@@ -272,7 +272,7 @@ impl<D: Device> Contents<D> {
 
     /// Goes on at another address.
     pub fn jump(&mut self, addr: u32)
-        ensures stands { (s : Setup) (a : Arch) → StandsFor s a self.old → StandsFor s (record a { pc = addr }) self.new }
+        ensures stands { (s : Setup) (a : Arch) → ContentsStandFor s a self.old → ContentsStandFor s (record a { pc = addr }) self.new }
         ensures room { self.new.hart.room ≡ self.old.hart.room }
     {
         self.hart.pc = addr;
@@ -280,7 +280,7 @@ impl<D: Device> Contents<D> {
 
     /// Takes the timer interrupt.
     pub fn interrupted(&mut self)
-        ensures stands { (s : Setup) (a : Arch) → StandsFor s a self.old → StandsFor s (interrupted a) self.new }
+        ensures stands { (s : Setup) (a : Arch) → ContentsStandFor s a self.old → ContentsStandFor s (interrupted a) self.new }
         ensures room { self.new.hart.room ≡ self.old.hart.room }
     {
         self.hart.trap(0x8000_0007, 0);
@@ -288,7 +288,7 @@ impl<D: Device> Contents<D> {
 
     /// Lets fetch see memory as it stands.
     pub fn sync(&mut self)
-        ensures stands { (s : Setup) (a : Arch) → StandsFor s a self.old → StandsFor s (synced s a) self.new }
+        ensures stands { (s : Setup) (a : Arch) → ContentsStandFor s a self.old → ContentsStandFor s (synced s a) self.new }
         ensures room { self.new.hart.room ≡ self.old.hart.room }
     {
         self.hart.sync();

@@ -5,8 +5,8 @@ ghost use Rattle.mono_model.specs.Result.{attempted, csr_value};
 ghost use Rattle.mono_model.specs.Sequence.{byte_in};
 ghost use Rattle.func_model.specs.Steps.{plain_with};
 
-use crate::done::{Done, Stepped};
 use crate::found::Fetched;
+use crate::performed::{Performed, Stepped};
 use device_bus::{Bus, Device, Note};
 use fsim_base::{Access, Cause, Spot, Width, wrap_add};
 use machine_csr::{Csrs, reads_time};
@@ -124,10 +124,10 @@ fn csr_value(insn: Insn, time: Option<u64>, value: u32) -> u32
 }
 
 /// What an instruction did that reached neither memory nor a device.
-fn plain(change: Change) -> Done
+fn plain(change: Change) -> Performed
     ensures done { result ≡ plain_with change }
 {
-    Done {
+    Performed {
         stepped: Stepped::On,
         sent: None,
         access: Access::Nothing,
@@ -194,7 +194,7 @@ impl Hart {
 
     /// Takes the trap of an instruction, with the access that it attempted.
     #[tactic(auto, unfolding(crate::specs::Hart::arch_of, mono_model::specs::Arch::trapped))]
-    fn fail(&mut self, access: Access, cause: Cause, mtval: u32) -> Done
+    fn fail(&mut self, access: Access, cause: Cause, mtval: u32) -> Performed
         ensures done { result ≡ failed_with access cause self.old.csrs }
         ensures arch { (d : Devices) → arch_of self.new d ≡ trapped (cause_number cause) mtval self.old.pc (arch_of self.old d) }
         ensures memory { self.new.memory ≡ self.old.memory }
@@ -202,7 +202,7 @@ impl Hart {
     {
         let before = self.csrs;
         self.trap(cause.number(), mtval);
-        Done {
+        Performed {
             stepped: Stepped::On,
             sent: None,
             access,
@@ -295,7 +295,7 @@ impl Hart {
         destination: Option<u8>,
         access: LoadAccess,
         time: Option<u64>,
-    ) -> Done
+    ) -> Performed
         requires exists { IsDestination destination }
         requires count { self.old.csrs.retired < 2 ^ 64 - 1 }
         requires aligned { access.addr % width_bytes access.width ≡ 0 }
@@ -316,7 +316,7 @@ impl Hart {
             Some(raw) => {
                 let value = extend(raw, access.width, access.signed);
                 self.finish(destination, value, access.next);
-                Done {
+                Performed {
                     access: made,
                     ..plain(read.change)
                 }
@@ -356,7 +356,7 @@ impl Hart {
 
     /// An aligned store, with an output limit.
     #[tactic(auto, unfolding(crate::specs::Hart::arch_of))]
-    fn store<D: Device>(&mut self, bus: &mut Bus<D>, access: StoreAccess, limit: u32) -> Done
+    fn store<D: Device>(&mut self, bus: &mut Bus<D>, access: StoreAccess, limit: u32) -> Performed
         requires count { self.old.csrs.retired < 2 ^ 64 - 1 }
         requires aligned { access.addr % width_bytes access.width ≡ 0 }
         requires limit { limit ≤ self.old.room }
@@ -375,7 +375,7 @@ impl Hart {
         } = access;
         if let Some(old) = self.memory.set(addr, width, value) {
             self.finish(None, 0, next);
-            return Done {
+            return Performed {
                 access: Access::Store {
                     addr,
                     width,
@@ -398,7 +398,7 @@ impl Hart {
             return self.fail(made, Cause::StoreAccess, addr);
         }
         let (note, undo) = bus.store(place.device, place.off, width, value);
-        Done {
+        Performed {
             stepped: self.conclude(note, next, limit),
             sent: byte_in(note),
             access: made,
@@ -419,7 +419,7 @@ impl Hart {
         outcome: Outcome,
         time: Option<u64>,
         limit: u32,
-    ) -> Done
+    ) -> Performed
         requires exists { IsDestination destination }
         requires count { self.old.csrs.retired < 2 ^ 64 - 1 }
         requires aligned { AlignedBy outcome.cause outcome.reach }
@@ -468,7 +468,14 @@ impl Hart {
     /// Reads and writes a control and status register, or traps where the access is illegal. Without a time, a register
     /// that shows it reads 0.
     #[tactic(auto, unfolding(crate::specs::Hart::arch_of))]
-    fn access_csr(&mut self, word: u32, insn: Insn, x: u32, time: Option<u64>, cmp: u64) -> Done
+    fn access_csr(
+        &mut self,
+        word: u32,
+        insn: Insn,
+        x: u32,
+        time: Option<u64>,
+        cmp: u64,
+    ) -> Performed
         requires exists { IsDestination (dest_of insn) }
         requires count { self.old.csrs.retired < 2 ^ 64 - 1 }
         ensures told { (limit : ℕ) (d : Devices) → Told limit (csr_result word insn self.old.pc time (csr_access self.old.csrs insn x (unwrap_or time 0) cmp)) (arch_of self.old d) result }
@@ -491,7 +498,7 @@ impl Hart {
 
     /// Leaves a trap, as MRET does.
     #[tactic(auto, unfolding(crate::specs::Hart::arch_of))]
-    fn leave(&mut self) -> Done
+    fn leave(&mut self) -> Performed
         requires count { self.old.csrs.retired < 2 ^ 64 - 1 }
         ensures done { result ≡ plain_with (System self.old.csrs) }
         ensures arch { (d : Devices) → arch_of self.new d ≡ mret_made (arch_of self.old d) }
@@ -513,7 +520,7 @@ impl Hart {
         insn: Insn,
         time: Option<u64>,
         limit: u32,
-    ) -> Done
+    ) -> Performed
         requires fits { Fits insn }
         requires count { self.old.csrs.retired < 2 ^ 64 - 1 }
         requires limit { limit ≤ self.old.room }
@@ -546,7 +553,7 @@ impl Hart {
         fetched: Fetched,
         time: Option<u64>,
         limit: u32,
-    ) -> Done
+    ) -> Performed
         requires fits { FetchedFits fetched }
         requires count { self.old.csrs.retired < 2 ^ 64 - 1 }
         requires limit { limit ≤ self.old.room }

@@ -3,9 +3,9 @@
 #![tactic(auto)]
 
 mod contents;
-mod done;
 mod found;
 mod hart;
+mod performed;
 mod side;
 mod walk;
 

@@ -48,8 +48,8 @@ impl<D: Device> FuncSide<D> {
     ghost use Rattle.mono_model.specs.Setup.{is_setup};
     ghost use Rattle.mono_model.specs.Demand.{number_of};
     ghost use Rattle.mono_model.specs.Alone.{alone, alone_final};
-    ghost use Rattle.func_model.specs.Contents.{StandsFor, output_in};
-    ghost use Rattle.func_model.specs.Walk.{Stands, IsFresh, IsForward, IsAtRest, IsProduced, IsObeyed, HasRoom};
+    ghost use Rattle.func_model.specs.Contents.{ContentsStandFor, output_in};
+    ghost use Rattle.func_model.specs.Walk.{WalkStandsFor, IsFresh, IsForward, IsAtRest, IsProduced, IsObeyed, HasRoom};
     ghost use Rattle.func_model.specs.Side.{arch_in, word_in};
 
     /// The functional side at the start of a run. It takes all memory of the run here: RAM, the journal, the output, and
@@ -57,7 +57,7 @@ impl<D: Device> FuncSide<D> {
     pub fn new(alloc: Global, setup: &Setup, devices: Vec<D>) -> Result<FuncSide<D>, NoMemory>
         requires sound { is_setup setup.now ≡ true }
         requires order { map D.kind devices.items ≡ device_order }
-        ensures stands { IfOk result (λ side. Stands setup.now [] side) }
+        ensures stands { IfOk result (λ side. WalkStandsFor setup.now [] side) }
         ensures fresh { IfOk result IsFresh }
     {
         let walk = Walk::new(alloc, setup, devices)?;
@@ -69,7 +69,7 @@ impl<D: Device> FuncSide<D> {
     pub fn produce(&mut self) -> Option<Entry>
         requires position { self.old.position < 2 ^ 62 }
         requires epoch { self.old.epoch < 2 ^ 62 }
-        ensures produced { (s : RunSetup) (os : List SpecOrder) → Stands s os self.old → IsProduced s os self.old self.new result }
+        ensures produced { (s : RunSetup) (os : List SpecOrder) → WalkStandsFor s os self.old → IsProduced s os self.old self.new result }
         ensures moved { IfSome result (λ e. IsForward self.old self.new) }
         ensures none { IsNone result ↔ IsAtRest self.old }
         ensures same { IfNone result (self.new ≡ self.old) }
@@ -87,7 +87,7 @@ impl<D: Device> FuncSide<D> {
         requires position { self.old.position < 2 ^ 62 }
         requires epoch { self.old.epoch < 2 ^ 62 }
         requires within { HasRoom order self.old self.old.limit }
-        ensures stands { (s : RunSetup) (os : List SpecOrder) → Stands s os self.old → Stands s (order ∷ os) self.new }
+        ensures stands { (s : RunSetup) (os : List SpecOrder) → WalkStandsFor s os self.old → WalkStandsFor s (order ∷ os) self.new }
         ensures moved { IsObeyed order self.old self.new }
         ensures committed_never_falls { self.old.committed ≤ self.new.committed }
     {
@@ -101,8 +101,8 @@ impl<D: Device> FuncSide<D> {
         requires fresh { IsFresh self.old }
         requires some { 1 ≤ steps }
         requires bounded { steps < 2 ^ 63 }
-        ensures reported { (s : RunSetup) → s.cycles ≡ steps → Stands s [] self.old → result ≡ alone_final (alone s steps) }
-        ensures contents { (s : RunSetup) → s.cycles ≡ steps → Stands s [] self.old → StandsFor s (alone s steps).arch self.new.contents }
+        ensures reported { (s : RunSetup) → s.cycles ≡ steps → WalkStandsFor s [] self.old → result ≡ alone_final (alone s steps) }
+        ensures contents { (s : RunSetup) → s.cycles ≡ steps → WalkStandsFor s [] self.old → ContentsStandFor s (alone s steps).arch self.new.contents }
         ensures stopped { self.new.is_stopped ≡ true }
     {
         self.walk.is_stopped = true;

@@ -36,13 +36,13 @@ impl<D: Device> Walk<D> {
     ghost use Rattle.mono_model.specs.Setup.{is_setup};
     ghost use Rattle.mono_model.specs.Path.{path, entry};
     ghost use Rattle.mono_model.specs.Demand.{number_of};
-    ghost use Rattle.func_model.specs.Walk.{Holds, Stands, IsHolding, CanReach, IsOver, IsSameBut, IsStanding, IsFresh, IsMoved, IsForward, IsAtRest, IsProduced, IsObeyed, HasRoom, bytes_before, given_at};
+    ghost use Rattle.func_model.specs.Walk.{IsOnPath, WalkStandsFor, IsOnSomePath, CanReach, IsOver, IsSameBut, IsStanding, IsFresh, IsMoved, IsForward, IsAtRest, IsProduced, IsObeyed, HasRoom, bytes_before, given_at};
 
     /// The walk at the start of a run. All memory of the run is taken here.
     pub fn new(alloc: Global, setup: &Setup, devices: Vec<D>) -> Result<Walk<D>, NoMemory>
         requires sound { is_setup setup.now ≡ true }
         requires order { map D.kind devices.items ≡ device_order }
-        ensures stands { IfOk result (λ walk. Stands setup.now [] walk) }
+        ensures stands { IfOk result (λ walk. WalkStandsFor setup.now [] walk) }
         ensures opening { IfOk result IsFresh }
     {
         let ahead = setup.params.core_window + setup.ring + 2;
@@ -76,8 +76,8 @@ impl<D: Device> Walk<D> {
         requires running { self.old.is_stopped ≡ false }
         requires room { self.old.position < self.old.committed + self.old.journal.room }
         requires bounded { self.old.position < 2 ^ 63 }
-        ensures stands { (s : RunSetup) (os : List SpecOrder) → Stands s os self.old → Stands s os self.new }
-        ensures entry { (s : RunSetup) (os : List SpecOrder) → Stands s os self.old → result ≡ entry s os self.old.position }
+        ensures stands { (s : RunSetup) (os : List SpecOrder) → WalkStandsFor s os self.old → WalkStandsFor s os self.new }
+        ensures entry { (s : RunSetup) (os : List SpecOrder) → WalkStandsFor s os self.old → result ≡ entry s os self.old.position }
         ensures position { self.new.position ≡ self.old.position + 1 }
         ensures others { IsSameBut self.old self.new }
     {
@@ -92,9 +92,9 @@ impl<D: Device> Walk<D> {
 
     /// Takes instructions back until instruction `n` is the next one. What is committed isn't taken back.
     fn go_back(&mut self, n: u64)
-        requires holding { n < self.old.position → IsHolding self.old }
+        requires holding { n < self.old.position → IsOnSomePath self.old }
         requires from { self.old.committed ≤ n }
-        ensures holds { (s : RunSetup) (os : List SpecOrder) → Holds s os self.old → Holds s os self.new }
+        ensures holds { (s : RunSetup) (os : List SpecOrder) → IsOnPath s os self.old → IsOnPath s os self.new }
         ensures position { n < self.old.position → self.new.position ≡ n }
         ensures stays { self.old.position ≤ n → self.new ≡ self.old }
         ensures others { IsSameBut self.old self.new }
@@ -114,7 +114,7 @@ impl<D: Device> Walk<D> {
         requires running { self.old.position < n → self.old.is_stopped ≡ false }
         requires room { n ≤ self.old.committed + self.old.journal.room }
         requires bounded { n < 2 ^ 63 }
-        ensures stands { (s : RunSetup) (os : List SpecOrder) → Stands s os self.old → Stands s os self.new }
+        ensures stands { (s : RunSetup) (os : List SpecOrder) → WalkStandsFor s os self.old → WalkStandsFor s os self.new }
         ensures position { self.old.position ≤ n → self.new.position ≡ n }
         ensures stays { n < self.old.position → self.new ≡ self.old }
         ensures others { IsSameBut self.old self.new }
@@ -130,7 +130,7 @@ impl<D: Device> Walk<D> {
         requires from { self.old.committed ≤ n }
         requires room { n ≤ self.old.committed + self.old.journal.room }
         requires bounded { n < 2 ^ 63 }
-        ensures holds { (s : RunSetup) (os : List SpecOrder) → Stands s os self.old → Holds s os self.new }
+        ensures holds { (s : RunSetup) (os : List SpecOrder) → WalkStandsFor s os self.old → IsOnPath s os self.new }
         ensures position { self.new.position ≡ n }
         ensures others { IsSameBut self.old self.new }
     {
@@ -144,7 +144,7 @@ impl<D: Device> Walk<D> {
     /// Makes `n` the number of the first instruction that isn't committed. What is below can't be taken back any more.
     fn commit(&mut self, n: u64)
         requires from { self.old.committed ≤ n }
-        ensures holds { (s : RunSetup) (os : List SpecOrder) → Holds s os self.old → length (path s os n).output ≤ s.output → Holds s os self.new }
+        ensures holds { (s : RunSetup) (os : List SpecOrder) → IsOnPath s os self.old → length (path s os n).output ≤ s.output → IsOnPath s os self.new }
         ensures committed { self.new.committed ≡ n }
         ensures room { self.new.journal.room ≡ self.old.journal.room }
         ensures others { self.new ≡ record self.old { journal = self.new.journal; committed = n } }
@@ -160,7 +160,7 @@ impl<D: Device> Walk<D> {
         requires room { n ≤ self.old.committed + self.old.journal.room }
         requires bounded { n < 2 ^ 63 }
         requires epoch { self.old.epoch < 2 ^ 63 }
-        ensures stands { (s : RunSetup) (os : List SpecOrder) → Stands s os self.old → Stands s (Set n addr ∷ os) self.new }
+        ensures stands { (s : RunSetup) (os : List SpecOrder) → WalkStandsFor s os self.old → WalkStandsFor s (Set n addr ∷ os) self.new }
         ensures moved { IsMoved n self.old.committed self.old.is_stopped self.old self.new }
     {
         self.go_to(n);
@@ -176,7 +176,7 @@ impl<D: Device> Walk<D> {
         requires bounded { n < 2 ^ 63 }
         requires epoch { self.old.epoch < 2 ^ 63 }
         requires within { bytes_before self.old n ≤ self.old.limit }
-        ensures stands { (s : RunSetup) (os : List SpecOrder) → Stands s os self.old → Stands s (Interrupt n ∷ os) self.new }
+        ensures stands { (s : RunSetup) (os : List SpecOrder) → WalkStandsFor s os self.old → WalkStandsFor s (Interrupt n ∷ os) self.new }
         ensures moved { IsMoved n n self.old.is_stopped self.old self.new }
     {
         self.go_to(n);
@@ -193,7 +193,7 @@ impl<D: Device> Walk<D> {
         requires room { n ≤ self.old.committed + self.old.journal.room }
         requires bounded { n < 2 ^ 63 }
         requires epoch { self.old.epoch < 2 ^ 63 }
-        ensures stands { (s : RunSetup) (os : List SpecOrder) → Stands s os self.old → Stands s (Time n time ∷ os) self.new }
+        ensures stands { (s : RunSetup) (os : List SpecOrder) → WalkStandsFor s os self.old → WalkStandsFor s (Time n time ∷ os) self.new }
         ensures moved { IsMoved n self.old.committed self.old.is_stopped self.old self.new }
     {
         self.go_to(n);
@@ -208,7 +208,7 @@ impl<D: Device> Walk<D> {
         requires room { n ≤ self.old.committed + self.old.journal.room }
         requires bounded { n < 2 ^ 63 }
         requires epoch { self.old.epoch < 2 ^ 63 }
-        ensures stands { (s : RunSetup) (os : List SpecOrder) → Stands s os self.old → Stands s (Stop n ∷ os) self.new }
+        ensures stands { (s : RunSetup) (os : List SpecOrder) → WalkStandsFor s os self.old → WalkStandsFor s (Stop n ∷ os) self.new }
         ensures moved { IsMoved n self.old.committed true self.old self.new }
     {
         self.go_to(n);
@@ -224,7 +224,7 @@ impl<D: Device> Walk<D> {
         requires bounded { n < 2 ^ 63 }
         requires epoch { self.old.epoch < 2 ^ 63 }
         requires within { bytes_before self.old n ≤ self.old.limit }
-        ensures stands { (s : RunSetup) (os : List SpecOrder) → Stands s os self.old → Stands s (Sync n ∷ os) self.new }
+        ensures stands { (s : RunSetup) (os : List SpecOrder) → WalkStandsFor s os self.old → WalkStandsFor s (Sync n ∷ os) self.new }
         ensures moved { IsMoved n n self.old.is_stopped self.old self.new }
     {
         self.go_to(n);
@@ -237,7 +237,7 @@ impl<D: Device> Walk<D> {
     pub fn produce(&mut self) -> Option<Entry>
         requires standing { self.old.is_stopped ≡ false → IsStanding self.old }
         requires bounded { self.old.position < 2 ^ 63 }
-        ensures produced { (s : RunSetup) (os : List SpecOrder) → Stands s os self.old → IsProduced s os self.old self.new result }
+        ensures produced { (s : RunSetup) (os : List SpecOrder) → WalkStandsFor s os self.old → IsProduced s os self.old self.new result }
         ensures moved { IfSome result (λ e. IsForward self.old self.new) }
         ensures none { IsNone result ↔ IsAtRest self.old }
         ensures same { IfNone result (self.new ≡ self.old) }
@@ -257,7 +257,7 @@ impl<D: Device> Walk<D> {
         requires bounded { number_of order < 2 ^ 63 }
         requires epoch { self.old.epoch < 2 ^ 63 }
         requires within { HasRoom order self.old self.old.limit }
-        ensures stands { (s : RunSetup) (os : List SpecOrder) → Stands s os self.old → Stands s (order ∷ os) self.new }
+        ensures stands { (s : RunSetup) (os : List SpecOrder) → WalkStandsFor s os self.old → WalkStandsFor s (order ∷ os) self.new }
         ensures moved { IsObeyed order self.old self.new }
         ensures committed_never_falls { self.old.committed ≤ self.new.committed }
     {

@@ -13,7 +13,7 @@ use Rattle.reservation_stations.specs.declared.station.Station.{Station}
 use Rattle.reservation_stations.specs.Readiness.{Window, mark_of, marked, entered}
 use Rattle.load_store_queue.specs.Queue.{Contents as Stores}
 use Rattle.mono_model.specs.Found.{first_source, second_source, destination_in}
-use Rattle.timing_laws.specs.Slots.{found_in, is_done_state}
+use Rattle.timing_side.specs.Slots.{found_in, is_done_state}
 use Rattle.in_flight.specs.Flight.{IsExecuting}
 use Rattle.in_flight.specs.Step.{done_mark, mark_in, station_in, stations_of, queue_of, queued_as, IsInStep}
 use Rattle.in_flight.proofs.Divisions.{division, waits_undivided, done_undivided, divisions-append, divisions-set}
@@ -25,18 +25,18 @@ waiting_undivided : (slot : Slot) → slot.state ≡ Waiting → division slot �
 waiting_undivided slot waiting = rw (waiting, waits_undivided slot.class) refl
 
 -- a mark on the station of a slot
-marked_stations : (window : Contents) (stations : Window) (m : Mark) (place : ℕ) (slot new : Slot) → stations ≡ stations_of window.cap window.slots
-    → HasOwnIndices window.cap window.slots → slice_get window.slots place ≡ Some slot → station_in window.cap new ≡ record (station_in window.cap slot) { mark = m }
-    → record stations { stations = marked (index_of window.cap slot.number) m stations.stations } ≡ stations_of window.cap (slice_set window.slots place new)
+marked_stations : (window : Contents) (stations : Window) (m : Mark) (place : ℕ) (slot new : Slot) → stations ≡ stations_of window.capacity window.slots
+    → HasOwnIndices window.capacity window.slots → slice_get window.slots place ≡ Some slot → station_in window.capacity new ≡ record (station_in window.capacity slot) { mark = m }
+    → record stations { stations = marked (index_of window.capacity slot.number) m stations.stations } ≡ stations_of window.capacity (slice_set window.slots place new)
 marked_stations window stations m place slot new are apart here is =
-    ap (λ (w : Window). let now : Window = record w { stations = marked (index_of window.cap slot.number) m w.stations } in now) are
-    ∙ ap (λ held. let now : Window = record { window = window.cap; stations = held } in now) (marks_at window.cap m window.slots place slot new apart here is)
+    ap (λ (w : Window). let now : Window = record w { stations = marked (index_of window.capacity slot.number) m w.stations } in now) are
+    ∙ ap (λ held. let now : Window = record { capacity = window.capacity; stations = held } in now) (marks_at window.capacity m window.slots place slot new apart here is)
 
-pub waits_at : (window : Contents) (stations : Window) (place : ℕ) (slot : Slot) → stations ≡ stations_of window.cap window.slots
-    → HasOwnIndices window.cap window.slots → slice_get window.slots place ≡ Some slot → slot.state ≡ Waiting
-    → mark_of (index_of window.cap slot.number) stations.stations ≡ Some mark.Waiting
+pub waits_at : (window : Contents) (stations : Window) (place : ℕ) (slot : Slot) → stations ≡ stations_of window.capacity window.slots
+    → HasOwnIndices window.capacity window.slots → slice_get window.slots place ≡ Some slot → slot.state ≡ Waiting
+    → mark_of (index_of window.capacity slot.number) stations.stations ≡ Some mark.Waiting
 waits_at window stations place slot are apart here waiting =
-    ap (λ (w : Window). mark_of (index_of window.cap slot.number) w.stations) are ∙ mark_at window.cap window.slots place slot apart here
+    ap (λ (w : Window). mark_of (index_of window.capacity slot.number) w.stations) are ∙ mark_at window.capacity window.slots place slot apart here
     ∙ ap (λ state. Some (mark_in state slot.cause)) waiting
 
 issued_mark : (state : SlotState) (cause : Option Cause) → IsExecuting state → mark_in state cause ≡ mark.Issued
@@ -44,18 +44,18 @@ issued_mark Waiting cause executing = absurd executing
 issued_mark (Until cycle) cause executing = refl
 issued_mark Done cause executing = absurd executing
 
-pub executes_at : (window : Contents) (stations : Window) (place : ℕ) (slot : Slot) → stations ≡ stations_of window.cap window.slots
-    → HasOwnIndices window.cap window.slots → slice_get window.slots place ≡ Some slot → IsExecuting slot.state
-    → mark_of (index_of window.cap slot.number) stations.stations ≡ Some mark.Issued
+pub executes_at : (window : Contents) (stations : Window) (place : ℕ) (slot : Slot) → stations ≡ stations_of window.capacity window.slots
+    → HasOwnIndices window.capacity window.slots → slice_get window.slots place ≡ Some slot → IsExecuting slot.state
+    → mark_of (index_of window.capacity slot.number) stations.stations ≡ Some mark.Issued
 executes_at window stations place slot are apart here executing =
-    ap (λ (w : Window). mark_of (index_of window.cap slot.number) w.stations) are ∙ mark_at window.cap window.slots place slot apart here
+    ap (λ (w : Window). mark_of (index_of window.capacity slot.number) w.stations) are ∙ mark_at window.capacity window.slots place slot apart here
     ∙ ap Some (issued_mark slot.state slot.cause executing)
 
 -- it begins to execute
 pub begun_keeps : (window : Contents) (stations : Window) (stores : Stores) (dividing place until : ℕ) (slot : Slot) → IsInStep window stations stores dividing
-    → HasOwnIndices window.cap window.slots → slice_get window.slots place ≡ Some slot → slot.state ≡ Waiting
+    → HasOwnIndices window.capacity window.slots → slice_get window.slots place ≡ Some slot → slot.state ≡ Waiting
     → IsInStep (record window { slots = slice_set window.slots place (record slot { state = Until until }) })
-    (record stations { stations = marked (index_of window.cap slot.number) mark.Issued stations.stations })
+    (record stations { stations = marked (index_of window.capacity slot.number) mark.Issued stations.stations })
     stores
     (dividing + division (record slot { state = Until until }))
 begun_keeps window stations stores dividing place until slot step apart here waiting =
@@ -64,7 +64,7 @@ begun_keeps window stations stores dividing place until slot step apart here wai
     record {
       limit = step.limit;
       stations_are = marked_stations window stations mark.Issued place slot new step.stations_are apart here refl;
-      stores_are = step.stores_are ∙ ap (λ held. let now : Stores = record { cap = window.cap; stores = held } in now) (sym (set_undone window.slots place slot new here refl queued));
+      stores_are = step.stores_are ∙ ap (λ held. let now : Stores = record { capacity = window.capacity; stores = held } in now) (sym (set_undone window.slots place slot new here refl queued));
       dividing_is = omega (arith, step.dividing_is, divisions-set window.slots place slot new here, waiting_undivided slot waiting);
     }
 
@@ -74,10 +74,10 @@ woken_mark None = refl
 woken_mark (Some cause) = refl
 
 pub finished_keeps : (window : Contents) (stations : Window) (stores queued : Stores) (dividing place : ℕ) (slot : Slot) → IsInStep window stations stores dividing
-    → HasOwnIndices window.cap window.slots → slice_get window.slots place ≡ Some slot
-    → queued ≡ queue_of window.cap (slice_set window.slots place (record slot { state = Done }))
+    → HasOwnIndices window.capacity window.slots → slice_get window.slots place ≡ Some slot
+    → queued ≡ queue_of window.capacity (slice_set window.slots place (record slot { state = Done }))
     → IsInStep (record window { slots = slice_set window.slots place (record slot { state = Done }) })
-    (record stations { stations = marked (index_of window.cap slot.number) (if is_some slot.cause then mark.Faulted else mark.Done) stations.stations })
+    (record stations { stations = marked (index_of window.capacity slot.number) (if is_some slot.cause then mark.Faulted else mark.Done) stations.stations })
     queued
     (dividing - division slot)
 finished_keeps window stations stores queued dividing place slot step apart here is =
@@ -88,29 +88,29 @@ finished_keeps window stations stores queued dividing place slot step apart here
       limit = step.limit;
       stations_are =
           marked_stations window stations faulted place slot new step.stations_are apart here
-          (ap (λ m. let station : Station = record (station_in window.cap slot) { mark = m } in station) (sym (woken_mark slot.cause)));
+          (ap (λ m. let station : Station = record (station_in window.capacity slot) { mark = m } in station) (sym (woken_mark slot.cause)));
       stores_are = is;
       dividing_is = omega (arith, step.dividing_is, divisions-set window.slots place slot new here, gone);
     }
 
 -- one more comes
 pub appended_keeps : (window : Contents) (stations : Window) (stores queued : Stores) (dividing index : ℕ) (first second destination : Option ℕ) (slot : Slot)
-    → IsInStep window stations stores dividing → slot.state ≡ Waiting → index ≡ index_of window.cap slot.number
+    → IsInStep window stations stores dividing → slot.state ≡ Waiting → index ≡ index_of window.capacity slot.number
     → first ≡ first_source (found_in slot) → second ≡ second_source (found_in slot) → destination ≡ destination_in (found_in slot)
-    → queued ≡ queue_of window.cap (window.slots ++ slot ∷ [])
+    → queued ≡ queue_of window.capacity (window.slots ++ slot ∷ [])
     → IsInStep (record window { slots = window.slots ++ slot ∷ [] })
     (record stations { stations = stations.stations ++ entered index first second destination ∷ [] })
     queued
     dividing
 appended_keeps window stations stores queued dividing index first second destination slot step waiting at one two three is =
-    let station : entered index first second destination ≡ station_in window.cap slot =
-    λ i. record { slot = at i; first = one i; second = two i; destination = three i; mark = sym (ap (λ state. mark_in state slot.cause) waiting) i }
+    let station : entered index first second destination ≡ station_in window.capacity slot =
+    λ i. record { index = at i; first = one i; second = two i; destination = three i; mark = sym (ap (λ state. mark_in state slot.cause) waiting) i }
     in
     record {
       limit = step.limit;
       stations_are =
-          (λ i. let now : Window = record { window = (step.stations_are i).window; stations = (step.stations_are i).stations ++ station i ∷ [] } in now)
-          ∙ ap (λ held. let now : Window = record { window = window.cap; stations = held } in now) (sym (map-append (station_in window.cap) window.slots (slot ∷ [])));
+          (λ i. let now : Window = record { capacity = (step.stations_are i).capacity; stations = (step.stations_are i).stations ++ station i ∷ [] } in now)
+          ∙ ap (λ held. let now : Window = record { capacity = window.capacity; stations = held } in now) (sym (map-append (station_in window.capacity) window.slots (slot ∷ [])));
       stores_are = is;
       dividing_is = omega (arith, step.dividing_is, divisions-append window.slots (slot ∷ []), waiting_undivided slot waiting);
     }

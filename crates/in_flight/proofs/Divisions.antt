@@ -5,7 +5,7 @@ use Rattle.fsim_base.specs.declared.instruction.Class.{Class}
 use Rattle.fsim_base.specs.declared.instruction.Class.TheVariants as class
 use Rattle.reorder_buffer.specs.declared.slot.Slot.{Slot}
 use Rattle.reorder_buffer.specs.declared.slot.SlotState.TheVariants.{Waiting, Done}
-use Rattle.timing_laws.specs.Issue.{is_busy_division, busy_divisions}
+use Rattle.timing_side.specs.Issue.{is_busy_division, busy_divisions}
 
 -- how many divisions a slot counts as
 abbrev pub division : Slot → ℕ

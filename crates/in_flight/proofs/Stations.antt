@@ -9,79 +9,79 @@ use Rattle.reorder_buffer.specs.declared.slot.Slot.{Slot}
 use Rattle.reorder_buffer.specs.Window.{HasOwnIndices, index_of}
 use Rattle.reservation_stations.specs.declared.station.Mark.{Mark}
 use Rattle.reservation_stations.specs.declared.station.Station.{Station}
-use Rattle.reservation_stations.specs.Readiness.{station_of, mark_of, marked, marked_if, oldest_slot, youngest_slot}
+use Rattle.reservation_stations.specs.Readiness.{station_of, mark_of, marked, marked_if, oldest_index, youngest_index}
 use Rattle.in_flight.specs.Step.{mark_in, station_in, stations_in}
 
 -- no station holds an index that no slot has
-pub none_holds : (cap index : ℕ) (slots : List Slot) → All (λ slot. index_of cap slot.number ≢ index) slots → IsNone (station_of index (stations_in cap slots))
-none_holds cap index [] free = refl
-none_holds cap index (slot ∷ slots) free =
-    let other = ne_eqb (index_of cap slot.number) index (All-head (λ (s : Slot). index_of cap s.number ≢ index) slot slots free) in
-    rw other (none_holds cap index slots (All-tail (λ (s : Slot). index_of cap s.number ≢ index) slot slots free))
+pub none_holds : (capacity index : ℕ) (slots : List Slot) → All (λ slot. index_of capacity slot.number ≢ index) slots → IsNone (station_of index (stations_in capacity slots))
+none_holds capacity index [] free = refl
+none_holds capacity index (slot ∷ slots) free =
+    let other = ne_eqb (index_of capacity slot.number) index (All-head (λ (s : Slot). index_of capacity s.number ≢ index) slot slots free) in
+    rw other (none_holds capacity index slots (All-tail (λ (s : Slot). index_of capacity s.number ≢ index) slot slots free))
 
 -- the first of slots with indices of their own has another index than the later ones, and these have their own
-first_apart : (cap : ℕ) (slot : Slot) (slots : List Slot) → HasOwnIndices cap (slot ∷ slots) → All (λ other. index_of cap other.number ≢ index_of cap slot.number) slots
-first_apart cap slot slots apart = λ k d within same. apart zero (suc k) d (omega arith) (omega arith) (sym same)
+first_apart : (capacity : ℕ) (slot : Slot) (slots : List Slot) → HasOwnIndices capacity (slot ∷ slots) → All (λ other. index_of capacity other.number ≢ index_of capacity slot.number) slots
+first_apart capacity slot slots apart = λ k d within same. apart zero (suc k) d (omega arith) (omega arith) (sym same)
 
-rest_apart : (cap : ℕ) (slot : Slot) (slots : List Slot) → HasOwnIndices cap (slot ∷ slots) → HasOwnIndices cap slots
-rest_apart cap slot slots apart = λ i j d before within. apart (suc i) (suc j) d (omega arith) (omega arith)
+rest_apart : (capacity : ℕ) (slot : Slot) (slots : List Slot) → HasOwnIndices capacity (slot ∷ slots) → HasOwnIndices capacity slots
+rest_apart capacity slot slots apart = λ i j d before within. apart (suc i) (suc j) d (omega arith) (omega arith)
 
 -- the slot at a place among them
-other_index : (cap : ℕ) (first : Slot) (slots : List Slot) (place : ℕ) (slot : Slot) → HasOwnIndices cap (first ∷ slots) → slice_get slots place ≡ Some slot
-    → (index_of cap first.number == index_of cap slot.number) ≡ false
-other_index cap first slots place slot apart here =
+other_index : (capacity : ℕ) (first : Slot) (slots : List Slot) (place : ℕ) (slot : Slot) → HasOwnIndices capacity (first ∷ slots) → slice_get slots place ≡ Some slot
+    → (index_of capacity first.number == index_of capacity slot.number) ≡ false
+other_index capacity first slots place slot apart here =
     let within = slice_get_within slots place slot here in
     let read = get_or_from_slice_get slots place slot slot here in
-    ne_eqb (index_of cap first.number) (index_of cap slot.number)
-    (λ same. first_apart cap first slots apart place slot within (ap (λ (s : Slot). index_of cap s.number) read ∙ sym same))
+    ne_eqb (index_of capacity first.number) (index_of capacity slot.number)
+    (λ same. first_apart capacity first slots apart place slot within (ap (λ (s : Slot). index_of capacity s.number) read ∙ sym same))
 
 same_first : {X : Type 0} (x y : X) → Some x ≡ Some y → x ≡ y
 same_first x y e = cc
 
 -- its station is the one that holds its index
-pub mark_at : (cap : ℕ) (slots : List Slot) (place : ℕ) (slot : Slot) → HasOwnIndices cap slots → slice_get slots place ≡ Some slot
-    → mark_of (index_of cap slot.number) (stations_in cap slots) ≡ Some (mark_in slot.state slot.cause)
-mark_at cap [] place slot apart here = absurd cc
-mark_at cap (first ∷ slots) zero slot apart here =
+pub mark_at : (capacity : ℕ) (slots : List Slot) (place : ℕ) (slot : Slot) → HasOwnIndices capacity slots → slice_get slots place ≡ Some slot
+    → mark_of (index_of capacity slot.number) (stations_in capacity slots) ≡ Some (mark_in slot.state slot.cause)
+mark_at capacity [] place slot apart here = absurd cc
+mark_at capacity (first ∷ slots) zero slot apart here =
     let same = same_first first slot here in
-    rw (← same, eq-eqb (index_of cap first.number) (index_of cap first.number) refl) refl
-mark_at cap (first ∷ slots) (suc place) slot apart here =
-    rw (other_index cap first slots place slot apart here) (mark_at cap slots place slot (rest_apart cap first slots apart) here)
+    rw (← same, eq-eqb (index_of capacity first.number) (index_of capacity first.number) refl) refl
+mark_at capacity (first ∷ slots) (suc place) slot apart here =
+    rw (other_index capacity first slots place slot apart here) (mark_at capacity slots place slot (rest_apart capacity first slots apart) here)
 
 -- none is marked where none has the index
-none_marked : (cap index : ℕ) (mark : Mark) (slots : List Slot) → All (λ slot. index_of cap slot.number ≢ index) slots → marked index mark (stations_in cap slots) ≡ stations_in cap slots
-none_marked cap index mark [] free = refl
-none_marked cap index mark (slot ∷ slots) free =
-    let other = ne_eqb (index_of cap slot.number) index (All-head (λ (s : Slot). index_of cap s.number ≢ index) slot slots free) in
-    rw other (ap (λ rest. station_in cap slot ∷ rest) (none_marked cap index mark slots (All-tail (λ (s : Slot). index_of cap s.number ≢ index) slot slots free)))
+none_marked : (capacity index : ℕ) (mark : Mark) (slots : List Slot) → All (λ slot. index_of capacity slot.number ≢ index) slots → marked index mark (stations_in capacity slots) ≡ stations_in capacity slots
+none_marked capacity index mark [] free = refl
+none_marked capacity index mark (slot ∷ slots) free =
+    let other = ne_eqb (index_of capacity slot.number) index (All-head (λ (s : Slot). index_of capacity s.number ≢ index) slot slots free) in
+    rw other (ap (λ rest. station_in capacity slot ∷ rest) (none_marked capacity index mark slots (All-tail (λ (s : Slot). index_of capacity s.number ≢ index) slot slots free)))
 
 -- the station at its place is the one that is marked
-marks_first : (cap : ℕ) (mark : Mark) (slots : List Slot) (slot new : Slot) → HasOwnIndices cap (slot ∷ slots) → station_in cap new ≡ record (station_in cap slot) { mark = mark }
-    → marked (index_of cap slot.number) mark (stations_in cap (slot ∷ slots)) ≡ stations_in cap (new ∷ slots)
-marks_first cap mark slots slot new apart is =
-    let here : marked_if (index_of cap slot.number) mark (station_in cap slot) ≡ record (station_in cap slot) { mark = mark } =
-    rw (eq-eqb (index_of cap slot.number) (index_of cap slot.number) refl) refl
+marks_first : (capacity : ℕ) (mark : Mark) (slots : List Slot) (slot new : Slot) → HasOwnIndices capacity (slot ∷ slots) → station_in capacity new ≡ record (station_in capacity slot) { mark = mark }
+    → marked (index_of capacity slot.number) mark (stations_in capacity (slot ∷ slots)) ≡ stations_in capacity (new ∷ slots)
+marks_first capacity mark slots slot new apart is =
+    let here : marked_if (index_of capacity slot.number) mark (station_in capacity slot) ≡ record (station_in capacity slot) { mark = mark } =
+    rw (eq-eqb (index_of capacity slot.number) (index_of capacity slot.number) refl) refl
     in
-    let rest = none_marked cap (index_of cap slot.number) mark slots (first_apart cap slot slots apart) in
+    let rest = none_marked capacity (index_of capacity slot.number) mark slots (first_apart capacity slot slots apart) in
     λ i. (here ∙ sym is) i ∷ rest i
 
-pub marks_at : (cap : ℕ) (mark : Mark) (slots : List Slot) (place : ℕ) (slot new : Slot) → HasOwnIndices cap slots → slice_get slots place ≡ Some slot
-    → station_in cap new ≡ record (station_in cap slot) { mark = mark }
-    → marked (index_of cap slot.number) mark (stations_in cap slots) ≡ stations_in cap (slice_set slots place new)
-marks_at cap mark [] place slot new apart here is = absurd cc
-marks_at cap mark (first ∷ slots) zero slot new apart here is =
+pub marks_at : (capacity : ℕ) (mark : Mark) (slots : List Slot) (place : ℕ) (slot new : Slot) → HasOwnIndices capacity slots → slice_get slots place ≡ Some slot
+    → station_in capacity new ≡ record (station_in capacity slot) { mark = mark }
+    → marked (index_of capacity slot.number) mark (stations_in capacity slots) ≡ stations_in capacity (slice_set slots place new)
+marks_at capacity mark [] place slot new apart here is = absurd cc
+marks_at capacity mark (first ∷ slots) zero slot new apart here is =
     let same = same_first first slot here in
-    let own : HasOwnIndices cap (slot ∷ slots) = subst (λ (s : Slot). HasOwnIndices cap (s ∷ slots)) same apart in
-    subst (λ (s : Slot). marked (index_of cap slot.number) mark (stations_in cap (s ∷ slots)) ≡ stations_in cap (new ∷ slots)) (sym same)
-    (marks_first cap mark slots slot new own is)
-marks_at cap mark (first ∷ slots) (suc place) slot new apart here is =
-    rw (other_index cap first slots place slot apart here)
-    (ap (λ rest. station_in cap first ∷ rest) (marks_at cap mark slots place slot new (rest_apart cap first slots apart) here is))
+    let own : HasOwnIndices capacity (slot ∷ slots) = subst (λ (s : Slot). HasOwnIndices capacity (s ∷ slots)) same apart in
+    subst (λ (s : Slot). marked (index_of capacity slot.number) mark (stations_in capacity (s ∷ slots)) ≡ stations_in capacity (new ∷ slots)) (sym same)
+    (marks_first capacity mark slots slot new own is)
+marks_at capacity mark (first ∷ slots) (suc place) slot new apart here is =
+    rw (other_index capacity first slots place slot apart here)
+    (ap (λ rest. station_in capacity first ∷ rest) (marks_at capacity mark slots place slot new (rest_apart capacity first slots apart) here is))
 
 -- the oldest slot's station is the oldest
-pub oldest_at : (cap : ℕ) (slots : List Slot) (slot : Slot) → slice_get slots 0 ≡ Some slot → oldest_slot (stations_in cap slots) ≡ Some (index_of cap slot.number)
-oldest_at cap slots slot here =
-    ap (option_map (λ (station : Station). station.slot)) (slice_get-map (station_in cap) slots 0 ∙ ap (option_map (station_in cap)) here)
+pub oldest_at : (capacity : ℕ) (slots : List Slot) (slot : Slot) → slice_get slots 0 ≡ Some slot → oldest_index (stations_in capacity slots) ≡ Some (index_of capacity slot.number)
+oldest_at capacity slots slot here =
+    ap (option_map (λ (station : Station). station.index)) (slice_get-map (station_in capacity) slots 0 ∙ ap (option_map (station_in capacity)) here)
 
 -- of the first slots, the youngest
 slice_get-take : (slots : List Slot) (place : ℕ) (slot : Slot) → slice_get slots place ≡ Some slot → slice_get (take (suc place) slots) place ≡ Some slot
@@ -94,12 +94,12 @@ length-take-suc [] place slot here = absurd cc
 length-take-suc (first ∷ slots) zero slot here = refl
 length-take-suc (first ∷ slots) (suc place) slot here = ap suc (length-take-suc slots place slot here)
 
-pub youngest_at : (cap : ℕ) (slots : List Slot) (place : ℕ) (slot : Slot) → slice_get slots place ≡ Some slot
-    → youngest_slot (stations_in cap (take (suc place) slots)) ≡ Some (index_of cap slot.number)
-youngest_at cap slots place slot here =
+pub youngest_at : (capacity : ℕ) (slots : List Slot) (place : ℕ) (slot : Slot) → slice_get slots place ≡ Some slot
+    → youngest_index (stations_in capacity (take (suc place) slots)) ≡ Some (index_of capacity slot.number)
+youngest_at capacity slots place slot here =
     let front = take (suc place) slots in
-    let long : length (stations_in cap front) - 1 ≡ place = omega (arith, length-map front (station_in cap), length-take-suc slots place slot here) in
-    rw long (ap (option_map (λ (station : Station). station.slot)) (slice_get-map (station_in cap) front place ∙ ap (option_map (station_in cap)) (slice_get-take slots place slot here)))
+    let long : length (stations_in capacity front) - 1 ≡ place = omega (arith, length-map front (station_in capacity), length-take-suc slots place slot here) in
+    rw long (ap (option_map (λ (station : Station). station.index)) (slice_get-map (station_in capacity) front place ∙ ap (option_map (station_in capacity)) (slice_get-take slots place slot here)))
 
 take-take-suc : (slots : List Slot) (place : ℕ) → take place (take (suc place) slots) ≡ take place slots
 take-take-suc [] zero = refl
@@ -108,9 +108,9 @@ take-take-suc (slot ∷ slots) zero = refl
 take-take-suc (slot ∷ slots) (suc place) = ap (λ rest. slot ∷ rest) (take-take-suc slots place)
 
 -- and the stations without it
-pub cut_at : (cap : ℕ) (slots : List Slot) (place : ℕ) (slot : Slot) → slice_get slots place ≡ Some slot
-    → take (length (stations_in cap (take (suc place) slots)) - 1) (stations_in cap (take (suc place) slots)) ≡ stations_in cap (take place slots)
-cut_at cap slots place slot here =
+pub cut_at : (capacity : ℕ) (slots : List Slot) (place : ℕ) (slot : Slot) → slice_get slots place ≡ Some slot
+    → take (length (stations_in capacity (take (suc place) slots)) - 1) (stations_in capacity (take (suc place) slots)) ≡ stations_in capacity (take place slots)
+cut_at capacity slots place slot here =
     let front = take (suc place) slots in
-    let long : length (stations_in cap front) - 1 ≡ place = omega (arith, length-map front (station_in cap), length-take-suc slots place slot here) in
-    rw long (take-map (station_in cap) place front ∙ ap (stations_in cap) (take-take-suc slots place))
+    let long : length (stations_in capacity front) - 1 ≡ place = omega (arith, length-map front (station_in capacity), length-take-suc slots place slot here) in
+    rw long (take-map (station_in capacity) place front ∙ ap (stations_in capacity) (take-take-suc slots place))

@@ -14,8 +14,8 @@ use Rattle.load_store_queue.specs.declared.queued.Queued.{Queued}
 use Rattle.load_store_queue.specs.Queue.{AreOlderDone, marked, done_if, youngest}
 use Rattle.load_store_queue.specs.Queue as queue
 use Rattle.mono_model.specs.Window.{is_store_class}
-use Rattle.timing_laws.specs.Slots.{is_done_state}
-use Rattle.timing_laws.specs.Issue.{is_unfinished_store, are_stores_done}
+use Rattle.timing_side.specs.Slots.{is_done_state}
+use Rattle.timing_side.specs.Issue.{is_unfinished_store, are_stores_done}
 use Rattle.in_flight.specs.Flight.{older_at}
 use Rattle.in_flight.specs.Step.{is_store, queued_as, stores_in}
 

@@ -4,8 +4,8 @@ use Rattle.std.specs.Prelude.{ℕ, ◌&&◌, Bool, true, false, Option, Some, No
 use Rattle.reorder_buffer.specs.declared.slot.Slot.{Slot}
 use Rattle.reorder_buffer.specs.declared.slot.SlotState.{SlotState}
 use Rattle.reorder_buffer.specs.declared.slot.SlotState.TheVariants.{Waiting, Until, Done}
-use Rattle.timing_laws.specs.Slots.{is_waiting_state}
-use Rattle.timing_laws.specs.Issue.{has_operands}
+use Rattle.timing_side.specs.Slots.{is_waiting_state}
+use Rattle.timing_side.specs.Issue.{has_operands}
 
 -- the slots in front of a place, the youngest first
 abbrev pub older_at : List Slot → ℕ → List Slot

@@ -14,8 +14,8 @@ use Rattle.load_store_queue.specs.declared.queued.Queued.{Queued}
 use Rattle.load_store_queue.specs.Queue.{Contents as Stores}
 use Rattle.mono_model.specs.Found.{first_source, second_source, destination_in}
 use Rattle.mono_model.specs.Window.{is_store_class}
-use Rattle.timing_laws.specs.Slots.{found_in, is_done_state}
-use Rattle.timing_laws.specs.Issue.{busy_divisions}
+use Rattle.timing_side.specs.Slots.{found_in, is_done_state}
+use Rattle.timing_side.specs.Issue.{busy_divisions}
 
 -- an instruction that is done with a cause gives no value
 abbrev pub done_mark : Option Cause → Mark
@@ -29,8 +29,8 @@ mark_in Done cause = done_mark cause
 
 -- the station of a slot, in a window of so many slots: its registers are those of its word
 abbrev pub station_in : ℕ → Slot → Station
-station_in cap slot = record {
-  slot = index_of cap slot.number;
+station_in capacity slot = record {
+  index = index_of capacity slot.number;
   first = first_source (found_in slot);
   second = second_source (found_in slot);
   destination = destination_in (found_in slot);
@@ -38,10 +38,10 @@ station_in cap slot = record {
 }
 
 abbrev pub stations_in : ℕ → List Slot → List Station
-stations_in cap slots = map (station_in cap) slots
+stations_in capacity slots = map (station_in capacity) slots
 
 abbrev pub stations_of : ℕ → List Slot → Window
-stations_of cap slots = record { window = cap; stations = stations_in cap slots }
+stations_of capacity slots = record { capacity = capacity; stations = stations_in capacity slots }
 
 -- the stores among some slots, and which of them are done
 abbrev pub is_store : Slot → Bool
@@ -54,11 +54,11 @@ abbrev pub stores_in : List Slot → List Queued
 stores_in slots = map queued_as (filter is_store slots)
 
 abbrev pub queue_of : ℕ → List Slot → Stores
-queue_of cap slots = record { cap = cap; stores = stores_in slots }
+queue_of capacity slots = record { capacity = capacity; stores = stores_in slots }
 
 -- the stations, the store queue and the count of divisions are those of the window's slots
 pub record IsInStep (window : Contents) (stations : Window) (stores : Stores) (dividing : ℕ) : Type 0 where
-  pub limit : window.cap ≤ 256
-  pub stations_are : stations ≡ stations_of window.cap window.slots
-  pub stores_are : stores ≡ queue_of window.cap window.slots
+  pub limit : window.capacity ≤ 256
+  pub stations_are : stations ≡ stations_of window.capacity window.slots
+  pub stores_are : stores ≡ queue_of window.capacity window.slots
   pub dividing_is : dividing ≡ busy_divisions window.slots

@@ -37,18 +37,18 @@ impl InFlight {
     ghost use Rattle.std.specs.Option.{option_copied};
     ghost use Rattle.reorder_buffer.specs.declared.slot.SlotState.TheVariants.{Waiting, Until, Done};
     ghost use Rattle.reorder_buffer.specs.Window.{IsConsecutive, youngest};
-    ghost use Rattle.timing_laws.specs.Slots.{waiting_count};
-    ghost use Rattle.timing_laws.specs.Issue.{busy_divisions, are_stores_done};
+    ghost use Rattle.timing_side.specs.Slots.{waiting_count};
+    ghost use Rattle.timing_side.specs.Issue.{busy_divisions, are_stores_done};
     ghost use Rattle.in_flight.specs.Flight.{older_at, may_start_at, executes_at, IsExecuting};
 
-    /// No instructions, with room for `cap`, at most 256. All memory is taken here; want of it is the one refusal.
-    pub fn new(alloc: Global, cap: u32) -> Result<InFlight, NoMemory>
-        requires limit { cap ≤ 256 }
-        ensures opening { IfOk result (λ f. f ≡ record { cap = cap; slots = [] }) }
+    /// No instructions, with room for `capacity`, at most 256. All memory is taken here; want of it is the one refusal.
+    pub fn new(alloc: Global, capacity: u32) -> Result<InFlight, NoMemory>
+        requires limit { capacity ≤ 256 }
+        ensures opening { IfOk result (λ f. f ≡ record { capacity = capacity; slots = [] }) }
     {
-        let window = Window::new(alloc, cap)?;
-        let stations = Stations::new(alloc, cap)?;
-        let stores = StoreQueue::new(alloc, cap)?;
+        let window = Window::new(alloc, capacity)?;
+        let stations = Stations::new(alloc, capacity)?;
+        let stores = StoreQueue::new(alloc, capacity)?;
         Ok(InFlight {
             window,
             stations,
@@ -60,8 +60,8 @@ impl InFlight {
     /// How many instructions there are.
     pub fn len(&self) -> u32
         ensures count { result ≡ length self.now.slots }
-        ensures within { result ≤ self.now.cap }
-        ensures limit { self.now.cap ≤ 256 }
+        ensures within { result ≤ self.now.capacity }
+        ensures limit { self.now.capacity ≤ 256 }
         ensures consecutive { IsConsecutive self.now.slots }
     {
         self.window.len()
@@ -69,8 +69,8 @@ impl InFlight {
 
     /// Whether there is no room for a further one.
     pub fn is_full(&self) -> bool
-        ensures full { IsTrue result ↔ (length self.now.slots ≡ self.now.cap) }
-        ensures within { length self.now.slots ≤ self.now.cap }
+        ensures full { IsTrue result ↔ (length self.now.slots ≡ self.now.capacity) }
+        ensures within { length self.now.slots ≤ self.now.capacity }
     {
         self.window.is_full()
     }
@@ -107,7 +107,7 @@ impl InFlight {
     /// Adds an instruction that waits, behind the others. There is room, and its number is the one behind the
     /// youngest one's.
     pub fn append(&mut self, slot: Slot)
-        requires room { length self.old.slots < self.old.cap }
+        requires room { length self.old.slots < self.old.capacity }
         requires next { IfSome (youngest self.old.slots) (λ last. slot.number ≡ last.number + 1) }
         requires waiting { slot.state ≡ Waiting }
         ensures appended { self.new ≡ record self.old { slots = self.old.slots ++ slot ∷ [] } }

@@ -12,8 +12,8 @@ use reorder_buffer::Window;
 pub fn put_youngest(stores: &mut StoreQueue, window: &Window)
     requires some { 0 < length window.now.slots }
     requires waiting { IfSome (youngest window.now.slots) (λ slot. slot.state ≡ Waiting) }
-    requires others { stores.old ≡ queue_of window.now.cap (take (length window.now.slots - 1) window.now.slots) }
-    ensures queued { stores.new ≡ queue_of window.now.cap window.now.slots }
+    requires others { stores.old ≡ queue_of window.now.capacity (take (length window.now.slots - 1) window.now.slots) }
+    ensures queued { stores.new ≡ queue_of window.now.capacity window.now.slots }
 {
     let (_, slot) = slot_at(window, window.len() - 1);
     if is_store(slot) {
@@ -24,8 +24,8 @@ pub fn put_youngest(stores: &mut StoreQueue, window: &Window)
 /// Takes the oldest slot of the window, which is about to leave, out of the queue, if it stores.
 pub fn pop_oldest(stores: &mut StoreQueue, window: &Window)
     requires some { 0 < length window.now.slots }
-    requires queued { stores.old ≡ queue_of window.now.cap window.now.slots }
-    ensures left { stores.new ≡ queue_of window.now.cap (drop 1 window.now.slots) }
+    requires queued { stores.old ≡ queue_of window.now.capacity window.now.slots }
+    ensures left { stores.new ≡ queue_of window.now.capacity (drop 1 window.now.slots) }
 {
     let (_, slot) = slot_at(window, 0);
     if is_store(slot) {
@@ -36,9 +36,9 @@ pub fn pop_oldest(stores: &mut StoreQueue, window: &Window)
 /// Marks the slot at a place of the window, which is about to be done, as done in the queue, if it stores.
 pub fn finish_store(stores: &mut StoreQueue, window: &Window, place: u32)
     requires within { place < length window.now.slots }
-    requires queued { stores.old ≡ queue_of window.now.cap window.now.slots }
+    requires queued { stores.old ≡ queue_of window.now.capacity window.now.slots }
     ensures finished { IfSome (slice_get window.now.slots place) (λ slot.
-        stores.new ≡ queue_of window.now.cap (slice_set window.now.slots place (record slot { state = Done }))) }
+        stores.new ≡ queue_of window.now.capacity (slice_set window.now.slots place (record slot { state = Done }))) }
 {
     let (_, slot) = slot_at(window, place);
     if is_store(slot) {

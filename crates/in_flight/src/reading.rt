@@ -3,7 +3,7 @@ ghost use Rattle.std.specs.Prelude.{◌≡◌, ◌<◌, ◌≤◌, if◌then◌e
 ghost use Rattle.rv_decode.specs.Decode.{decode_of};
 ghost use Rattle.mono_model.specs.Found.{found_word, first_source, second_source, destination_in};
 ghost use Rattle.reorder_buffer.specs.Window.{IsConsecutive, HasOwnIndices, index_of};
-ghost use Rattle.timing_laws.specs.Issue.{is_busy_division};
+ghost use Rattle.timing_side.specs.Issue.{is_busy_division};
 ghost use Rattle.in_flight.specs.Step.{is_store};
 
 use fsim_base::Class;
@@ -58,10 +58,10 @@ pub fn divisions_in(slot: &Slot) -> u32
 pub fn slot_at(window: &Window, place: u32) -> (u32, &Slot)
     requires within { place < length window.now.slots }
     ensures slot { slice_get window.now.slots place ≡ Some result.1.now }
-    ensures index { result.0 ≡ index_of window.now.cap result.1.now.number }
+    ensures index { result.0 ≡ index_of window.now.capacity result.1.now.number }
     ensures consecutive { IsConsecutive window.now.slots }
-    ensures apart { HasOwnIndices window.now.cap window.now.slots }
-    ensures room { length window.now.slots ≤ window.now.cap }
+    ensures apart { HasOwnIndices window.now.capacity window.now.slots }
+    ensures room { length window.now.slots ≤ window.now.capacity }
 {
     prove!(place < window.len());
     window.at(place)

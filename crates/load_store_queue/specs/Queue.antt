@@ -6,7 +6,7 @@ use Rattle.load_store_queue.specs.declared.queued.Queued.{Queued}
 
 -- how many stores a queue has room for, and those that it holds, the oldest first
 pub record Contents : Type 0 where
-  pub cap : ℕ
+  pub capacity : ℕ
   pub stores : List Queued
 
 -- each store's number is below that of every later one
@@ -38,7 +38,7 @@ abbrev pub done_in_a_row : List Queued → ℕ
 done_in_a_row stores = prefix_len (λ q. q.is_done) stores
 
 -- what is always so of a queue's fields
-pub record IsInOrder (cap settled : ℕ) (stores : List Queued) : Type 0 where
-  pub room : cap < 2 ^ 32
+pub record IsInOrder (capacity settled : ℕ) (stores : List Queued) : Type 0 where
+  pub room : capacity < 2 ^ 32
   pub rising : IsRising stores
   pub settled_is : settled ≡ done_in_a_row stores

@@ -21,7 +21,7 @@ impl Model for StoreQueue {
 
     ghost Value = { Contents };
 
-    ghost view = { λ q. record { cap = q.stores.capacity; stores = q.stores.items } };
+    ghost view = { λ q. record { capacity = q.stores.capacity; stores = q.stores.items } };
 
     ghost invariant = { λ q. IsInOrder q.stores.capacity q.settled q.stores.items };
 }
@@ -31,11 +31,11 @@ impl StoreQueue {
     ghost use Rattle.std.specs.List.{prefix_len};
     ghost use Rattle.load_store_queue.specs.Queue.{IsRising, AreOlderDone, youngest, marked, below_number};
 
-    /// An empty queue with room for `cap` stores. All its memory is taken here; want of it is the one refusal.
-    pub fn new(alloc: Global, cap: u32) -> Result<StoreQueue, NoMemory>
-        ensures opening { IfOk result (λ q. q ≡ record { cap = cap; stores = [] }) }
+    /// An empty queue with room for `capacity` stores. All its memory is taken here; want of it is the one refusal.
+    pub fn new(alloc: Global, capacity: u32) -> Result<StoreQueue, NoMemory>
+        ensures opening { IfOk result (λ q. q ≡ record { capacity = capacity; stores = [] }) }
     {
-        match HeapCircularBuffer::with_capacity(alloc, cap as usize) {
+        match HeapCircularBuffer::with_capacity(alloc, capacity as usize) {
             Ok(stores) => Ok(StoreQueue { stores, settled: 0 }),
             Err(_) => Err(NoMemory),
         }
@@ -44,7 +44,7 @@ impl StoreQueue {
     /// How many stores the queue holds.
     pub fn len(&self) -> u32
         ensures count { result ≡ length self.now.stores }
-        ensures within { result ≤ self.now.cap }
+        ensures within { result ≤ self.now.capacity }
         ensures rising { IsRising self.now.stores }
     {
         self.stores.len() as u32
@@ -53,7 +53,7 @@ impl StoreQueue {
     /// Adds a store that isn't done, behind the others. There is room, and its number is above the youngest one's.
     #[tactic(auto, using(crate::proofs::Rising::rising_with_one_more, crate::proofs::Settled::row_with_open))]
     pub fn put(&mut self, number: u64)
-        requires room { length self.old.stores < self.old.cap }
+        requires room { length self.old.stores < self.old.capacity }
         requires above { IfSome (youngest self.old.stores) (λ last. last.number < number) }
         ensures added { self.new ≡ record self.old {
           stores = self.old.stores ++ record { number = number; is_done = false } ∷ [];

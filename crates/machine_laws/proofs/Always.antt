@@ -28,7 +28,7 @@ owed_behind s r = length (turn s r).demand.orders - length r.demand.orders - 1
 -- turn by turn, and order by order: `P k r owed` of the run after `k` steps, of which so many orders are owed
 module _ (s : Setup) (A : ℕ → Place → Type 0) (P : ℕ → Run → ℕ → Type 0) (known : (k : ℕ) → A k (place s k)) (at_start : P 0 (run_start s) 0)
     (by_turn : (k : ℕ) (r : Run) → A k (record { run = r; owed = 0 }) → A (suc k) (record { run = turn s r; owed = owed_behind s r }) → P k r 0 →
-        P (suc k) (turn s r) (owed_behind s r))
+    P (suc k) (turn s r) (owed_behind s r))
     (by_order : (k owed : ℕ) (r : Run) → P k r (suc owed) → P (suc k) r owed) where
   by_owed : (k owed : ℕ) (r : Run) → A k (record { run = r; owed = owed }) → A (suc k) (step_by s owed r) → P k r owed → P (suc k) (step_by s owed r).run (step_by s owed r).owed
   by_owed k zero r here there holds = by_turn k r here there holds
@@ -46,7 +46,7 @@ module _ (s : Setup) (P : ℕ → Run → ℕ → Type 0) (at_start : P 0 (run_s
 
 -- the run's state at its start
 abbrev pub demand_start : Setup → Demand
-demand_start s = record { machine = machine_start s; done = 0; orders = [] }
+demand_start s = record { machine = machine_start s; to_commit = 0; orders = [] }
 
 -- where neither the steps nor what is owed matter
 module _ (s : Setup) (P : At → Demand → Type 0) (at_start : P interrupting (demand_start s))

@@ -25,7 +25,7 @@ use Rattle.machine_laws.proofs.Changes.{behind_next}
 use Rattle.machine_laws.proofs.Tracks.{tracks_end, next_none}
 
 abbrev pub numbered : Machine → ℕ → List Order → Demand
-numbered m n os = record { machine = m; done = n; orders = os }
+numbered m n os = record { machine = m; to_commit = n; orders = os }
 
 -- what the oldest record leaves behind it, where it has number `n`
 abbrev pub KeptBy : Setup → ℕ → List Order → commit.Leaving → Type 0
@@ -200,6 +200,6 @@ pub commit_phase_related : (s : Setup) (d : Demand) → Related s d → Related 
 unfolding commit.commit_phase
 commit_phase_related s d related =
     let c : commit.Committed = commit.commits s s.params.core_commit 0 d.machine in
-    let os : List Order = commit_order c.left (d.done + c.left) d.orders in
-    commits_kept s d.done os s.params.core_commit 0 d.machine
-    (related_number s d.machine d.done (d.done + 0) os (omega arith) (order_related s d.machine d.done c.left (d.done + c.left) d.orders related))
+    let os : List Order = commit_order c.left (d.to_commit + c.left) d.orders in
+    commits_kept s d.to_commit os s.params.core_commit 0 d.machine
+    (related_number s d.machine d.to_commit (d.to_commit + 0) os (omega arith) (order_related s d.machine d.to_commit c.left (d.to_commit + c.left) d.orders related))

@@ -107,21 +107,21 @@ module _ (s : Setup) (times : ℕ → Option ℕ) (p : ℕ → Arch) (fetch_addr
       keeps_next n (length rest) cycle rec rec.stage (completes cycle rest) refl tracks.0 (completes_keeps (suc n) cycle rest tracks.1)
 
 completed_related : (s : Setup) (d : Demand) (redirect : Option ℕ) (records : List Record) → Related s d →
-    Keeps s (time_of d.orders) (path s d.orders) d.done (length d.machine.window) d.machine.fetch_addr d.machine.kept redirect records →
-    Related s (record d { machine = completed_by redirect records d.machine; orders = redirect_orders redirect (d.done + length records) d.orders })
+    Keeps s (time_of d.orders) (path s d.orders) d.to_commit (length d.machine.window) d.machine.fetch_addr d.machine.kept redirect records →
+    Related s (record d { machine = completed_by redirect records d.machine; orders = redirect_orders redirect (d.to_commit + length records) d.orders })
 unfolding flushed
 completed_related s d None records related keeps =
-    let e : next d ≡ d.done + length records = let same : length records ≡ length d.machine.window = keeps.0 in omega arith in
+    let e : next d ≡ d.to_commit + length records = let same : length records ≡ length d.machine.window = keeps.0 in omega arith in
     record { arch = related.arch; window = keeps.1; on = subst (λ (n : ℕ). GoesOn d.orders n) e related.on; within = related.within }
 completed_related s d (Some addr) records related keeps =
     let some : 0 < length records = keeps.0 in
-    let m : ℕ = d.done + length records in
+    let m : ℕ = d.to_commit + length records in
     let os = Set m addr ∷ d.orders in
     record {
-      arch = related.arch ∙ sym (path_below s (Set m addr) d.orders d.done (omega arith));
+      arch = related.arch ∙ sym (path_below s (Set m addr) d.orders d.to_commit (omega arith));
       window = keeps.2 (path s os) m d.machine.kept refl (λ k under. path_below s (Set m addr) d.orders k under)
           (ap (λ (a : Arch). a.pc) (path_at_set s m addr d.orders))
-          (kept_none s d related keeps.1 ∙ sym (time_none d.orders d.done m related.within (omega arith)));
+          (kept_none s d related keeps.1 ∙ sym (time_none d.orders d.to_commit m related.within (omega arith)));
       on = omega arith;
       within = related.within;
     }
@@ -130,4 +130,4 @@ pub complete_related : (s : Setup) (d : Demand) → Related s d → Related s (d
 unfolding complete_phase
 complete_related s d related =
     completed_related s d (completes d.machine.cycle d.machine.window).redirect (completes d.machine.cycle d.machine.window).records related
-    (completes_keeps s (time_of d.orders) (path s d.orders) d.machine.fetch_addr d.machine.kept d.done d.machine.cycle d.machine.window related.window)
+    (completes_keeps s (time_of d.orders) (path s d.orders) d.machine.fetch_addr d.machine.kept d.to_commit d.machine.cycle d.machine.window related.window)

@@ -21,7 +21,7 @@ use Rattle.mono_model.specs.Commit.{Leaving, stays, full, leaves, faults, syncs,
 use Rattle.mono_model.specs.Complete.{completes, completed_by, complete_phase}
 use Rattle.mono_model.specs.Issue.{none_passed, wants_time, replayed, issued, issue_phase}
 use Rattle.mono_model.specs.Fetch.{Try, misses, appends, turns, cache_read, missed, appended, new_record, predicted_next, tried, fetch_try}
-use Rattle.mono_model.specs.Cycle.{ticked}
+use Rattle.mono_model.specs.Cycle.{end_of_cycle}
 use Rattle.mono_model.specs.Demand.{Demand, At, interrupting, committing, completing, issuing, trying, ending, stopping, halted, tried_turn, turn_at, turn, place}
 use Rattle.machine_laws.specs.Counts.{AreCounted}
 use Rattle.machine_laws.proofs.Always.{at_each_turn}
@@ -219,12 +219,12 @@ try_counts : (s : Setup) (m : Machine) → TryCounts m (fetch_try s m)
 unfolding fetch_try
 try_counts s m = tried_counts s (cache_read s m) m
 
-ticked_counts : (s : Setup) (m : Machine) → CountsOn m 0 1 (ticked s m)
-unfolding ticked
-ticked_counts s m = same_counts m (ticked s m) 1 refl refl
+cycle_end_counts : (s : Setup) (m : Machine) → CountsOn m 0 1 (end_of_cycle s m)
+unfolding end_of_cycle
+cycle_end_counts s m = same_counts m (end_of_cycle s m) 1 refl refl
 
 -- one turn
-counted_on : (k left : ℕ) (d behind : Demand) → behind.done ≡ d.done + left → CountsOn d.machine left 1 behind.machine → AreCounted k d → AreCounted (suc k) behind
+counted_on : (k left : ℕ) (d behind : Demand) → behind.to_commit ≡ d.to_commit + left → CountsOn d.machine left 1 behind.machine → AreCounted k d → AreCounted (suc k) behind
 counted_on k left d behind same on are = record {
   records = omega (arith, on.records, are.records);
   fetched = omega (arith, on.fetched, are.fetched);
@@ -259,7 +259,7 @@ turn_counted s k committing d are =
 turn_counted s k completing d are = counted_on k 0 d (turn_at s completing d).demand (omega arith) (complete_counts d.machine) are
 turn_counted s k issuing d are = counted_on k 0 d (turn_at s issuing d).demand (omega arith) (issue_counts s d.machine) are
 turn_counted s k (trying more) d are = try_counted s k (fetch_try s d.machine) more d (try_counts s d.machine) are
-turn_counted s k ending d are = counted_on k 0 d (turn_at s ending d).demand (omega arith) (ticked_counts s d.machine) are
+turn_counted s k ending d are = counted_on k 0 d (turn_at s ending d).demand (omega arith) (cycle_end_counts s d.machine) are
 turn_counted s k stopping d are = counted_on k 0 d (turn_at s stopping d).demand (omega arith) (same_counts d.machine d.machine 1 refl refl) are
 turn_counted s k halted d are = counted_on k 0 d d (omega arith) (same_counts d.machine d.machine 1 refl refl) are
 

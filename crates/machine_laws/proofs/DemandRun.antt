@@ -9,7 +9,7 @@ use Rattle.mono_model.specs.Commit.{commit_phase}
 use Rattle.mono_model.specs.Complete.{complete_phase}
 use Rattle.mono_model.specs.Issue.{issue_phase}
 use Rattle.mono_model.specs.Fetch.{Try, misses, appends, turns, may_fetch, fetch_try, after_try, fetches, fetch_phase}
-use Rattle.mono_model.specs.Cycle.{after_commit, phases, ticked, cycled, mono}
+use Rattle.mono_model.specs.Cycle.{after_commit, phases, end_of_cycle, cycled, mono}
 use Rattle.mono_model.specs.Demand.{Demand, At, interrupting, committing, completing, issuing, trying, ending, stopping, halted, try_or_end, at_after_commit, at_after_cycle, tried_turn, turn_at, demand_commit, demand_issue, demand_try, place}
 use Rattle.mono_model.specs.Split.{is_cycle_start}
 use Rattle.machine_laws.specs.Runs.{is_over, IsMono}
@@ -19,11 +19,11 @@ use Rattle.machine_laws.proofs.Always.{always}
 -- the machine behind the cycle in which the run stands
 abbrev behind_cycle : Setup → At → Machine → Machine
 behind_cycle s interrupting m = m
-behind_cycle s committing m = ticked s (after_commit s (commit_phase s m).machine)
-behind_cycle s completing m = ticked s (fetch_phase s (issue_phase s (complete_phase m)))
-behind_cycle s issuing m = ticked s (fetch_phase s (issue_phase s m))
-behind_cycle s (trying more) m = ticked s (after_try (fetch_try s m) (λ behind. fetches s more behind))
-behind_cycle s ending m = ticked s m
+behind_cycle s committing m = end_of_cycle s (after_commit s (commit_phase s m).machine)
+behind_cycle s completing m = end_of_cycle s (fetch_phase s (issue_phase s (complete_phase m)))
+behind_cycle s issuing m = end_of_cycle s (fetch_phase s (issue_phase s m))
+behind_cycle s (trying more) m = end_of_cycle s (after_try (fetch_try s m) (λ behind. fetches s more behind))
+behind_cycle s ending m = end_of_cycle s m
 behind_cycle s stopping m = m
 behind_cycle s halted m = m
 
@@ -64,7 +64,7 @@ interrupt_leads : (s : Setup) (c : ℕ) (m : Machine) → LeadsTo s c interrupti
 unfolding mono cycled
 interrupt_leads s c m leads = record {
   cycle = interrupt_cycle m ∙ leads.cycle;
-  machine = sym (cond-false (has_ended m.end) m (ticked s (phases s m)) leads.ended) ∙ ap (λ (x : Machine). cycled s x) leads.machine;
+  machine = sym (cond-false (has_ended m.end) m (end_of_cycle s (phases s m)) leads.ended) ∙ ap (λ (x : Machine). cycled s x) leads.machine;
   ended = tt;
 }
 
@@ -77,7 +77,7 @@ commit_leads s c d leads = by_test (has_ended behind.end) leads.machine
     here : behind.cycle ≡ c
     here = (commit_from s d.machine).cycle ∙ leads.cycle
 
-    by_test : (b : Bool) → ticked s (if b then behind else fetch_phase s (issue_phase s (complete_phase behind))) ≡ mono s (suc c) →
+    by_test : (b : Bool) → end_of_cycle s (if b then behind else fetch_phase s (issue_phase s (complete_phase behind))) ≡ mono s (suc c) →
         LeadsTo s c (if b then ending else completing) behind
     by_test true is = record { cycle = here; machine = is; ended = tt }
     by_test false is = record { cycle = here; machine = is; ended = tt }
@@ -86,12 +86,12 @@ complete_leads : (s : Setup) (c : ℕ) (m : Machine) → LeadsTo s c completing 
 complete_leads s c m leads = record { cycle = (complete_kept m).cycle ∙ leads.cycle; machine = leads.machine; ended = tt }
 
 -- fetch with so many tries allowed
-try_or_end_leads : (s : Setup) (c more : ℕ) (m : Machine) → m.cycle ≡ c → (b : Bool) → ticked s (if b then after_try (fetch_try s m) (λ behind. fetches s more behind) else m) ≡ mono s (suc c) →
+try_or_end_leads : (s : Setup) (c more : ℕ) (m : Machine) → m.cycle ≡ c → (b : Bool) → end_of_cycle s (if b then after_try (fetch_try s m) (λ behind. fetches s more behind) else m) ≡ mono s (suc c) →
     LeadsTo s c (if b then trying more else ending) m
 try_or_end_leads s c more m here true is = record { cycle = here; machine = is; ended = tt }
 try_or_end_leads s c more m here false is = record { cycle = here; machine = is; ended = tt }
 
-fetches_lead : (s : Setup) (c more : ℕ) (d : Demand) → d.machine.cycle ≡ c → ticked s (fetches s more d.machine) ≡ mono s (suc c) → LeadsTo s c (try_or_end s more d) d.machine
+fetches_lead : (s : Setup) (c more : ℕ) (d : Demand) → d.machine.cycle ≡ c → end_of_cycle s (fetches s more d.machine) ≡ mono s (suc c) → LeadsTo s c (try_or_end s more d) d.machine
 unfolding fetches
 fetches_lead s c zero d here is = record { cycle = here; machine = is; ended = tt }
 fetches_lead s c (suc more) d here is = try_or_end_leads s c more d.machine here (may_fetch s d.machine) is
@@ -100,9 +100,9 @@ issue_leads : (s : Setup) (c : ℕ) (d behind : Demand) → behind.machine ≡ i
 unfolding fetch_phase
 issue_leads s c d behind is leads =
     fetches_lead s c s.params.core_fetch behind (ap (λ (m : Machine). m.cycle) is ∙ (issue_kept s d.machine).cycle ∙ leads.cycle)
-    (ap (λ (m : Machine). ticked s (fetches s s.params.core_fetch m)) is ∙ leads.machine)
+    (ap (λ (m : Machine). end_of_cycle s (fetches s s.params.core_fetch m)) is ∙ leads.machine)
 
-try_leads : (s : Setup) (c : ℕ) (t : Try) (more : ℕ) (d : Demand) → Tries d.machine t → d.machine.cycle ≡ c → ticked s (after_try t (λ behind. fetches s more behind)) ≡ mono s (suc c) →
+try_leads : (s : Setup) (c : ℕ) (t : Try) (more : ℕ) (d : Demand) → Tries d.machine t → d.machine.cycle ≡ c → end_of_cycle s (after_try t (λ behind. fetches s more behind)) ≡ mono s (suc c) →
     LeadsTo s c (tried_turn s t more d).at (tried_turn s t more d).demand.machine
 try_leads s c (misses behind) more d is here leads = record { cycle = is.cycle ∙ here; machine = leads; ended = tt }
 try_leads s c (appends behind) more d is here leads = fetches_lead s c more (demand_try s (appends behind) d) (is.cycle ∙ here) leads
@@ -112,8 +112,8 @@ next_leads : (s : Setup) (c : ℕ) (m : Machine) → m.cycle ≡ c → m ≡ mon
 next_leads s c m here is true ended = record { cycle = here; machine = is; ended = ended }
 next_leads s c m here is false ended = record { cycle = here; machine = is; ended = ended }
 
-end_leads : (s : Setup) (c : ℕ) (d behind : Demand) → behind.machine ≡ ticked s d.machine → LeadsTo s c ending d.machine → LeadsTo s (suc c) (at_after_cycle behind) behind.machine
-unfolding ticked
+end_leads : (s : Setup) (c : ℕ) (d behind : Demand) → behind.machine ≡ end_of_cycle s d.machine → LeadsTo s c ending d.machine → LeadsTo s (suc c) (at_after_cycle behind) behind.machine
+unfolding end_of_cycle
 end_leads s c d behind is leads = next_leads s (suc c) behind.machine (ap (λ (m : Machine). m.cycle) is ∙ omega (arith, leads.cycle)) (is ∙ leads.machine) (has_ended behind.machine.end) refl
 
 -- each turn leads on, and the cycle's last one to the next cycle
@@ -134,7 +134,7 @@ turn_leads s c committing d leads = commit_leads s c d leads
 turn_leads s c completing d leads = complete_leads s c d.machine leads
 turn_leads s c issuing d leads = issue_leads s c d (demand_issue s d) refl leads
 turn_leads s c (trying more) d leads = try_leads s c (fetch_try s d.machine) more d (try_tries s d.machine) leads.cycle leads.machine
-turn_leads s c ending d leads = end_leads s c d (record d { machine = ticked s d.machine }) refl leads
+turn_leads s c ending d leads = end_leads s c d (record d { machine = end_of_cycle s d.machine }) refl leads
 turn_leads s c stopping d leads = record { cycle = leads.cycle; machine = leads.machine; ended = leads.ended }
 turn_leads s c halted d leads = leads
 

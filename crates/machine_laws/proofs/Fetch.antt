@@ -26,15 +26,15 @@ entry_next s os n = refl
 -- that goes on behind it as predicted.
 new_tracks : (s : Setup) (d : Demand) (q : ℕ → Arch) → Related s d → ((m : ℕ) → m ≤ next d → q m ≡ path s d.orders m) →
     (q (suc (next d))).pc ≡ predicted_next s d.machine →
-    Tracks s (time_of d.orders) q d.done (d.machine.window ++ new_record s d.machine ∷ []) (predicted_next s d.machine) None
+    Tracks s (time_of d.orders) q d.to_commit (d.machine.window ++ new_record s d.machine ∷ []) (predicted_next s d.machine) None
 new_tracks s d q related same goes =
     let os = d.orders in
-    let end = tracks_end s (time_of os) (path s os) d.done d.machine.window d.machine.fetch_addr d.machine.kept related.window in
-    let n : ℕ = d.done + length d.machine.window in
+    let end = tracks_end s (time_of os) (path s os) d.to_commit d.machine.window d.machine.fetch_addr d.machine.kept related.window in
+    let n : ℕ = d.to_commit + length d.machine.window in
     let here : q n ≡ path s os n = same n (omega arith) in
     let addr : d.machine.fetch_addr ≡ (q n).pc = sym end.0 ∙ ap (λ (a : Arch). a.pc) (sym here) in
     let text : d.machine.arch.text ≡ (q n).text =
-    ap (λ (a : Arch). a.text) related.arch ∙ sym (path_text s os d.done (length d.machine.window) related.within) ∙ ap (λ (a : Arch). a.text) (sym here) in
+    ap (λ (a : Arch). a.text) related.arch ∙ sym (path_text s os d.to_commit (length d.machine.window) related.within) ∙ ap (λ (a : Arch). a.text) (sym here) in
     let found : found_at s.image d.machine.arch.text d.machine.fetch_addr ≡ found_next s (q n) =
     ap (λ (t : ℕ → ℕ). found_at s.image t d.machine.fetch_addr) text ∙ ap (λ (k : ℕ). found_at s.image (q n).text k) addr in
     let tracked : Tracked s (time_of os n) (q n) (q (suc n)).pc (new_record s d.machine) = record {
@@ -44,9 +44,9 @@ new_tracks s d q related same goes =
       result = tt;
       follows = goes;
     } in
-    let later : None ≡ time_of os (suc n) = sym (time_none os d.done (suc n) related.within (omega arith)) in
+    let later : None ≡ time_of os (suc n) = sym (time_none os d.to_commit (suc n) related.within (omega arith)) in
     let P : ℕ → Type 0 = λ m. Tracked s (time_of os m) (q m) (q (suc m)).pc (new_record s d.machine) × ((q (suc m)).pc ≡ predicted_next s d.machine) × (None ≡ time_of os (suc m)) in
-    tracks_append s (time_of os) (path s os) q d.done d.machine.window (new_record s d.machine) d.machine.fetch_addr (predicted_next s d.machine) d.machine.kept None related.window
+    tracks_append s (time_of os) (path s os) q d.to_commit d.machine.window (new_record s d.machine) d.machine.fetch_addr (predicted_next s d.machine) d.machine.kept None related.window
     same (λ m is. subst P (sym is) (tracked, goes, later))
 
 appended_length : (s : Setup) (m : Machine) → length (m.window ++ new_record s m ∷ []) ≡ suc (length m.window)
@@ -61,7 +61,7 @@ straight_related s d caches related goes =
     record {
       arch = related.arch;
       window = new_tracks s d (path s d.orders) related (λ m under. refl) at;
-      on = goes_on_after d.orders (next d) (d.done + length (d.machine.window ++ new_record s d.machine ∷ [])) (omega (arith, appended_length s d.machine)) related.on;
+      on = goes_on_after d.orders (next d) (d.to_commit + length (d.machine.window ++ new_record s d.machine ∷ [])) (omega (arith, appended_length s d.machine)) related.on;
       within = related.within;
     }
 
@@ -75,7 +75,7 @@ bent_related s d caches related =
     let P : ℕ → Type 0 = λ m. (path s (o ∷ d.orders) m).pc ≡ addr in
     let at : (path s (o ∷ d.orders) (suc (next d))).pc ≡ addr = subst P e (ap (λ (a : Arch). a.pc) (path_at_set s (next d + 1) addr d.orders)) in
     record {
-      arch = related.arch ∙ sym (path_below s o d.orders d.done (omega arith));
+      arch = related.arch ∙ sym (path_below s o d.orders d.to_commit (omega arith));
       window = new_tracks s d (path s (o ∷ d.orders)) related (λ m under. path_below s o d.orders m (omega arith)) at;
       on = omega (arith, appended_length s d.machine);
       within = related.within;

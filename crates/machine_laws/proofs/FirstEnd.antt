@@ -17,7 +17,7 @@ use Rattle.machine_laws.specs.Runs.{is_over}
 use Rattle.machine_laws.specs.FirstEnd.{IsFirstEnd, EndsOnce}
 use Rattle.machine_laws.proofs.Phases.{interrupt_cycle, commit_from, complete_kept, issue_kept, Tries, try_tries}
 use Rattle.machine_laws.proofs.DemandRun.{is_mono}
-use Rattle.machine_laws.proofs.Reaching.{ended_stays, ticked_cycle}
+use Rattle.machine_laws.proofs.Reaching.{ended_stays, cycle_end_cycle}
 use Rattle.machine_laws.proofs.Halting.{cycled_on, run_halts}
 
 -- the phases of a cycle leave its number
@@ -52,7 +52,7 @@ next_counts : (s : Setup) (c : ℕ) → has_ended (mono s c).end ≡ false
     → (mono s (suc c)).cycle ≡ (mono s c).cycle + 1
 next_counts s c on =
     ap (λ (m : Machine). m.cycle) (mono-suc s c ∙ cycled_on s (mono s c) on)
-    ∙ ticked_cycle s (phases s (mono s c)) ∙ ap (λ (n : ℕ). n + 1) (phases_cycle s (mono s c))
+    ∙ cycle_end_cycle s (phases s (mono s c)) ∙ ap (λ (n : ℕ). n + 1) (phases_cycle s (mono s c))
 
 first_counts : (s : Setup) → (mono s zero).cycle ≡ 0
 unfolding mono machine_start

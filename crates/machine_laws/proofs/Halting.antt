@@ -6,23 +6,23 @@ use Rattle.mono_model.specs.declared.setup.Setup.{Setup}
 use Rattle.mono_model.specs.declared.final_state.End.TheVariants.{Limit}
 use Rattle.mono_model.specs.Final.{has_ended}
 use Rattle.mono_model.specs.Machine.{Machine}
-use Rattle.mono_model.specs.Cycle.{phases, ticked, cycled, mono, mono-suc}
+use Rattle.mono_model.specs.Cycle.{phases, end_of_cycle, cycled, mono, mono-suc}
 use Rattle.mono_model.specs.Demand.{Demand, At, interrupting, committing, completing, issuing, trying, ending, stopping, halted, run_at, turn, Place, step, place, place-suc, step_bound}
 use Rattle.mono_model.specs.Split.{is_cycle_start}
 use Rattle.machine_laws.specs.Runs.{is_over, Halts}
 use Rattle.machine_laws.proofs.DemandRun.{is_mono}
-use Rattle.machine_laws.proofs.Reaching.{Stands, by_parts, cycle_stands, ended_stays}
+use Rattle.machine_laws.proofs.Reaching.{CycleIsReached, by_parts, cycle_stands, ended_stays}
 
 -- the limit ends the run
-pub ticked_at_limit : (s : Setup) (m : Machine) → (ticked s m).cycle ≡ s.cycles → has_ended (ticked s m).end ≡ true
-unfolding ticked
-ticked_at_limit s m here =
+pub cycle_end_at_limit : (s : Setup) (m : Machine) → (end_of_cycle s m).cycle ≡ s.cycles → has_ended (end_of_cycle s m).end ≡ true
+unfolding end_of_cycle
+cycle_end_at_limit s m here =
     cond_both (has_ended m.end) m.end (if m.cycle + 1 == s.cycles then Limit else m.end) (λ e. has_ended e ≡ true) (λ e. e)
     (λ e. ap has_ended (cond-true (m.cycle + 1 == s.cycles) Limit m.end (eq-eqb (m.cycle + 1) s.cycles here)))
 
-pub cycled_on : (s : Setup) (m : Machine) → has_ended m.end ≡ false → cycled s m ≡ ticked s (phases s m)
+pub cycled_on : (s : Setup) (m : Machine) → has_ended m.end ≡ false → cycled s m ≡ end_of_cycle s (phases s m)
 unfolding cycled
-cycled_on s m on = cond-false (has_ended m.end) m (ticked s (phases s m)) on
+cycled_on s m on = cond-false (has_ended m.end) m (end_of_cycle s (phases s m)) on
 
 mono_at_limit : (s : Setup) (c : ℕ) → (mono s (suc c)).cycle ≡ s.cycles → has_ended (mono s (suc c)).end ≡ true
 mono_at_limit s c here = by_test (has_ended (mono s c).end) refl
@@ -31,10 +31,10 @@ mono_at_limit s c here = by_test (has_ended (mono s c).end) refl
     by_test true ended = ap (λ (m : Machine). has_ended m.end) (ended_stays s c ended) ∙ ended
     by_test false on =
         let e = cycled_on s (mono s c) on in
-        let here' : (ticked s (phases s (mono s c))).cycle ≡ s.cycles = ap (λ (m : Machine). m.cycle) (sym (mono-suc s c ∙ e)) ∙ here in
-        ap (λ (m : Machine). has_ended m.end) (mono-suc s c ∙ e) ∙ ticked_at_limit s (phases s (mono s c)) here'
+        let here' : (end_of_cycle s (phases s (mono s c))).cycle ≡ s.cycles = ap (λ (m : Machine). m.cycle) (sym (mono-suc s c ∙ e)) ∙ here in
+        ap (λ (m : Machine). has_ended m.end) (mono-suc s c ∙ e) ∙ cycle_end_at_limit s (phases s (mono s c)) here'
 
-over_at_limit : (s : Setup) (c : ℕ) → s.cycles ≡ suc c → (stands : Stands s (suc c)) → (b : Bool) → is_over (place s stands.steps).run.at ≡ b → b ≡ true
+over_at_limit : (s : Setup) (c : ℕ) → s.cycles ≡ suc c → (stands : CycleIsReached s (suc c)) → (b : Bool) → is_over (place s stands.steps).run.at ≡ b → b ≡ true
 over_at_limit s c limit stands true is = refl
 over_at_limit s c limit stands false is =
     let p = place s stands.steps in
@@ -70,7 +70,7 @@ still_on s m (suc j) k still =
 stop_still : (s : Setup) (k : ℕ) (d : Demand) (m : Machine) → place s k ≡ record { run = run_at d stopping; owed = 0 } → d.machine ≡ m → Still s (suc k) m
 unfolding step turn
 stop_still s k d m there is =
-    let behind : Demand = record d { orders = Stop d.done ∷ d.orders } in
+    let behind : Demand = record d { orders = Stop d.to_commit ∷ d.orders } in
     record {
       demand = behind;
       stands = place-suc s k ∙ ap (λ (p : Place). step s p) there ∙ owed_nothing behind (length behind.orders - length d.orders - 1) (omega arith);
@@ -104,7 +104,7 @@ from_still s k within still =
       still = λ n later. on n (omega arith) ∙ sym (on (step_bound s) within);
     }
 
-by_cycles : (s : Setup) (c : ℕ) → s.cycles ≡ suc c → (stands : Stands s (suc c)) → Halts s
+by_cycles : (s : Setup) (c : ℕ) → s.cycles ≡ suc c → (stands : CycleIsReached s (suc c)) → Halts s
 by_cycles s c limit stands =
     let p = place s stands.steps in
     let parts = and_parts (p.owed == 0) (is_cycle_start p.run.at) stands.reaches.boundary in

@@ -10,11 +10,11 @@ use Rattle.mono_model.specs.Demand.{Demand, demand_interrupt}
 use Rattle.machine_laws.specs.Relation.{Related}
 use Rattle.mono_model.proofs.Path.{path_at_interrupt}
 
-taken_related : (s : Setup) (d : Demand) → Related s d → Related s (record d { machine = take_interrupt d.machine; orders = Interrupt d.done ∷ d.orders })
+taken_related : (s : Setup) (d : Demand) → Related s d → Related s (record d { machine = take_interrupt d.machine; orders = Interrupt d.to_commit ∷ d.orders })
 unfolding flushed
 taken_related s d related =
-    let at : interrupted d.machine.arch ≡ path s (Interrupt d.done ∷ d.orders) d.done =
-    ap (λ (a : Arch). interrupted a) related.arch ∙ sym (path_at_interrupt s d.done d.orders) in
+    let at : interrupted d.machine.arch ≡ path s (Interrupt d.to_commit ∷ d.orders) d.to_commit =
+    ap (λ (a : Arch). interrupted a) related.arch ∙ sym (path_at_interrupt s d.to_commit d.orders) in
     record {
       arch = at;
       window = (sym (ap (λ (a : Arch). a.pc) at), refl);
@@ -28,7 +28,7 @@ interrupt_related s d related = by_test (is_interrupted d.machine)
   where
     by_test : (b : Bool) → Related s (record d {
       machine = if b then take_interrupt d.machine else d.machine;
-      orders = if b then Interrupt d.done ∷ d.orders else d.orders;
+      orders = if b then Interrupt d.to_commit ∷ d.orders else d.orders;
     })
     by_test true = taken_related s d related
     by_test false = related

@@ -104,12 +104,12 @@ module _ (s : Setup) (times : ℕ → Option ℕ) (p : ℕ → Arch) (m : Machin
 issued_related : (s : Setup) (d : Demand) → Related s d → Related s (record d { machine = issued s d.machine })
 issued_related s d related =
     let m = d.machine in
-    let e : next d ≡ d.done + length (walk s m (none_passed m) m.window).records =
-    ap (λ (k : ℕ). d.done + k) (sym (walk_length s (time_of d.orders) (path s d.orders) m (none_passed m) m.window)) in
+    let e : next d ≡ d.to_commit + length (walk s m (none_passed m) m.window).records =
+    ap (λ (k : ℕ). d.to_commit + k) (sym (walk_length s (time_of d.orders) (path s d.orders) m (none_passed m) m.window)) in
     record {
       arch = related.arch;
-      window = walk_tracks s (time_of d.orders) (path s d.orders) m d.done (none_passed m) m.window m.fetch_addr m.kept
-          (λ n from. path_steps s d.orders d.done n related.within from) related.window related.arch;
+      window = walk_tracks s (time_of d.orders) (path s d.orders) m d.to_commit (none_passed m) m.window m.fetch_addr m.kept
+          (λ n from. path_steps s d.orders d.to_commit n related.within from) related.window related.arch;
       on = subst (λ (n : ℕ). GoesOn d.orders n) e related.on;
       within = related.within;
     }
@@ -119,15 +119,15 @@ oldest_addr : (s : Setup) (times : ℕ → Option ℕ) (p : ℕ → Arch) (n : �
 oldest_addr s times p n m [] tracks = tracks.0
 oldest_addr s times p n m (rec ∷ rest) tracks = sym tracks.0.addr
 
-replayed_related : (s : Setup) (d : Demand) → Related s d → Related s (record d { machine = replayed d.machine; orders = Time d.done d.machine.cycle ∷ d.orders })
+replayed_related : (s : Setup) (d : Demand) → Related s d → Related s (record d { machine = replayed d.machine; orders = Time d.to_commit d.machine.cycle ∷ d.orders })
 unfolding flushed
 replayed_related s d related =
-    let at : path s (Time d.done d.machine.cycle ∷ d.orders) d.done ≡ path s d.orders d.done = path_at_time s d.done d.machine.cycle d.orders in
+    let at : path s (Time d.to_commit d.machine.cycle ∷ d.orders) d.to_commit ≡ path s d.orders d.to_commit = path_at_time s d.to_commit d.machine.cycle d.orders in
     record {
       arch = related.arch ∙ sym at;
       window = (
-        ap (λ (a : Arch). a.pc) at ∙ oldest_addr s (time_of d.orders) (path s d.orders) d.done d.machine d.machine.window related.window,
-        sym (cond-true (d.done == d.done) (Some d.machine.cycle) None (eq-eqb d.done d.done refl)),
+        ap (λ (a : Arch). a.pc) at ∙ oldest_addr s (time_of d.orders) (path s d.orders) d.to_commit d.machine d.machine.window related.window,
+        sym (cond-true (d.to_commit == d.to_commit) (Some d.machine.cycle) None (eq-eqb d.to_commit d.to_commit refl)),
       );
       on = omega arith;
       within = (omega arith, related.within);
@@ -139,7 +139,7 @@ issue_related s d related = by_test (wants_time s d.machine)
   where
     by_test : (b : Bool) → Related s (record d {
       machine = if b then replayed d.machine else issued s d.machine;
-      orders = if b then Time d.done d.machine.cycle ∷ d.orders else d.orders;
+      orders = if b then Time d.to_commit d.machine.cycle ∷ d.orders else d.orders;
     })
     by_test true = replayed_related s d related
     by_test false = issued_related s d related

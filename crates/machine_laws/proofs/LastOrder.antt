@@ -66,7 +66,7 @@ all_orders s os limited are stopped =
       told = told_is;
       orders = orders_are s ∙ ap (λ (l : List Order). reverse l) told_is;
       state = ap (λ (l : List Order). path s l (last_commit l)) (sym told_is) ∙ ap (path s (told p)) (sym (done_told s (step_bound s)))
-          ∙ ap (λ (l : List Order). path s l p.run.demand.done) settled ∙ sym (place_related s (step_bound s)).arch ∙ ap (λ (m : Machine). m.arch) halts.machine;
+          ∙ ap (λ (l : List Order). path s l p.run.demand.to_commit) settled ∙ sym (place_related s (step_bound s)).arch ∙ ap (λ (m : Machine). m.arch) halts.machine;
     }
 
 -- the order in a place is a Stop exactly where the place is the last

@@ -46,12 +46,12 @@ made_none n to os = record { made = []; orders = refl; later = tt; opens = tt }
 made_one : (n to : ℕ) (o : Order) (os : List Order) → IsLater n o → OpensAt to o → MadeOnto n to os (o ∷ os)
 made_one n to o os is opens = record { made = o ∷ []; orders = refl; later = (is, tt); opens = (opens, tt) }
 
-interrupt_made : (d : Demand) → MadeOnto d.done (next (demand_interrupt d)) d.orders (interrupt_orders d)
+interrupt_made : (d : Demand) → MadeOnto d.to_commit (next (demand_interrupt d)) d.orders (interrupt_orders d)
 interrupt_made d =
     let to = next (demand_interrupt d) in
-    cond_both (is_interrupted d.machine) (Interrupt d.done ∷ d.orders) d.orders (MadeOnto d.done to d.orders)
-    (λ is. made_one d.done to (Interrupt d.done) d.orders (omega arith) (omega (arith, interrupt_flushes d.machine is)))
-    (λ is. made_none d.done to d.orders)
+    cond_both (is_interrupted d.machine) (Interrupt d.to_commit ∷ d.orders) d.orders (MadeOnto d.to_commit to d.orders)
+    (λ is. made_one d.to_commit to (Interrupt d.to_commit) d.orders (omega arith) (omega (arith, interrupt_flushes d.machine is)))
+    (λ is. made_none d.to_commit to d.orders)
 
 commit_made : (n m left handler : ℕ) (e : Ending) (w : List Record) (os : List Order) → m ≡ n + left → EndingLeft e left w →
     MadeOnto n (m + length w) os (ending_orders e handler m (commit_order left m os))
@@ -68,37 +68,37 @@ redirect_made : (redirect : Option ℕ) (n m : ℕ) (os : List Order) → ((addr
 redirect_made None n m os more = made_none n m os
 redirect_made (Some addr) n m os more = made_one n m (Set m addr) os (more addr refl) refl
 
-complete_made : (d : Demand) → MadeOnto d.done (next (demand_complete d)) d.orders (demand_complete d).orders
+complete_made : (d : Demand) → MadeOnto d.to_commit (next (demand_complete d)) d.orders (demand_complete d).orders
 complete_made d =
     let c = completes d.machine.cycle d.machine.window in
-    subst (λ (w : List Record). MadeOnto d.done (d.done + length w) d.orders (demand_complete d).orders) (sym (complete_window d.machine))
-    (redirect_made c.redirect d.done (d.done + length c.records) d.orders (λ addr is. omega (arith, (completes_from d.machine.cycle d.machine.window).redirect addr is)))
+    subst (λ (w : List Record). MadeOnto d.to_commit (d.to_commit + length w) d.orders (demand_complete d).orders) (sym (complete_window d.machine))
+    (redirect_made c.redirect d.to_commit (d.to_commit + length c.records) d.orders (λ addr is. omega (arith, (completes_from d.machine.cycle d.machine.window).redirect addr is)))
 
-issue_made : (s : Setup) (d : Demand) → MadeOnto d.done (next (demand_issue s d)) d.orders (time_orders s d)
+issue_made : (s : Setup) (d : Demand) → MadeOnto d.to_commit (next (demand_issue s d)) d.orders (time_orders s d)
 issue_made s d =
     let to = next (demand_issue s d) in
-    cond_both (wants_time s d.machine) (Time d.done d.machine.cycle ∷ d.orders) d.orders (MadeOnto d.done to d.orders)
-    (λ is. made_one d.done to (Time d.done d.machine.cycle) d.orders (omega arith) (omega (arith, replay_flushes s d.machine is)))
-    (λ is. made_none d.done to d.orders)
+    cond_both (wants_time s d.machine) (Time d.to_commit d.machine.cycle ∷ d.orders) d.orders (MadeOnto d.to_commit to d.orders)
+    (λ is. made_one d.to_commit to (Time d.to_commit d.machine.cycle) d.orders (omega arith) (omega (arith, replay_flushes s d.machine is)))
+    (λ is. made_none d.to_commit to d.orders)
 
-path_made : (s : Setup) (d : Demand) (to : ℕ) → to ≡ next d + 1 → MadeOnto d.done to d.orders (path_orders s d)
+path_made : (s : Setup) (d : Demand) (to : ℕ) → to ≡ next d + 1 → MadeOnto d.to_commit to d.orders (path_orders s d)
 path_made s d to is =
-    cond_both ((entry s d.orders (next d)).next == predicted_next s d.machine) d.orders (Set (next d + 1) (predicted_next s d.machine) ∷ d.orders) (MadeOnto d.done to d.orders)
-    (λ e. made_none d.done to d.orders) (λ e. made_one d.done to (Set (next d + 1) (predicted_next s d.machine)) d.orders (omega arith) (sym is))
+    cond_both ((entry s d.orders (next d)).next == predicted_next s d.machine) d.orders (Set (next d + 1) (predicted_next s d.machine) ∷ d.orders) (MadeOnto d.to_commit to d.orders)
+    (λ e. made_none d.to_commit to d.orders) (λ e. made_one d.to_commit to (Set (next d + 1) (predicted_next s d.machine)) d.orders (omega arith) (sym is))
 
-try_made : (s : Setup) (t : Try) (more : ℕ) (d : Demand) → Tries d.machine t → MadeOnto d.done (next (tried_turn s t more d).demand) d.orders (tried_turn s t more d).demand.orders
-try_made s (misses behind) more d made = made_none d.done (d.done + length behind.window) d.orders
-try_made s (appends behind) more d made = path_made s d (d.done + length behind.window) (omega (arith, made.window))
-try_made s (turns behind) more d made = path_made s d (d.done + length behind.window) (omega (arith, made.window))
+try_made : (s : Setup) (t : Try) (more : ℕ) (d : Demand) → Tries d.machine t → MadeOnto d.to_commit (next (tried_turn s t more d).demand) d.orders (tried_turn s t more d).demand.orders
+try_made s (misses behind) more d made = made_none d.to_commit (d.to_commit + length behind.window) d.orders
+try_made s (appends behind) more d made = path_made s d (d.to_commit + length behind.window) (omega (arith, made.window))
+try_made s (turns behind) more d made = path_made s d (d.to_commit + length behind.window) (omega (arith, made.window))
 
-pub turn_made : (s : Setup) (at : At) (d : Demand) → MadeOnto d.done (next (turn_at s at d).demand) d.orders (turn_at s at d).demand.orders
+pub turn_made : (s : Setup) (at : At) (d : Demand) → MadeOnto d.to_commit (next (turn_at s at d).demand) d.orders (turn_at s at d).demand.orders
 turn_made s interrupting d = interrupt_made d
 turn_made s committing d =
     let c = commit_phase s d.machine in
-    commit_made d.done (d.done + c.left) c.left c.machine.arch.pc c.ending c.machine.window d.orders refl (commit_from s d.machine).ending
+    commit_made d.to_commit (d.to_commit + c.left) c.left c.machine.arch.pc c.ending c.machine.window d.orders refl (commit_from s d.machine).ending
 turn_made s completing d = complete_made d
 turn_made s issuing d = issue_made s d
 turn_made s (trying more) d = try_made s (fetch_try s d.machine) more d (try_tries s d.machine)
-turn_made s ending d = made_none d.done (next (turn_at s ending d).demand) d.orders
-turn_made s stopping d = made_one d.done (next d) (Stop d.done) d.orders (omega arith) tt
-turn_made s halted d = made_none d.done (next d) d.orders
+turn_made s ending d = made_none d.to_commit (next (turn_at s ending d).demand) d.orders
+turn_made s stopping d = made_one d.to_commit (next d) (Stop d.to_commit) d.orders (omega arith) tt
+turn_made s halted d = made_none d.to_commit (next d) d.orders

@@ -13,7 +13,7 @@ use Rattle.mono_model.specs.Complete.{completes}
 use Rattle.mono_model.specs.Issue.{wants_time}
 use Rattle.mono_model.specs.Fetch.{Try, misses, appends, turns, may_fetch, fetch_try, predicted_next}
 use Rattle.mono_model.specs.Path.{entry}
-use Rattle.mono_model.specs.Cycle.{ticked}
+use Rattle.mono_model.specs.Cycle.{end_of_cycle}
 use Rattle.mono_model.specs.Demand.{Demand, next, ending_orders, commit_order, demand_committed, redirect_orders, path_orders, demand_issue, demand_try, At, interrupting, committing, completing, issuing, trying, ending, stopping, halted, try_or_end, at_after_cycle, tried_turn, turn_at, place, told, number_of}
 use Rattle.machine_laws.specs.Numbers.{last_commit, AreNumbered, AreAtCommit}
 use Rattle.machine_laws.proofs.Phases.{interrupt_window, CommittedFrom, commit_from, completes_from, complete_kept, issue_kept, Tries, try_tries}
@@ -21,31 +21,31 @@ use Rattle.machine_laws.proofs.Always.{demand_start, always}
 
 -- The list of orders as far as it goes, where so many instructions are committed.
 pub record IsOrderly (s : Setup) (n : ℕ) (os : List Order) : Type 0 where
-  pub done : n ≡ last_commit os
+  pub to_commit : n ≡ last_commit os
   pub numbers : AreNumbered s os
   pub kinds : AreAtCommit os
 
 module _ (s : Setup) (n : ℕ) (os : List Order) (is : IsOrderly s n os) where
   numbered : (o : Order) → n ≤ number_of o → number_of o ≤ n + s.params.core_window → AreNumbered s (o ∷ os)
-  numbered o least most = (record { least = omega (arith, is.done); most = omega (arith, is.done) }, is.numbers)
+  numbered o least most = (record { least = omega (arith, is.to_commit); most = omega (arith, is.to_commit) }, is.numbers)
 
   set_orderly : (m addr : ℕ) → n ≤ m → m ≤ n + s.params.core_window → IsOrderly s n (Set m addr ∷ os)
-  set_orderly m addr least most = record { done = is.done; numbers = numbered (Set m addr) least most; kinds = (tt, is.kinds) }
+  set_orderly m addr least most = record { to_commit = is.to_commit; numbers = numbered (Set m addr) least most; kinds = (tt, is.kinds) }
 
   interrupt_orderly : IsOrderly s n (Interrupt n ∷ os)
-  interrupt_orderly = record { done = is.done; numbers = numbered (Interrupt n) (omega arith) (omega arith); kinds = (is.done, is.kinds) }
+  interrupt_orderly = record { to_commit = is.to_commit; numbers = numbered (Interrupt n) (omega arith) (omega arith); kinds = (is.to_commit, is.kinds) }
 
   time_orderly : (v : ℕ) → IsOrderly s n (Time n v ∷ os)
-  time_orderly v = record { done = is.done; numbers = numbered (Time n v) (omega arith) (omega arith); kinds = (is.done, is.kinds) }
+  time_orderly v = record { to_commit = is.to_commit; numbers = numbered (Time n v) (omega arith) (omega arith); kinds = (is.to_commit, is.kinds) }
 
   stop_orderly : IsOrderly s n (Stop n ∷ os)
-  stop_orderly = record { done = is.done; numbers = numbered (Stop n) (omega arith) (omega arith); kinds = (is.done, is.kinds) }
+  stop_orderly = record { to_commit = is.to_commit; numbers = numbered (Stop n) (omega arith) (omega arith); kinds = (is.to_commit, is.kinds) }
 
   sync_orderly : IsOrderly s n (Sync n ∷ os)
-  sync_orderly = record { done = is.done; numbers = numbered (Sync n) (omega arith) (omega arith); kinds = (is.done, is.kinds) }
+  sync_orderly = record { to_commit = is.to_commit; numbers = numbered (Sync n) (omega arith) (omega arith); kinds = (is.to_commit, is.kinds) }
 
   commit_orderly : (m : ℕ) → n < m → m ≤ n + s.params.core_window → IsOrderly s m (Commit m ∷ os)
-  commit_orderly m more most = record { done = refl; numbers = numbered (Commit m) (omega arith) most; kinds = (omega (arith, is.done), is.kinds) }
+  commit_orderly m more most = record { to_commit = refl; numbers = numbered (Commit m) (omega arith) most; kinds = (omega (arith, is.to_commit), is.kinds) }
 
 left_orderly : (s : Setup) (n left m : ℕ) (os : List Order) → m ≡ n + left → left ≤ s.params.core_window → IsOrderly s n os → IsOrderly s m (commit_order left m os)
 left_orderly s n zero m os e most is = subst (λ (k : ℕ). IsOrderly s k os) (omega arith) is
@@ -72,13 +72,13 @@ HasRoomFor s stopping m = Unit {0}
 HasRoomFor s halted m = Unit {0}
 
 pub record IsWithin (s : Setup) (at : At) (d : Demand) : Type 0 where
-  pub orders : IsOrderly s d.done d.orders
+  pub orders : IsOrderly s d.to_commit d.orders
   pub window : length d.machine.window ≤ s.params.core_window
   pub room : HasRoomFor s at d.machine
 
 start_within : (s : Setup) → IsWithin s interrupting (demand_start s)
 unfolding machine_start
-start_within s = record { orders = record { done = refl; numbers = tt; kinds = tt }; window = omega arith; room = tt }
+start_within s = record { orders = record { to_commit = refl; numbers = tt; kinds = tt }; window = omega arith; room = tt }
 
 may_room : (s : Setup) (m : Machine) → may_fetch s m ≡ true → length m.window < s.params.core_window
 unfolding may_fetch
@@ -90,27 +90,27 @@ may_room s m may =
 commit_within : (s : Setup) (d : Demand) (c : Committed) → CommittedFrom s d.machine 0 c → IsWithin s committing d → (b : Bool) → IsWithin s (if b then ending else completing) (demand_committed c d)
 commit_within s d c from is b = by_test b
   where
-    ordered : IsOrderly s (d.done + c.left) (ending_orders c.ending c.machine.arch.pc (d.done + c.left) (commit_order c.left (d.done + c.left) d.orders))
+    ordered : IsOrderly s (d.to_commit + c.left) (ending_orders c.ending c.machine.arch.pc (d.to_commit + c.left) (commit_order c.left (d.to_commit + c.left) d.orders))
     ordered =
-        ending_orderly s c.ending c.machine.arch.pc (d.done + c.left) (commit_order c.left (d.done + c.left) d.orders)
-        (left_orderly s d.done c.left (d.done + c.left) d.orders refl (omega (arith, from.window, is.window)) is.orders)
+        ending_orderly s c.ending c.machine.arch.pc (d.to_commit + c.left) (commit_order c.left (d.to_commit + c.left) d.orders)
+        (left_orderly s d.to_commit c.left (d.to_commit + c.left) d.orders refl (omega (arith, from.window, is.window)) is.orders)
 
     by_test : (b : Bool) → IsWithin s (if b then ending else completing) (demand_committed c d)
     by_test true = record { orders = ordered; window = omega (arith, from.window, is.window); room = tt }
     by_test false = record { orders = ordered; window = omega (arith, from.window, is.window); room = tt }
 
 -- fetch begins or goes on where there is room
-try_or_end_within : (s : Setup) (more : ℕ) (d : Demand) → IsOrderly s d.done d.orders → length d.machine.window ≤ s.params.core_window → IsWithin s (try_or_end s more d) d
+try_or_end_within : (s : Setup) (more : ℕ) (d : Demand) → IsOrderly s d.to_commit d.orders → length d.machine.window ≤ s.params.core_window → IsWithin s (try_or_end s more d) d
 try_or_end_within s zero d orders window = record { orders = orders; window = window; room = tt }
 try_or_end_within s (suc more) d orders window =
     cond_both (may_fetch s d.machine) (trying more) ending (λ at. IsWithin s at d)
     (λ may. record { orders = orders; window = window; room = may_room s d.machine may })
     (λ may. record { orders = orders; window = window; room = tt })
 
-path_orderly : (s : Setup) (d : Demand) → IsOrderly s d.done d.orders → length d.machine.window < s.params.core_window → IsOrderly s d.done (path_orders s d)
+path_orderly : (s : Setup) (d : Demand) → IsOrderly s d.to_commit d.orders → length d.machine.window < s.params.core_window → IsOrderly s d.to_commit (path_orders s d)
 path_orderly s d is room =
-    cond_both ((entry s d.orders (next d)).next == predicted_next s d.machine) d.orders (Set (next d + 1) (predicted_next s d.machine) ∷ d.orders) (IsOrderly s d.done)
-    (λ e. is) (λ e. set_orderly s d.done d.orders is (next d + 1) (predicted_next s d.machine) (omega arith) (omega arith))
+    cond_both ((entry s d.orders (next d)).next == predicted_next s d.machine) d.orders (Set (next d + 1) (predicted_next s d.machine) ∷ d.orders) (IsOrderly s d.to_commit)
+    (λ e. is) (λ e. set_orderly s d.to_commit d.orders is (next d + 1) (predicted_next s d.machine) (omega arith) (omega arith))
 
 try_within : (s : Setup) (t : Try) (more : ℕ) (d : Demand) → Tries d.machine t → IsWithin s (trying more) d → IsWithin s (tried_turn s t more d).at (tried_turn s t more d).demand
 try_within s (misses behind) more d made is = record { orders = is.orders; window = omega (arith, made.window, is.window); room = tt }
@@ -118,11 +118,11 @@ try_within s (appends behind) more d made is =
     try_or_end_within s more (demand_try s (appends behind) d) (path_orderly s d is.orders is.room) (omega (arith, made.window, is.room))
 try_within s (turns behind) more d made is = record { orders = path_orderly s d is.orders is.room; window = omega (arith, made.window, is.room); room = tt }
 
-ticked_window : (s : Setup) (m : Machine) → (ticked s m).window ≡ m.window
-unfolding ticked
-ticked_window s m = refl
+cycle_end_window : (s : Setup) (m : Machine) → (end_of_cycle s m).window ≡ m.window
+unfolding end_of_cycle
+cycle_end_window s m = refl
 
-after_within : (s : Setup) (d : Demand) → IsOrderly s d.done d.orders → length d.machine.window ≤ s.params.core_window → IsWithin s (at_after_cycle d) d
+after_within : (s : Setup) (d : Demand) → IsOrderly s d.to_commit d.orders → length d.machine.window ≤ s.params.core_window → IsWithin s (at_after_cycle d) d
 after_within s d orders window =
     cond_both (has_ended d.machine.end) stopping interrupting (λ at. IsWithin s at d)
     (λ e. record { orders = orders; window = window; room = tt })
@@ -130,7 +130,7 @@ after_within s d orders window =
 
 turn_within : (s : Setup) (at : At) (d : Demand) → IsWithin s at d → IsWithin s (turn_at s at d).at (turn_at s at d).demand
 turn_within s interrupting d is = record {
-  orders = cond_both (is_interrupted d.machine) (Interrupt d.done ∷ d.orders) d.orders (IsOrderly s d.done) (λ e. interrupt_orderly s d.done d.orders is.orders) (λ e. is.orders);
+  orders = cond_both (is_interrupted d.machine) (Interrupt d.to_commit ∷ d.orders) d.orders (IsOrderly s d.to_commit) (λ e. interrupt_orderly s d.to_commit d.orders is.orders) (λ e. is.orders);
   window = omega (arith, interrupt_window d.machine, is.window);
   room = tt;
 }
@@ -138,19 +138,19 @@ turn_within s committing d is = commit_within s d (commit_phase s d.machine) (co
 turn_within s completing d is =
     let c = completes d.machine.cycle d.machine.window in
     record {
-      orders = redirect_orderly s c.redirect d.done (d.done + length c.records) d.orders (omega arith) (omega (arith, (completes_from d.machine.cycle d.machine.window).window, is.window)) is.orders;
+      orders = redirect_orderly s c.redirect d.to_commit (d.to_commit + length c.records) d.orders (omega arith) (omega (arith, (completes_from d.machine.cycle d.machine.window).window, is.window)) is.orders;
       window = omega (arith, (complete_kept d.machine).window, is.window);
       room = tt;
     }
 turn_within s issuing d is =
     try_or_end_within s s.params.core_fetch (demand_issue s d)
-    (cond_both (wants_time s d.machine) (Time d.done d.machine.cycle ∷ d.orders) d.orders (IsOrderly s d.done) (λ e. time_orderly s d.done d.orders is.orders d.machine.cycle) (λ e. is.orders))
+    (cond_both (wants_time s d.machine) (Time d.to_commit d.machine.cycle ∷ d.orders) d.orders (IsOrderly s d.to_commit) (λ e. time_orderly s d.to_commit d.orders is.orders d.machine.cycle) (λ e. is.orders))
     (omega (arith, (issue_kept s d.machine).window, is.window))
 turn_within s (trying more) d is = try_within s (fetch_try s d.machine) more d (try_tries s d.machine) is
 turn_within s ending d is =
-    after_within s (record d { machine = ticked s d.machine }) is.orders
-    (subst (λ (w : List Record). length w ≤ s.params.core_window) (sym (ticked_window s d.machine)) is.window)
-turn_within s stopping d is = record { orders = stop_orderly s d.done d.orders is.orders; window = is.window; room = tt }
+    after_within s (record d { machine = end_of_cycle s d.machine }) is.orders
+    (subst (λ (w : List Record). length w ≤ s.params.core_window) (sym (cycle_end_window s d.machine)) is.window)
+turn_within s stopping d is = record { orders = stop_orderly s d.to_commit d.orders is.orders; window = is.window; room = tt }
 turn_within s halted d is = is
 
 pub place_within : (s : Setup) (k : ℕ) → IsWithin s (place s k).run.at (place s k).run.demand
@@ -178,5 +178,5 @@ pub orders_at_commit : (s : Setup) (k : ℕ) → AreAtCommit (told (place s k))
 orders_at_commit s k = drop_at_commit (place s k).owed (place s k).run.demand.orders (place_within s k).orders.kinds
 
 -- what is committed is the number of the last Commit
-pub done_is : (s : Setup) (k : ℕ) → (place s k).run.demand.done ≡ last_commit (place s k).run.demand.orders
-done_is s k = (place_within s k).orders.done
+pub done_is : (s : Setup) (k : ℕ) → (place s k).run.demand.to_commit ≡ last_commit (place s k).run.demand.orders
+done_is s k = (place_within s k).orders.to_commit

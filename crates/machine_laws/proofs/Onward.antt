@@ -45,9 +45,9 @@ place_onward s k =
     let kinds = (place_within s k).orders.kinds in
     let fetched = at_most d.orders (next d) kinds (omega (arith, done_is s k)) in
     record {
-      orders = at_most d.orders d.done kinds (omega (arith, done_is s k));
-      times = λ n beyond. time_none d.orders d.done n related.within beyond;
-      steps = λ n from. path_steps s d.orders d.done n related.within from;
+      orders = at_most d.orders d.to_commit kinds (omega (arith, done_is s k));
+      times = λ n beyond. time_none d.orders d.to_commit n related.within beyond;
+      steps = λ n from. path_steps s d.orders d.to_commit n related.within from;
       opening = opening_at_most d.orders (next d) fetched related.on;
       onward = λ n from. path_next s d.orders n (goes_on_after d.orders (next d) n from related.on);
     }

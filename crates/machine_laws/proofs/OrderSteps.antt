@@ -110,7 +110,7 @@ told_small s os sound are =
     let fetches : s.params.core_fetch + 6 ≤ 14 = omega (arith, r.fetch) in
     let steps : s.cycles * (s.params.core_fetch + 6) ≤ 1099511627776 * 14 = mul-le-mul r.cycles fetches in
     record {
-      position = omega (arith, ap (λ (l : List Order). last_commit l) are.are, done_told s are.steps, bounded.done, commits, r.window, r.ring);
+      position = omega (arith, ap (λ (l : List Order). last_commit l) are.are, done_told s are.steps, bounded.to_commit, commits, r.window, r.ring);
       epoch = omega (arith, ap (λ (l : List Order). openings l) are.are, told_count s are.steps r.some_cycle, steps);
     }
 

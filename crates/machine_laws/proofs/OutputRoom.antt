@@ -4,7 +4,7 @@ use Rattle.mono_model.specs.declared.setup.Setup.{Setup}
 use Rattle.mono_model.specs.Arch.{Arch, start}
 use Rattle.mono_model.specs.Machine.{Machine, machine_start}
 use Rattle.mono_model.specs.Fetch.{Try, misses, appends, turns, fetch_try}
-use Rattle.mono_model.specs.Cycle.{ticked}
+use Rattle.mono_model.specs.Cycle.{end_of_cycle}
 use Rattle.mono_model.specs.Demand.{Demand, At, interrupting, committing, completing, issuing, trying, ending, stopping, halted, tried_turn, turn_at, place}
 use Rattle.machine_laws.proofs.Phases.{interrupt_output, commit_from, complete_kept, issue_kept, Tries, try_tries}
 use Rattle.machine_laws.proofs.Always.{demand_start, always}
@@ -25,9 +25,9 @@ try_output s (misses behind) more d made within = same_output s d.machine.arch b
 try_output s (appends behind) more d made within = same_output s d.machine.arch behind.arch made.arch within
 try_output s (turns behind) more d made within = same_output s d.machine.arch behind.arch made.arch within
 
-ticked_arch : (s : Setup) (m : Machine) → (ticked s m).arch ≡ m.arch
-unfolding ticked
-ticked_arch s m = refl
+cycle_end_arch : (s : Setup) (m : Machine) → (end_of_cycle s m).arch ≡ m.arch
+unfolding end_of_cycle
+cycle_end_arch s m = refl
 
 turn_output : (s : Setup) (at : At) (d : Demand) → HasOutput s at d → HasOutput s (turn_at s at d).at (turn_at s at d).demand
 turn_output s interrupting d within = subst (λ (x : List ℕ). length x ≤ s.output) (sym (interrupt_output d.machine)) within
@@ -35,7 +35,7 @@ turn_output s committing d within = (commit_from s d.machine).output within
 turn_output s completing d within = same_output s d.machine.arch _ (complete_kept d.machine).arch within
 turn_output s issuing d within = same_output s d.machine.arch _ (issue_kept s d.machine).arch within
 turn_output s (trying more) d within = try_output s (fetch_try s d.machine) more d (try_tries s d.machine) within
-turn_output s ending d within = same_output s d.machine.arch _ (ticked_arch s d.machine) within
+turn_output s ending d within = same_output s d.machine.arch _ (cycle_end_arch s d.machine) within
 turn_output s stopping d within = within
 turn_output s halted d within = within
 

@@ -5,7 +5,7 @@ use Rattle.mono_model.specs.declared.setup.Setup.{Setup}
 use Rattle.mono_model.specs.Arch.{Arch, start}
 use Rattle.mono_model.specs.Path.{time_of}
 use Rattle.mono_model.specs.Machine.{machine_start}
-use Rattle.mono_model.specs.Cycle.{ticked}
+use Rattle.mono_model.specs.Cycle.{end_of_cycle}
 use Rattle.mono_model.specs.Demand.{Demand, At, interrupting, committing, completing, issuing, trying, ending, stopping, halted, run_start, turn_at, place}
 use Rattle.machine_laws.specs.Relation.{Related, Tracks}
 use Rattle.mono_model.proofs.Path.{path_first, path_stop}
@@ -29,18 +29,18 @@ start_related s = record {
   within = tt;
 }
 
-ticked_related : (s : Setup) (d : Demand) → Related s d → Related s (record d { machine = ticked s d.machine })
-unfolding ticked
-ticked_related s d related = record { arch = related.arch; window = related.window; on = related.on; within = related.within }
+cycle_end_related : (s : Setup) (d : Demand) → Related s d → Related s (record d { machine = end_of_cycle s d.machine })
+unfolding end_of_cycle
+cycle_end_related s d related = record { arch = related.arch; window = related.window; on = related.on; within = related.within }
 
-stopped_related : (s : Setup) (d : Demand) → Related s d → Related s (record d { orders = Stop d.done ∷ d.orders })
+stopped_related : (s : Setup) (d : Demand) → Related s d → Related s (record d { orders = Stop d.to_commit ∷ d.orders })
 stopped_related s d related =
     let m = d.machine in
-    let P : (ℕ → Arch) → Type 0 = λ p. m.arch ≡ p d.done in
-    let Q : (ℕ → Arch) → Type 0 = λ p. Tracks s (time_of d.orders) p d.done m.window m.fetch_addr m.kept in
+    let P : (ℕ → Arch) → Type 0 = λ p. m.arch ≡ p d.to_commit in
+    let Q : (ℕ → Arch) → Type 0 = λ p. Tracks s (time_of d.orders) p d.to_commit m.window m.fetch_addr m.kept in
     record {
-      arch = subst P (sym (path_stop s d.done d.orders)) related.arch;
-      window = subst Q (sym (path_stop s d.done d.orders)) related.window;
+      arch = subst P (sym (path_stop s d.to_commit d.orders)) related.arch;
+      window = subst Q (sym (path_stop s d.to_commit d.orders)) related.window;
       on = related.on;
       within = related.within;
     }
@@ -52,7 +52,7 @@ turn_related s committing d related = commit_phase_related s d related
 turn_related s completing d related = complete_related s d related
 turn_related s issuing d related = issue_related s d related
 turn_related s (trying more) d related = fetch_related s d related
-turn_related s ending d related = ticked_related s d related
+turn_related s ending d related = cycle_end_related s d related
 turn_related s stopping d related = stopped_related s d related
 turn_related s halted d related = related
 

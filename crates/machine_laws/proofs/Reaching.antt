@@ -12,7 +12,7 @@ use Rattle.mono_model.specs.Complete.{completes}
 use Rattle.mono_model.specs.Issue.{wants_time}
 use Rattle.mono_model.specs.Fetch.{Try, misses, appends, turns, may_fetch, fetch_try, predicted_next}
 use Rattle.mono_model.specs.Path.{entry}
-use Rattle.mono_model.specs.Cycle.{phases, ticked, cycled, mono, mono-suc}
+use Rattle.mono_model.specs.Cycle.{phases, end_of_cycle, cycled, mono, mono-suc}
 use Rattle.mono_model.specs.Split.{is_cycle_start, is_place_boundary}
 use Rattle.machine_laws.specs.Runs.{is_over, Reaches}
 use Rattle.machine_laws.proofs.Phases.{interrupt_cycle, commit_from, complete_kept, issue_kept, Tries, try_tries}
@@ -29,7 +29,7 @@ if_same true o os = omega arith
 if_same false o os = omega arith
 
 pub interrupt_count : (d : Demand) → length (interrupt_orders d) ≤ length d.orders + 1
-interrupt_count d = if_one_more (is_interrupted d.machine) (Interrupt d.done) d.orders
+interrupt_count d = if_one_more (is_interrupted d.machine) (Interrupt d.to_commit) d.orders
 
 ending_count : (e : Ending) (handler n : ℕ) (os : List Order) → length (ending_orders e handler n os) ≤ length os + 1
 ending_count plain handler n os = omega arith
@@ -42,14 +42,14 @@ left_count (suc left) n os = omega arith
 
 commit_count : (c : Committed) (d : Demand) → length (demand_committed c d).orders ≤ length d.orders + 2
 commit_count c d =
-    omega (arith, ending_count c.ending c.machine.arch.pc (d.done + c.left) (commit_order c.left (d.done + c.left) d.orders), left_count c.left (d.done + c.left) d.orders)
+    omega (arith, ending_count c.ending c.machine.arch.pc (d.to_commit + c.left) (commit_order c.left (d.to_commit + c.left) d.orders), left_count c.left (d.to_commit + c.left) d.orders)
 
 pub redirect_count : (redirect : Option ℕ) (n : ℕ) (os : List Order) → length (redirect_orders redirect n os) ≤ length os + 1
 redirect_count None n os = omega arith
 redirect_count (Some addr) n os = omega arith
 
 pub time_count : (s : Setup) (d : Demand) → length (time_orders s d) ≤ length d.orders + 1
-time_count s d = if_one_more (wants_time s d.machine) (Time d.done d.machine.cycle) d.orders
+time_count s d = if_one_more (wants_time s d.machine) (Time d.to_commit d.machine.cycle) d.orders
 
 path_count : (s : Setup) (d : Demand) → length (path_orders s d) ≤ length d.orders + 1
 path_count s d = if_same ((entry s d.orders (next d)).next == predicted_next s d.machine) (Set (next d + 1) (predicted_next s d.machine)) d.orders
@@ -122,7 +122,7 @@ by_end s c most d here true there =
 by_end s c most d here false there =
     let completed = demand_complete d in
     let issuing_at : Reached s (most + 1) (run_at completed issuing) =
-    once s most completing d (redirect_count (completes d.machine.cycle d.machine.window).redirect (d.done + length (completes d.machine.cycle d.machine.window).records) d.orders) there in
+    once s most completing d (redirect_count (completes d.machine.cycle d.machine.window).redirect (d.to_commit + length (completes d.machine.cycle d.machine.window).records) d.orders) there in
     let issued = demand_issue s completed in
     let trying_at : Reached s (most + 1 + 1) (run_at issued (try_or_end s s.params.core_fetch issued)) =
     once s (most + 1) issuing completed (time_count s completed) issuing_at in
@@ -147,23 +147,23 @@ start_after d = cond_both (has_ended d.machine.end) stopping interrupting (λ at
 boundary_of : (p : Place) (r : Run) → p ≡ record { run = r; owed = 0 } → is_cycle_start r.at ≡ true → is_place_boundary p ≡ true
 boundary_of p r is start = ap (λ (x : Place). is_place_boundary x) is ∙ start
 
-pub ticked_cycle : (s : Setup) (m : Machine) → (ticked s m).cycle ≡ m.cycle + 1
-unfolding ticked
-ticked_cycle s m = refl
+pub cycle_end_cycle : (s : Setup) (m : Machine) → (end_of_cycle s m).cycle ≡ m.cycle + 1
+unfolding end_of_cycle
+cycle_end_cycle s m = refl
 
 -- Where a cycle starts after so many: a running machine counts them.
-pub record Stands (s : Setup) (c : ℕ) : Type 0 where
+pub record CycleIsReached (s : Setup) (c : ℕ) : Type 0 where
   pub steps : ℕ
   pub reaches : Reaches s c steps
   pub counts : is_over (place s steps).run.at ≡ false → (place s steps).run.demand.machine.cycle ≡ c
 
-next_cycle : (s : Setup) (c most : ℕ) (d : Demand) → d.machine.cycle ≡ c → Reached s most (run_at d interrupting) → most ≤ c * (s.params.core_fetch + 6) → Stands s (suc c)
+next_cycle : (s : Setup) (c most : ℕ) (d : Demand) → d.machine.cycle ≡ c → Reached s most (run_at d interrupting) → most ≤ c * (s.params.core_fetch + 6) → CycleIsReached s (suc c)
 next_cycle s c most d here there within =
     let ends = cycle_ends s most d there in
-    let behind : Demand = record ends.behind { machine = ticked s ends.behind.machine } in
+    let behind : Demand = record ends.behind { machine = end_of_cycle s ends.behind.machine } in
     let at = once s (most + 5 + s.params.core_fetch) ending ends.behind (omega arith) ends.there in
     let counts : (place s at.steps).run.demand.machine.cycle ≡ suc c =
-    ap (λ (p : Place). p.run.demand.machine.cycle) at.stands ∙ ticked_cycle s ends.behind.machine ∙ omega (arith, ends.cycle, here) in
+    ap (λ (p : Place). p.run.demand.machine.cycle) at.stands ∙ cycle_end_cycle s ends.behind.machine ∙ omega (arith, ends.cycle, here) in
     let boundary : is_place_boundary (place s at.steps) ≡ true = boundary_of (place s at.steps) (run_at behind (at_after_cycle behind)) at.stands (start_after behind) in
     let start : is_cycle_start (place s at.steps).run.at ≡ true = ap (λ (p : Place). is_cycle_start p.run.at) at.stands ∙ start_after behind in
     record {
@@ -179,16 +179,16 @@ next_cycle s c most d here there within =
 -- where the run has ended, later cycles leave the monolithic machine as it is
 pub ended_stays : (s : Setup) (c : ℕ) → has_ended (mono s c).end ≡ true → mono s (suc c) ≡ mono s c
 unfolding cycled
-ended_stays s c ended = mono-suc s c ∙ cond-true (has_ended (mono s c).end) (mono s c) (ticked s (phases s (mono s c))) ended
+ended_stays s c ended = mono-suc s c ∙ cond-true (has_ended (mono s c).end) (mono s c) (end_of_cycle s (phases s (mono s c))) ended
 
-first_stands : (s : Setup) → Stands s 0
+first_stands : (s : Setup) → CycleIsReached s 0
 unfolding place mono machine_start
 first_stands s = record { steps = 0; reaches = record { boundary = refl; machine = refl; within = omega arith }; counts = λ over. refl }
 
 pub by_parts : (p : Place) (at : At) → p.run.at ≡ at → p.owed ≡ 0 → p ≡ record { run = run_at p.run.demand at; owed = 0 }
 by_parts p at here settled = ap₂ (λ (a : At) (owed : ℕ). record { run = run_at p.run.demand a; owed = owed }) here settled
 
-over_stands : (s : Setup) (c : ℕ) (stands : Stands s c) → is_over (place s stands.steps).run.at ≡ true → Stands s (suc c)
+over_stands : (s : Setup) (c : ℕ) (stands : CycleIsReached s c) → is_over (place s stands.steps).run.at ≡ true → CycleIsReached s (suc c)
 over_stands s c stands over =
     let p = place s stands.steps in
     let parts = and_parts (p.owed == 0) (is_cycle_start p.run.at) stands.reaches.boundary in
@@ -205,7 +205,7 @@ over_stands s c stands over =
       counts = λ running. cc;
     }
 
-on_stands : (s : Setup) (c : ℕ) (stands : Stands s c) (at : At) → (place s stands.steps).run.at ≡ at → is_cycle_start at ≡ true → Stands s (suc c)
+on_stands : (s : Setup) (c : ℕ) (stands : CycleIsReached s c) (at : At) → (place s stands.steps).run.at ≡ at → is_cycle_start at ≡ true → CycleIsReached s (suc c)
 on_stands s c stands interrupting here start =
     let p = place s stands.steps in
     let parts = and_parts (p.owed == 0) (is_cycle_start p.run.at) stands.reaches.boundary in
@@ -219,7 +219,7 @@ on_stands s c stands ending here start = cc
 on_stands s c stands stopping here start = over_stands s c stands (ap is_over here)
 on_stands s c stands halted here start = over_stands s c stands (ap is_over here)
 
-pub cycle_stands : (s : Setup) (c : ℕ) → Stands s c
+pub cycle_stands : (s : Setup) (c : ℕ) → CycleIsReached s c
 cycle_stands s zero = first_stands s
 cycle_stands s (suc c) =
     let stands = cycle_stands s c in

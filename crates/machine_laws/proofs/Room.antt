@@ -22,7 +22,7 @@ use Rattle.machine_laws.proofs.Places.{place_related}
 
 -- the committed state is that of the path
 abbrev pub IsOnPath : Setup → Demand → Type 0
-IsOnPath s d = d.machine.arch ≡ path s d.orders d.done
+IsOnPath s d = d.machine.arch ≡ path s d.orders d.to_commit
 
 -- the output where nothing else bends the path at what is committed
 synced_output : (s : Setup) (a : Arch) → (synced s a).output ≡ a.output
@@ -66,13 +66,13 @@ try_room s (turns behind) more d are = path_room s d are
 turn_room : (s : Setup) (at : At) (d : Demand) → IsOnPath s d → IsOnPath s (turn_at s at d).demand → length d.machine.arch.output ≤ s.output → length (turn_at s at d).demand.machine.arch.output ≤ s.output →
     AreInRoom s d.orders → AreInRoom s (turn_at s at d).demand.orders
 turn_room s interrupting d on behind within after are =
-    cond_both (is_interrupted d.machine) (Interrupt d.done ∷ d.orders) d.orders (AreInRoom s) (λ e. (output_at s d.machine.arch d.orders d.done on within, are)) (λ e. are)
+    cond_both (is_interrupted d.machine) (Interrupt d.to_commit ∷ d.orders) d.orders (AreInRoom s) (λ e. (output_at s d.machine.arch d.orders d.to_commit on within, are)) (λ e. are)
 turn_room s committing d on behind within after are =
     let c = commit_phase s d.machine in
-    commit_room s c.machine.arch c.ending c.machine.arch.pc c.left (d.done + c.left) c.machine.window d.orders (commit_from s d.machine).ending behind after are
+    commit_room s c.machine.arch c.ending c.machine.arch.pc c.left (d.to_commit + c.left) c.machine.window d.orders (commit_from s d.machine).ending behind after are
 turn_room s completing d on behind within after are =
-    let c = completes d.machine.cycle d.machine.window in redirect_room s c.redirect (d.done + length c.records) d.orders are
-turn_room s issuing d on behind within after are = cond_both (wants_time s d.machine) (Time d.done d.machine.cycle ∷ d.orders) d.orders (AreInRoom s) (λ e. (tt, are)) (λ e. are)
+    let c = completes d.machine.cycle d.machine.window in redirect_room s c.redirect (d.to_commit + length c.records) d.orders are
+turn_room s issuing d on behind within after are = cond_both (wants_time s d.machine) (Time d.to_commit d.machine.cycle ∷ d.orders) d.orders (AreInRoom s) (λ e. (tt, are)) (λ e. are)
 turn_room s (trying more) d on behind within after are = try_room s (fetch_try s d.machine) more d are
 turn_room s ending d on behind within after are = are
 turn_room s stopping d on behind within after are = (tt, are)

@@ -22,7 +22,7 @@ use Rattle.mono_model.specs.Commit as commit
 use Rattle.mono_model.specs.Complete.{Completed, due, is_mispredicted, in_front, complete_next, completes, completed_by, complete_phase}
 use Rattle.mono_model.specs.Issue.{Passed, none_passed, is_oldest, class_allows, is_past_front, has_operands, operand_value, seen_from, ready_result, issues, Turned, unchanged, begun, turn_of, passed, walk, wants_time, wants_time_result, wants_time_first, replayed, issued, issue_phase}
 use Rattle.mono_model.specs.Fetch.{misses, appends, turns, missed, appended, new_record, predicted_next, cache_read, fetch_try}
-use Rattle.mono_model.specs.Cycle.{ticked}
+use Rattle.mono_model.specs.Cycle.{end_of_cycle}
 use Rattle.mono_model.specs.Demand.{Demand, demand_try, At, interrupting, committing, completing, issuing, trying, ending, stopping, halted, turn_at, place}
 use Rattle.mono_model.proofs.Issue.{issues_all}
 use Rattle.machine_laws.specs.Served.{IsServed, AreServed}
@@ -215,9 +215,9 @@ unfolding fetch_try
 fetch_served s d served =
     try_served s d (cache_read s d.machine) (nat_lt 0 (cache_read s d.machine).cycles) (predicted_next s d.machine == wrap_sum d.machine.fetch_addr 4) served
 
-ticked_served : (s : Setup) (m : Machine) → AreServed m.window → AreServed (ticked s m).window
-unfolding ticked
-ticked_served s m served = served
+cycle_end_served : (s : Setup) (m : Machine) → AreServed m.window → AreServed (end_of_cycle s m).window
+unfolding end_of_cycle
+cycle_end_served s m served = served
 
 start_served : (s : Setup) → AreServed (machine_start s).window
 unfolding machine_start
@@ -229,7 +229,7 @@ turn_served_at s above committing d served = commit_served s d.machine served
 turn_served_at s above completing d served = complete_served d.machine served
 turn_served_at s above issuing d served = issue_served s d.machine above served
 turn_served_at s above (trying more) d served = fetch_served s d served
-turn_served_at s above ending d served = ticked_served s d.machine served
+turn_served_at s above ending d served = cycle_end_served s d.machine served
 turn_served_at s above stopping d served = served
 turn_served_at s above halted d served = served
 

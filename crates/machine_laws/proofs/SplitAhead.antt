@@ -22,7 +22,7 @@ use Rattle.machine_laws.proofs.SplitLists.{position_by, position_behind, AreReac
 
 -- the orders that wait, the first in front
 abbrev pub pending : Split → List Order
-pending x = x.listed ++ hand_list x.hand
+pending x = x.listed_orders ++ hand_list x.hand
 
 -- the entries under way, the first in front
 abbrev pub flight : Split → List Entry
@@ -65,7 +65,7 @@ start_ahead s = record {
 
 -- orders that wait or were obeyed are those told
 pub told_openings : (s : Setup) (x : Split) → IsOrdered s x → openings (told x.place) ≡ openings (pending x) + openings x.obeyed
-told_openings s x ordered = ap (λ (os : List Order). openings os) ordered.orders ∙ openings_told x.hand x.listed x.obeyed
+told_openings s x ordered = ap (λ (os : List Order). openings os) ordered.orders ∙ openings_told x.hand x.listed_orders x.obeyed
 
 pub entry_epoch : (s : Setup) (os : List Order) (n : ℕ) → (entry s os n).epoch ≡ openings os
 unfolding entry entry_at
@@ -167,7 +167,7 @@ module _ (s : Setup) (x : Split) (ordered : IsOrdered s x) (is : IsAhead x) wher
   fewer_computed None k most = most
   fewer_computed (Some a) k most = most_front k (entry_list x.held ++ (x.entries ++ [])) (a ∷ []) (subst (EpochsAtMost k) (sym (flight_more x.held x.entries a)) most)
 
-  module _ (o : Order) (os : List Order) (e : x.listed ≡ o ∷ os) where
+  module _ (o : Order) (os : List Order) (e : x.listed_orders ≡ o ∷ os) where
     waiting : pending x ≡ o ∷ (os ++ hand_list x.hand)
     waiting = ap (λ (l : List Order). l ++ hand_list x.hand) e
 
@@ -177,7 +177,7 @@ module _ (s : Setup) (x : Split) (ordered : IsOrdered s x) (is : IsAhead x) wher
     behind_reached : AreReached (position_by o x.position) (os ++ hand_list x.hand)
     behind_reached = (subst (AreReached x.position) waiting is.reached).1
 
-    went_ahead : (n : ℕ) → opens_epoch_of o ≡ true → position_by o x.position ≡ n → IsAhead (goes_to o n (record x { listed = os }))
+    went_ahead : (n : ℕ) → opens_epoch_of o ≡ true → position_by o x.position ≡ n → IsAhead (goes_to o n (record x { listed_orders = os }))
     went_ahead n opening at = record {
       owes = is.owes;
       going = is.going;
@@ -197,7 +197,7 @@ module _ (s : Setup) (x : Split) (ordered : IsOrdered s x) (is : IsAhead x) wher
         older : openings x.obeyed < openings (told x.place)
         older = omega (arith, told_openings s x ordered, ap (λ (l : List Order). openings l) waiting, opened)
 
-    committed_ahead : (n : ℕ) → o ≡ Commit n → IsAhead (record (record x { listed = os }) { obeyed = Commit n ∷ x.obeyed; committed_number = n })
+    committed_ahead : (n : ℕ) → o ≡ Commit n → IsAhead (record (record x { listed_orders = os }) { obeyed = Commit n ∷ x.obeyed; committed_number = n })
     committed_ahead n at = record {
       owes = is.owes;
       going = is.going;
@@ -215,15 +215,15 @@ module _ (s : Setup) (x : Split) (ordered : IsOrdered s x) (is : IsAhead x) wher
 same_ahead : (x : Split) (n : ℕ) (b : Bool) → IsAhead x → IsAhead (record x { committed_number = n; is_stopped = b })
 same_ahead x n b is = record { owes = is.owes; going = is.going; last = is.last; reached = is.reached; below = is.below; lead = is.lead; epochs = is.epochs; held = is.held }
 
-order_ahead : (s : Setup) (o : Order) (os : List Order) (x : Split) → IsOrdered s x → IsAhead x → x.listed ≡ o ∷ os → IsAhead (obeys o (record x { listed = os }))
+order_ahead : (s : Setup) (o : Order) (os : List Order) (x : Split) → IsOrdered s x → IsAhead x → x.listed_orders ≡ o ∷ os → IsAhead (obeys o (record x { listed_orders = os }))
 order_ahead s (Set n addr) os x ordered is e = went_ahead s x ordered is (Set n addr) os e n refl refl
 order_ahead s (Commit n) os x ordered is e = committed_ahead s x ordered is (Commit n) os e n refl
-order_ahead s (Interrupt n) os x ordered is e = same_ahead (goes_to (Interrupt n) n (record x { listed = os })) n x.is_stopped (went_ahead s x ordered is (Interrupt n) os e n refl refl)
+order_ahead s (Interrupt n) os x ordered is e = same_ahead (goes_to (Interrupt n) n (record x { listed_orders = os })) n x.is_stopped (went_ahead s x ordered is (Interrupt n) os e n refl refl)
 order_ahead s (Time n v) os x ordered is e = went_ahead s x ordered is (Time n v) os e n refl refl
-order_ahead s (Stop n) os x ordered is e = same_ahead (goes_to (Stop n) n (record x { listed = os })) x.committed_number true (went_ahead s x ordered is (Stop n) os e n refl refl)
-order_ahead s (Sync n) os x ordered is e = same_ahead (goes_to (Sync n) n (record x { listed = os })) n x.is_stopped (went_ahead s x ordered is (Sync n) os e n refl refl)
+order_ahead s (Stop n) os x ordered is e = same_ahead (goes_to (Stop n) n (record x { listed_orders = os })) x.committed_number true (went_ahead s x ordered is (Stop n) os e n refl refl)
+order_ahead s (Sync n) os x ordered is e = same_ahead (goes_to (Sync n) n (record x { listed_orders = os })) n x.is_stopped (went_ahead s x ordered is (Sync n) os e n refl refl)
 
-obey_ahead : (s : Setup) (l : List Order) (x : Split) → x.listed ≡ l → IsOrdered s x → IsAhead x → IsAhead (on_obey l x)
+obey_ahead : (s : Setup) (l : List Order) (x : Split) → x.listed_orders ≡ l → IsOrdered s x → IsAhead x → IsAhead (on_obey l x)
 obey_ahead s [] x e ordered is = is
 obey_ahead s (o ∷ os) x e ordered is = order_ahead s o os x ordered is e
 
@@ -299,11 +299,11 @@ module _ (x : Split) (is : IsAhead x) (q : Place) (stepped : Stepped x.place q) 
   on_there : is_halted x.place.run.at ≡ false
   on_there = not_halted x may is.owes
 
-  empty : pending x ≡ x.listed
-  empty = ap (λ (h : Option Order). x.listed ++ hand_list h) (may_hand x may) ∙ append-nil x.listed
+  empty : pending x ≡ x.listed_orders
+  empty = ap (λ (h : Option Order). x.listed_orders ++ hand_list h) (may_hand x may) ∙ append-nil x.listed_orders
 
-  with_hand : (o : Order) → position_behind (x.listed ++ o ∷ []) x.position ≡ position_by o (goal_position x)
-  with_hand o = position_last x.listed o x.position ∙ ap (λ (l : List Order). position_by o (position_behind l x.position)) (sym empty)
+  with_hand : (o : Order) → position_behind (x.listed_orders ++ o ∷ []) x.position ≡ position_by o (goal_position x)
+  with_hand o = position_last x.listed_orders o x.position ∙ ap (λ (l : List Order). position_by o (position_behind l x.position)) (sym empty)
 
   has_held : a ≡ true → (e : Entry) × (x.held ≡ Some e)
   unfolding a
@@ -324,8 +324,8 @@ module _ (x : Split) (is : IsAhead x) (q : Place) (stepped : Stepped x.place q) 
   within : next x.place.run.demand + one a ≤ goal_position x
   within = within_by a refl
 
-  told_last : (o : Order) → number_of o ≤ goal_position x → AreReached x.position (x.listed ++ o ∷ [])
-  told_last o most = reached_last x.listed o x.position (subst (AreReached x.position) empty is.reached) (omega (arith, ap (λ (l : List Order). position_behind l x.position) empty))
+  told_last : (o : Order) → number_of o ≤ goal_position x → AreReached x.position (x.listed_orders ++ o ∷ [])
+  told_last o most = reached_last x.listed_orders o x.position (subst (AreReached x.position) empty is.reached) (omega (arith, ap (λ (l : List Order). position_behind l x.position) empty))
 
   abbrev ticked_with : Option Order → Option Entry → Split
   ticked_with o h = record x { place = q; hand = o; held = h }
@@ -346,9 +346,9 @@ module _ (x : Split) (is : IsAhead x) (q : Place) (stepped : Stepped x.place q) 
         owes = stepped.owes;
         going = λ on. subst Stopless (sym is_told) (is.going on_there);
         last = subst StopLast (sym is_told) is.last;
-        reached = subst (AreReached x.position) (empty ∙ sym (append-nil x.listed)) is.reached;
+        reached = subst (AreReached x.position) (empty ∙ sym (append-nil x.listed_orders)) is.reached;
         below = λ on. omega (arith, to, within, same);
-        lead = λ on none. subst (λ (n : ℕ). Lead (openings (told q)) n flies (position_behind (x.listed ++ []) x.position)) (sym to)
+        lead = λ on none. subst (λ (n : ℕ). Lead (openings (told q)) n flies (position_behind (x.listed_orders ++ []) x.position)) (sym to)
             (subst (λ (n : ℕ). Lead (openings (told q)) (next x.place.run.demand + one a) flies n) same
             (subst (λ (os : List Order). Lead (openings os) (next x.place.run.demand + one a) flies (goal_position x)) (sym is_told) (lead_there all)));
         epochs = used_most a x.held (x.entries ++ entry_list x.computed) (openings x.obeyed) is.epochs;
@@ -358,8 +358,8 @@ module _ (x : Split) (is : IsAhead x) (q : Place) (stepped : Stepped x.place q) 
       flies : List Entry
       flies = entry_list (after_use a x.held) ++ (x.entries ++ entry_list x.computed)
 
-      same : goal_position x ≡ position_behind (x.listed ++ []) x.position
-      same = ap (λ (l : List Order). position_behind l x.position) (empty ∙ sym (append-nil x.listed))
+      same : goal_position x ≡ position_behind (x.listed_orders ++ []) x.position
+      same = ap (λ (l : List Order). position_behind l x.position) (empty ∙ sym (append-nil x.listed_orders))
   by_made (tells_commit m all is_told least most to on) =
       by_parts (Some (Commit m)) (after_use a x.held) (by_one x.place q (Commit m) is_told) (kept_by (Some (Commit m)) x.place q x.held a refl stepped.has) (record {
         owes = stepped.owes;
@@ -367,7 +367,7 @@ module _ (x : Split) (is : IsAhead x) (q : Place) (stepped : Stepped x.place q) 
         last = subst StopLast (sym is_told) (is.going on_there);
         reached = told_last (Commit m) (omega (arith, within));
         below = λ on. omega (arith, within, with_hand (Commit m));
-        lead = λ on none. subst (λ (n : ℕ). Lead (openings (told q)) n flies (position_behind (x.listed ++ Commit m ∷ []) x.position)) (sym (to none))
+        lead = λ on none. subst (λ (n : ℕ). Lead (openings (told q)) n flies (position_behind (x.listed_orders ++ Commit m ∷ []) x.position)) (sym (to none))
             (subst (λ (n : ℕ). Lead (openings (told q)) (next x.place.run.demand + one a) flies n) (sym (with_hand (Commit m)))
             (subst (λ (k : ℕ). Lead k (next x.place.run.demand + one a) flies (goal_position x)) epoch (lead_there all)));
         epochs = used_most a x.held (x.entries ++ entry_list x.computed) (openings x.obeyed) is.epochs;
@@ -394,7 +394,7 @@ module _ (x : Split) (is : IsAhead x) (q : Place) (stepped : Stepped x.place q) 
       flies : List Entry
       flies = x.entries ++ entry_list x.computed
 
-      goal : position_behind (x.listed ++ o ∷ []) x.position ≡ next q.run.demand
+      goal : position_behind (x.listed_orders ++ o ∷ []) x.position ≡ next q.run.demand
       goal = with_hand o ∙ opening_position o (goal_position x) (next q.run.demand) opening
 
       opened : openings (o ∷ told x.place) ≡ 1 + openings (told x.place)
@@ -467,7 +467,7 @@ take_ahead s (a ∷ rest) x e is = cond_both (may_take x) (taken a rest x) x IsA
 send_ahead : (s : Setup) (h : Option Order) (x : Split) → x.hand ≡ h → IsAhead x → IsAhead (sent h x)
 send_ahead s None x e is = is
 send_ahead s (Some o) x e is =
-    cond_both (nat_lt (length x.listed) 64) (record x { hand = None; listed = x.listed ++ o ∷ [] }) x IsAhead
+    cond_both (nat_lt (length x.listed_orders) 64) (record x { hand = None; listed_orders = x.listed_orders ++ o ∷ [] }) x IsAhead
     (λ may. record {
       owes = is.owes;
       going = is.going;
@@ -480,17 +480,17 @@ send_ahead s (Some o) x e is =
     })
     (λ may. is)
   where
-    waits : pending x ≡ (x.listed ++ o ∷ []) ++ []
-    waits = ap (λ (h : Option Order). x.listed ++ hand_list h) e ∙ sym (append-nil (x.listed ++ o ∷ []))
+    waits : pending x ≡ (x.listed_orders ++ o ∷ []) ++ []
+    waits = ap (λ (h : Option Order). x.listed_orders ++ hand_list h) e ∙ sym (append-nil (x.listed_orders ++ o ∷ []))
 
-    goal : goal_position x ≡ position_behind ((x.listed ++ o ∷ []) ++ []) x.position
+    goal : goal_position x ≡ position_behind ((x.listed_orders ++ o ∷ []) ++ []) x.position
     goal = ap (λ (l : List Order). position_behind l x.position) waits
 
 pub event_ahead : (s : Setup) (e : Event) (x : Split) → IsOrdered s x → IsAhead x → IsAhead (event_at s e x)
 unfolding event_at
 event_ahead s compute x ordered is = compute_ahead s x ordered is
 event_ahead s push x ordered is = push_ahead s x ordered is x.computed refl
-event_ahead s obey x ordered is = obey_ahead s x.listed x refl ordered is
+event_ahead s obey x ordered is = obey_ahead s x.listed_orders x refl ordered is
 event_ahead s tick x ordered is = tick_ahead s x ordered is
 event_ahead s take x ordered is = take_ahead s x.entries x refl is
 event_ahead s send x ordered is = send_ahead s x.hand x refl is

@@ -56,7 +56,7 @@ rank s x = cost s * steps_left s x.place + waits s x
 
 waits_most : (s : Setup) (x : Split) → IsListed s x → waits s x ≤ s.ring + 68
 waits_most s x listed =
-    wait_most s.ring (lacks x) (waiting_for x.listed x.hand) (stale (openings (told x.place)) x.entries) (waiting_most x.listed x.hand listed.orders)
+    wait_most s.ring (lacks x) (waiting_for x.listed_orders x.hand) (stale (openings (told x.place)) x.entries) (waiting_most x.listed_orders x.hand listed.orders)
     (omega (arith, stale_most (openings (told x.place)) x.entries, listed.entries))
 
 module _ (s : Setup) (x : Split) (is : Known s x) (ring : 1 ≤ s.ring) (off : is_boundary x ≡ false) where
@@ -74,18 +74,18 @@ module _ (s : Setup) (x : Split) (is : Known s x) (ring : 1 ≤ s.ring) (off : i
   abbrev Stays : Type 0
   Stays = (is_place_boundary b.place ≡ true) ⊎ ((is_place_boundary b.place ≡ false) × (may_tick b ≡ false))
 
-  idle : Stays → waiting_for x.listed x.hand ≡ 0 → waits s (sent b.hand b) < waits s x
+  idle : Stays → waiting_for x.listed_orders x.hand ≡ 0 → waits s (sent b.hand b) < waits s x
   unfolding b
   idle stays none = ⊎_elim (λ at. absurd (let yes = here at in cc)) (λ idles. dropping idles.0 idles.1) stays
     where
-      empty : (x.listed ≡ []) × (x.hand ≡ None)
-      empty = no_waiting x.listed x.hand none
+      empty : (x.listed_orders ≡ []) × (x.hand ≡ None)
+      empty = no_waiting x.listed_orders x.hand none
 
       here : is_place_boundary b.place ≡ true → is_boundary x ≡ true
       here at =
-          and_from (is_place_boundary x.place && is_none x.hand) (length x.listed == 0)
+          and_from (is_place_boundary x.place && is_none x.hand) (length x.listed_orders == 0)
           (and_from (is_place_boundary x.place) (is_none x.hand) (subst (λ (p : Place). is_place_boundary p ≡ true) before.place at) (none_from x.hand empty.1))
-          (eq-eqb (length x.listed) 0 (ap (λ (l : List Order). length l) empty.0))
+          (eq-eqb (length x.listed_orders) 0 (ap (λ (l : List Order). length l) empty.0))
 
       dropping : is_place_boundary b.place ≡ false → may_tick b ≡ false → waits s (sent b.hand b) < waits s x
       dropping away idles =
@@ -97,26 +97,26 @@ module _ (s : Setup) (x : Split) (is : Known s x) (ring : 1 ≤ s.ring) (off : i
           let less : stale (openings (told x.place)) b.entries < stale (openings (told x.place)) x.entries = drops s x is ring empty.1 empty.0 needs none_x none_b in
           let r = sent b.hand b in
           let kept : r ≡ b = ap (λ (h : Option Order). sent h b) (before.hand ∙ empty.1) in
-          let now : waiting_for r.listed r.hand ≡ 0 =
-          ap (λ (y : Split). waiting_for y.listed y.hand) kept ∙ ap (waiting_for b.listed) (before.hand ∙ empty.1) ∙ omega (arith, before.listed, ap (λ (l : List Order). length l) empty.0) in
+          let now : waiting_for r.listed_orders r.hand ≡ 0 =
+          ap (λ (y : Split). waiting_for y.listed_orders y.hand) kept ∙ ap (waiting_for b.listed_orders) (before.hand ∙ empty.1) ∙ omega (arith, before.listed_orders, ap (λ (l : List Order). length l) empty.0) in
           let same : stale (openings (told r.place)) r.entries ≡ stale (openings (told x.place)) b.entries =
           ap (λ (y : Split). stale (openings (told y.place)) y.entries) kept ∙ ap (λ (p : Place). stale (openings (told p)) b.entries) before.place in
-          by_stale s.ring (lacks x) (lacks r) (waiting_for x.listed x.hand) (waiting_for r.listed r.hand) (stale (openings (told x.place)) x.entries) (stale (openings (told r.place)) r.entries)
+          by_stale s.ring (lacks x) (lacks r) (waiting_for x.listed_orders x.hand) (waiting_for r.listed_orders r.hand) (stale (openings (told x.place)) x.entries) (stale (openings (told r.place)) r.entries)
           (and_from (needs_entry x.place) (is_none x.held) needs (none_from x.held none_x)) none now (omega (arith, less, same))
 
   still : Stays → IsListed s (sent b.hand b) → rank s (sent b.hand b) < rank s x
   unfolding b
   still stays listed =
       let r = sent b.hand b in
-      let less : waits s r < waits s x = by_count (waiting_for x.listed x.hand) refl in
+      let less : waits s r < waits s x = by_count (waiting_for x.listed_orders x.hand) refl in
       let same : cost s * steps_left s r.place ≡ cost s * steps_left s x.place = ap (λ (p : Place). cost s * steps_left s p) (sends.place ∙ before.place) in
       omega (arith, less, same)
     where
-      by_count : (n : ℕ) → waiting_for x.listed x.hand ≡ n → waits s (sent b.hand b) < waits s x
+      by_count : (n : ℕ) → waiting_for x.listed_orders x.hand ≡ n → waits s (sent b.hand b) < waits s x
       by_count zero e = idle stays e
       by_count (suc n) e =
           let r = sent b.hand b in
-          orders_fewer s x is.listed.orders (omega (arith, e)) (stale (openings (told r.place)) r.entries)
+          orders_fewer s x is.listed_orders.orders (omega (arith, e)) (stale (openings (told r.place)) r.entries)
           (omega (arith, stale_most (openings (told r.place)) r.entries, listed.entries))
 
   ticks : is_place_boundary b.place ≡ false → IsListed s (sent (ticked_to (step s b.place) b).hand (ticked_to (step s b.place) b)) → rank s (sent (ticked_to (step s b.place) b).hand (ticked_to (step s b.place) b)) < rank s x
@@ -141,10 +141,10 @@ arrives s ring zero x reached most = by_test (is_boundary x) refl
   where
     by_test : (b : Bool) → is_boundary x ≡ b → is_boundary x ≡ true
     by_test true at = at
-    by_test false off = absurd (omega (arith, round_less s x (known s x reached) ring off (known s (round s x) (round_reached s x reached)).listed))
+    by_test false off = absurd (omega (arith, round_less s x (known s x reached) ring off (known s (round s x) (round_reached s x reached)).listed_orders))
 arrives s ring (suc n) x reached most =
     cond_both (is_boundary x) x (rounds_to_boundary s n (round s x)) (λ y. is_boundary y ≡ true) (λ at. at)
-    (λ off. arrives s ring n (round s x) (round_reached s x reached) (omega (arith, round_less s x (known s x reached) ring off (known s (round s x) (round_reached s x reached)).listed)))
+    (λ off. arrives s ring n (round s x) (round_reached s x reached) (omega (arith, round_less s x (known s x reached) ring off (known s (round s x) (round_reached s x reached)).listed_orders)))
 
 -- within the rounds that are made
 pub comes_to_boundary : (s : Setup) (x : Split) → 1 ≤ s.ring → IsReached s x → is_boundary (to_boundary s x) ≡ true
@@ -153,4 +153,4 @@ comes_to_boundary s x ring reached =
     let left : steps_left s x.place ≤ s.params.core_fetch + 5 = subst (λ (p : Place). steps_left s p ≤ s.params.core_fetch + 5) (sym is.holds.ordered.at) (place_left s is.holds.ordered.steps) in
     let most : cost s * (steps_left s x.place + 3) ≤ cost s * (s.params.core_fetch + 8) = mul-le-mul_left (cost s) (omega (arith, left)) in
     let more : cost s * (steps_left s x.place + 3) ≡ cost s * steps_left s x.place + cost s * 3 = mul-add (cost s) (steps_left s x.place) 3 in
-    arrives s ring (boundary_rounds s) x reached (omega (arith, most, more, waits_most s x is.listed))
+    arrives s ring (boundary_rounds s) x reached (omega (arith, most, more, waits_most s x is.listed_orders))

@@ -12,7 +12,7 @@ use Rattle.machine_laws.proofs.SplitStale.{stale}
 -- the state of a round before its step
 abbrev pub before_step : Setup → Split → Split
 before_step s x =
-    let y = on_obey x.listed x in
+    let y = on_obey x.listed_orders x in
     let z = on_compute s y in
     let a = pushed s z.computed z in
     on_take a.entries a
@@ -21,14 +21,14 @@ pub record Before (x b : Split) : Type 0 where
   pub place : b.place ≡ x.place
   pub hand : b.hand ≡ x.hand
   pub held : b.held ≡ None → x.held ≡ None
-  pub listed : length b.listed ≡ length x.listed - 1
+  pub listed_orders : length b.listed_orders ≡ length x.listed_orders - 1
 
 pub before_is : (s : Setup) (x : Split) → Before x (before_step s x)
 before_is s x =
-    let y = on_obey x.listed x in
+    let y = on_obey x.listed_orders x in
     let z = on_compute s y in
     let a = pushed s z.computed z in
-    let obeyed = obey_side x.listed x in
+    let obeyed = obey_side x.listed_orders x in
     let computed = compute_side s y in
     let pushes = push_side s z.computed z in
     let takes = take_takes a.entries a in
@@ -36,7 +36,7 @@ before_is s x =
       place = takes.place ∙ pushes.place ∙ computed.place ∙ obeyed.place;
       hand = takes.hand ∙ pushes.hand ∙ computed.hand ∙ obeyed.hand;
       held = λ none. sym (pushes.held ∙ computed.held ∙ obeyed.held) ∙ takes.held none;
-      listed = ap (λ (l : List Order). length l) (takes.listed ∙ push_listed s z.computed z ∙ compute_listed s y) ∙ obey_count x.listed x refl;
+      listed_orders = ap (λ (l : List Order). length l) (takes.listed_orders ∙ push_listed s z.computed z ∙ compute_listed s y) ∙ obey_count x.listed_orders x refl;
     }
 
 -- How long the timing side may wait: for its orders to be obeyed, and where it lacks an entry, for those of older epochs
@@ -67,7 +67,7 @@ abbrev pub lacks : Split → Bool
 lacks x = needs_entry x.place && is_none x.held
 
 abbrev pub waits : Setup → Split → ℕ
-waits s x = wait_of s.ring (lacks x) (waiting_for x.listed x.hand) (stale (openings (told x.place)) x.entries)
+waits s x = wait_of s.ring (lacks x) (waiting_for x.listed_orders x.hand) (stale (openings (told x.place)) x.entries)
 
 pub waiting_is : (l : List Order) (h : Option Order) → waiting_for l h ≡ length l + waiting_for [] h
 waiting_is l None = omega arith
@@ -81,18 +81,18 @@ some_none None e = refl
 some_none (Some a) e = cc
 
 -- where orders wait there are fewer behind a round without a step
-pub orders_fewer : (s : Setup) (x : Split) → length x.listed ≤ 64 → 1 ≤ waiting_for x.listed x.hand → (su : ℕ) → su ≤ s.ring →
-    wait_of s.ring (lacks (sent (before_step s x).hand (before_step s x))) (waiting_for (sent (before_step s x).hand (before_step s x)).listed (sent (before_step s x).hand (before_step s x)).hand) su < waits s x
+pub orders_fewer : (s : Setup) (x : Split) → length x.listed_orders ≤ 64 → 1 ≤ waiting_for x.listed_orders x.hand → (su : ℕ) → su ≤ s.ring →
+    wait_of s.ring (lacks (sent (before_step s x).hand (before_step s x))) (waiting_for (sent (before_step s x).hand (before_step s x)).listed_orders (sent (before_step s x).hand (before_step s x)).hand) su < waits s x
 orders_fewer s x most some su few =
     let b = before_step s x in
     let r = sent b.hand b in
     let is = before_is s x in
     let sends = send_sends b.hand b in
     let same : waiting_for [] b.hand ≡ waiting_for [] x.hand = ap (waiting_for []) is.hand in
-    let fewer : waiting_for r.listed r.hand < length x.listed + waiting_for [] b.hand =
-    send_waits b.hand b (length x.listed) refl is.listed most (omega (arith, waiting_is x.listed x.hand, waiting_is b.listed b.hand, same)) in
-    fewer_wait s.ring (lacks x) (lacks r) (waiting_for x.listed x.hand) (waiting_for r.listed r.hand) (stale (openings (told x.place)) x.entries) su
-    (omega (arith, fewer, waiting_is x.listed x.hand, same)) few
+    let fewer : waiting_for r.listed_orders r.hand < length x.listed_orders + waiting_for [] b.hand =
+    send_waits b.hand b (length x.listed_orders) refl is.listed_orders most (omega (arith, waiting_is x.listed_orders x.hand, waiting_is b.listed_orders b.hand, same)) in
+    fewer_wait s.ring (lacks x) (lacks r) (waiting_for x.listed_orders x.hand) (waiting_for r.listed_orders r.hand) (stale (openings (told x.place)) x.entries) su
+    (omega (arith, fewer, waiting_is x.listed_orders x.hand, same)) few
     (λ now.
     let parts = and_parts (needs_entry r.place) (is_none r.held) now in
     let needs : needs_entry x.place ≡ true = subst (λ (p : Place). needs_entry p ≡ true) (sends.place ∙ is.place) parts.0 in

@@ -42,10 +42,10 @@ told_count s k cycles =
 
 pub is_small : (s : Setup) (x : Split) → IsOrdered s x → IsCounted s x → 1 ≤ s.cycles → IsSmall s x
 is_small s x ordered counted cycles =
-    let front = hand_list x.hand ++ reverse x.listed in
+    let front = hand_list x.hand ++ reverse x.listed_orders in
     let told_is : told x.place ≡ front ++ x.obeyed = told_front s x ordered in
     let done : last_commit (told x.place) ≤ s.params.core_commit * s.cycles =
-    subst (λ (p : Place). last_commit (told p) ≤ s.params.core_commit * s.cycles) (sym ordered.at) (omega (arith, done_told s ordered.steps, (run_bounded s ordered.steps cycles).done)) in
+    subst (λ (p : Place). last_commit (told p) ≤ s.params.core_commit * s.cycles) (sym ordered.at) (omega (arith, done_told s ordered.steps, (run_bounded s ordered.steps cycles).to_commit)) in
     let most : last_commit x.obeyed ≤ last_commit (told x.place) =
     subst (λ (os : List Order). last_commit x.obeyed ≤ last_commit os) (sym told_is)
     (commits_more front x.obeyed (subst AreAtCommit told_is (subst (λ (p : Place). AreAtCommit (told p)) (sym ordered.at) (orders_at_commit s ordered.steps)))) in

@@ -25,13 +25,13 @@ hand_front : (h : Option Order) (os : List Order) → with_order h os ≡ hand_l
 hand_front None os = refl
 hand_front (Some o) os = refl
 
-pub told_front : (s : Setup) (x : Split) → IsOrdered s x → told x.place ≡ (hand_list x.hand ++ reverse x.listed) ++ x.obeyed
+pub told_front : (s : Setup) (x : Split) → IsOrdered s x → told x.place ≡ (hand_list x.hand ++ reverse x.listed_orders) ++ x.obeyed
 told_front s x ordered =
-    ordered.orders ∙ hand_front x.hand (reverse x.listed ++ x.obeyed) ∙ sym (append_assoc (hand_list x.hand) (reverse x.listed) x.obeyed)
+    ordered.orders ∙ hand_front x.hand (reverse x.listed_orders ++ x.obeyed) ∙ sym (append_assoc (hand_list x.hand) (reverse x.listed_orders) x.obeyed)
 
-pub next_front : (s : Setup) (x : Split) (o : Order) (os : List Order) → IsOrdered s x → x.listed ≡ o ∷ os → told x.place ≡ (hand_list x.hand ++ reverse os) ++ (o ∷ x.obeyed)
+pub next_front : (s : Setup) (x : Split) (o : Order) (os : List Order) → IsOrdered s x → x.listed_orders ≡ o ∷ os → told x.place ≡ (hand_list x.hand ++ reverse os) ++ (o ∷ x.obeyed)
 next_front s x o os ordered e =
-    ordered.orders ∙ hand_front x.hand (reverse x.listed ++ x.obeyed) ∙ ap (λ (l : List Order). hand_list x.hand ++ l) (ap (λ (l : List Order). reverse l ++ x.obeyed) e ∙ obey_list o os x.obeyed)
+    ordered.orders ∙ hand_front x.hand (reverse x.listed_orders ++ x.obeyed) ∙ ap (λ (l : List Order). hand_list x.hand ++ l) (ap (λ (l : List Order). reverse l ++ x.obeyed) e ∙ obey_list o os x.obeyed)
     ∙ sym (append_assoc (hand_list x.hand) (reverse os) (o ∷ x.obeyed))
 
 numbered_behind : (s : Setup) (xs ys : List Order) → AreNumbered s (xs ++ ys) → AreNumbered s ys
@@ -61,7 +61,7 @@ pub record IsNext (s : Setup) (x : Split) (o : Order) : Type 0 where
   pub reached : number_of o ≤ x.position
   pub running : has_stop x.obeyed ≡ false
 
-pub next_is : (s : Setup) (x : Split) (o : Order) (os : List Order) → IsOrdered s x → IsAhead x → x.listed ≡ o ∷ os → IsNext s x o
+pub next_is : (s : Setup) (x : Split) (o : Order) (os : List Order) → IsOrdered s x → IsAhead x → x.listed_orders ≡ o ∷ os → IsNext s x o
 next_is s x o os ordered ahead e = record {
   numbered = (numbered_behind s front (o ∷ x.obeyed) (subst (AreNumbered s) told_is (subst (λ (p : Place). AreNumbered s (told p)) (sym ordered.at) (orders_numbered s ordered.steps)))).0;
   kind = (at_commit_behind front (o ∷ x.obeyed) (subst AreAtCommit told_is (subst (λ (p : Place). AreAtCommit (told p)) (sym ordered.at) (orders_at_commit s ordered.steps)))).0;
@@ -75,7 +75,7 @@ next_is s x o os ordered ahead e = record {
     told_is : told x.place ≡ front ++ (o ∷ x.obeyed)
     told_is = next_front s x o os ordered e
 
-order_counted : (s : Setup) (o : Order) (os : List Order) (x : Split) → IsNext s x o → IsCounted s x → IsCounted s (obeys o (record x { listed = os }))
+order_counted : (s : Setup) (o : Order) (os : List Order) (x : Split) → IsNext s x o → IsCounted s x → IsCounted s (obeys o (record x { listed_orders = os }))
 order_counted s (Set n addr) os x next is = record {
   committed = is.committed;
   least = omega (arith, is.committed, next.numbered.least);
@@ -119,7 +119,7 @@ order_counted s (Sync n) os x next is = record {
   on = λ e. omega arith;
 }
 
-obey_counted : (s : Setup) (l : List Order) (x : Split) → x.listed ≡ l → IsOrdered s x → IsAhead x → IsCounted s x → IsCounted s (on_obey l x)
+obey_counted : (s : Setup) (l : List Order) (x : Split) → x.listed_orders ≡ l → IsOrdered s x → IsAhead x → IsCounted s x → IsCounted s (on_obey l x)
 obey_counted s [] x e ordered ahead is = is
 obey_counted s (o ∷ os) x e ordered ahead is = order_counted s o os x (next_is s x o os ordered ahead e) is
 
@@ -168,14 +168,14 @@ take_counted s (e ∷ rest) x is =
 send_counted : (s : Setup) (h : Option Order) (x : Split) → IsCounted s x → IsCounted s (sent h x)
 send_counted s None x is = is
 send_counted s (Some o) x is =
-    cond_both (nat_lt (length x.listed) 64) (record x { hand = None; listed = x.listed ++ o ∷ [] }) x (IsCounted s)
+    cond_both (nat_lt (length x.listed_orders) 64) (record x { hand = None; listed_orders = x.listed_orders ++ o ∷ [] }) x (IsCounted s)
     (λ may. record { committed = is.committed; least = is.least; most = is.most; stopped = is.stopped; on = is.on }) (λ may. is)
 
 pub event_counted : (s : Setup) (e : Event) (x : Split) → IsOrdered s x → IsAhead x → IsCounted s x → IsCounted s (event_at s e x)
 unfolding event_at
 event_counted s compute x ordered ahead is = compute_counted s x is
 event_counted s push x ordered ahead is = push_counted s x.computed x is
-event_counted s obey x ordered ahead is = obey_counted s x.listed x refl ordered ahead is
+event_counted s obey x ordered ahead is = obey_counted s x.listed_orders x refl ordered ahead is
 event_counted s tick x ordered ahead is = tick_counted s x is
 event_counted s take x ordered ahead is = take_counted s x.entries x is
 event_counted s send x ordered ahead is = send_counted s x.hand x is

@@ -16,21 +16,21 @@ use Rattle.machine_laws.proofs.Staying.{done_told}
 use Rattle.machine_laws.proofs.SplitLists.{hand_list, entry_list, Lead, position_behind}
 use Rattle.machine_laws.proofs.SplitAhead.{flight, goal_position, needs_none}
 use Rattle.machine_laws.proofs.SplitCounts.{none_stops}
-use Rattle.machine_laws.proofs.SplitEntries.{needs_on, Holds, run_holds}
+use Rattle.machine_laws.proofs.SplitEntries.{needs_on, EntriesHold, run_holds}
 use Rattle.machine_laws.proofs.SplitFull.{run_listed}
 use Rattle.machine_laws.proofs.SplitRounds.{IsFresh, event_fresh, run_fresh, compute_side, push_side}
 use Rattle.machine_laws.proofs.SplitStale.{stale, push_stale, compute_some, take_stale}
 use Rattle.machine_laws.proofs.SplitBoundary.{before_step, none_from}
 
 pub record Known (s : Setup) (x : Split) : Type 0 where
-  pub holds : Holds s x
-  pub listed : IsListed s x
+  pub holds : EntriesHold s x
+  pub listed_orders : IsListed s x
   pub fresh : IsFresh x
 
 pub known : (s : Setup) (x : Split) → IsReached s x → Known s x
 known s x reached = record {
-  holds = subst (Holds s) (sym reached.is) (run_holds s reached.events);
-  listed = subst (IsListed s) (sym reached.is) (run_listed s reached.events);
+  holds = subst (EntriesHold s) (sym reached.is) (run_holds s reached.events);
+  listed_orders = subst (IsListed s) (sym reached.is) (run_listed s reached.events);
   fresh = subst IsFresh (sym reached.is) (run_fresh s reached.events);
 }
 
@@ -46,9 +46,9 @@ fresh_computed : (s : Setup) (x : Split) → IsFresh x → IsFresh (on_compute s
 unfolding event_at
 fresh_computed s x is = event_fresh s compute x is
 
-module _ (s : Setup) (x : Split) (is : Known s x) (ring : 1 ≤ s.ring) (no_hand : x.hand ≡ None) (no_listed : x.listed ≡ []) (needs : needs_entry x.place ≡ true) (no_held : x.held ≡ None) where
+module _ (s : Setup) (x : Split) (is : Known s x) (ring : 1 ≤ s.ring) (no_hand : x.hand ≡ None) (no_listed : x.listed_orders ≡ []) (needs : needs_entry x.place ≡ true) (no_held : x.held ≡ None) where
   all_obeyed : told x.place ≡ x.obeyed
-  all_obeyed = is.holds.ordered.orders ∙ ap (λ (h : Option Order). with_order h (reverse x.listed ++ x.obeyed)) no_hand ∙ ap (λ (l : List Order). reverse l ++ x.obeyed) no_listed
+  all_obeyed = is.holds.ordered.orders ∙ ap (λ (h : Option Order). with_order h (reverse x.listed_orders ++ x.obeyed)) no_hand ∙ ap (λ (l : List Order). reverse l ++ x.obeyed) no_listed
 
   runs : x.is_stopped ≡ false
   runs =
@@ -100,7 +100,7 @@ module _ (s : Setup) (x : Split) (is : Known s x) (ring : 1 ≤ s.ring) (no_hand
   pub drops : (before_step s x).held ≡ None → stale (openings (told x.place)) (before_step s x).entries < stale (openings (told x.place)) x.entries
   unfolding pushes computes
   drops none =
-      let y = on_obey x.listed x in
+      let y = on_obey x.listed_orders x in
       let same : y ≡ x = ap (λ (l : List Order). on_obey l x) no_listed in
       let B : Split → Split = λ y. on_take (pushed s (on_compute s y).computed (on_compute s y)).entries (pushed s (on_compute s y).computed (on_compute s y)) in
       let here : (on_take pushes.entries pushes).held ≡ None = ap (λ (y : Split). (B y).held) (sym same) ∙ none in

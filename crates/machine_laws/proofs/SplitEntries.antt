@@ -73,7 +73,7 @@ module _ (s : Setup) (x : Split) (ordered : IsOrdered s x) (ahead : IsAhead x) (
       record {
         entries = subst (Each Made) (flight_more x.held x.entries e)
             (each_append Made (entry_list x.held ++ (x.entries ++ entry_list None)) (e ∷ []) (subst (Each Made) flies is.entries)
-            (record { later = hand_list x.hand ++ reverse x.listed; before = x.obeyed; orders = told_front s x ordered; made = ap (entry s x.obeyed) (sym (entry_number s x.obeyed x.position)) }, tt));
+            (record { later = hand_list x.hand ++ reverse x.listed_orders; before = x.obeyed; orders = told_front s x ordered; made = ap (entry s x.obeyed) (sym (entry_number s x.obeyed x.position)) }, tt));
         halts = is.halts;
       }
 
@@ -97,7 +97,7 @@ module _ (s : Setup) (x : Split) (ordered : IsOrdered s x) (ahead : IsAhead x) (
       each_append Made (entry_list x.held) (x.entries ++ []) (each_front Made (entry_list x.held) (x.entries ++ entry_list x.computed) is.entries)
       (each_append Made x.entries [] (each_front Made x.entries (entry_list x.computed) behind) tt)
 
-  order_made : (o : Order) (os : List Order) → IsMade s (obeys o (record x { listed = os }))
+  order_made : (o : Order) (os : List Order) → IsMade s (obeys o (record x { listed_orders = os }))
   order_made (Set n addr) os = record { entries = fewer_made; halts = is.halts }
   order_made (Commit n) os = record { entries = is.entries; halts = is.halts }
   order_made (Interrupt n) os = record { entries = fewer_made; halts = is.halts }
@@ -172,27 +172,27 @@ take_made s (a ∷ rest) x e is =
 send_made : (s : Setup) (h : Option Order) (x : Split) → IsMade s x → IsMade s (sent h x)
 send_made s None x is = is
 send_made s (Some o) x is =
-    cond_both (nat_lt (length x.listed) 64) (record x { hand = None; listed = x.listed ++ o ∷ [] }) x (IsMade s)
+    cond_both (nat_lt (length x.listed_orders) 64) (record x { hand = None; listed_orders = x.listed_orders ++ o ∷ [] }) x (IsMade s)
     (λ may. record { entries = is.entries; halts = is.halts }) (λ may. is)
 
 event_made : (s : Setup) (e : Event) (x : Split) → IsOrdered s x → IsAhead x → IsMade s x → IsMade s (event_at s e x)
 unfolding event_at
 event_made s compute x ordered ahead is = compute_made s x ordered ahead is
 event_made s push x ordered ahead is = push_made s x ordered ahead is x.computed refl
-event_made s obey x ordered ahead is = obey_made s x ordered ahead is x.listed
+event_made s obey x ordered ahead is = obey_made s x ordered ahead is x.listed_orders
 event_made s tick x ordered ahead is = tick_made s x ordered ahead is
 event_made s take x ordered ahead is = take_made s x.entries x refl is
 event_made s send x ordered ahead is = send_made s x.hand x is
 
-pub record Holds (s : Setup) (x : Split) : Type 0 where
+pub record EntriesHold (s : Setup) (x : Split) : Type 0 where
   pub ordered : IsOrdered s x
   pub ahead : IsAhead x
   pub counted : IsCounted s x
   pub made : IsMade s x
 
-pub run_holds : (s : Setup) (events : List Event) → Holds s (run s events)
+pub run_holds : (s : Setup) (events : List Event) → EntriesHold s (run s events)
 run_holds s events =
-    run_keeps s (Holds s) (λ e x is. record {
+    run_keeps s (EntriesHold s) (λ e x is. record {
       ordered = event_ordered s e x is.ordered;
       ahead = event_ahead s e x is.ordered is.ahead;
       counted = event_counted s e x is.ordered is.ahead is.counted;

@@ -21,7 +21,7 @@ push_listed s (Some e) x is =
     cond_both (nat_lt (length x.entries) s.ring) (record x { computed = None; entries = x.entries ++ e ∷ [] }) x (IsListed s)
     (λ may. record { entries = omega (arith, length-append x.entries (e ∷ []), ltb-true (length x.entries) s.ring may); orders = is.orders }) (λ may. is)
 
-order_listed : (s : Setup) (o : Order) (os : List Order) (x : Split) → x.listed ≡ o ∷ os → IsListed s x → IsListed s (obeys o (record x { listed = os }))
+order_listed : (s : Setup) (o : Order) (os : List Order) (x : Split) → x.listed_orders ≡ o ∷ os → IsListed s x → IsListed s (obeys o (record x { listed_orders = os }))
 order_listed s (Set n addr) os x e is = record { entries = is.entries; orders = omega (arith, is.orders, ap (λ (l : List Order). length l) e) }
 order_listed s (Commit n) os x e is = record { entries = is.entries; orders = omega (arith, is.orders, ap (λ (l : List Order). length l) e) }
 order_listed s (Interrupt n) os x e is = record { entries = is.entries; orders = omega (arith, is.orders, ap (λ (l : List Order). length l) e) }
@@ -29,7 +29,7 @@ order_listed s (Time n v) os x e is = record { entries = is.entries; orders = om
 order_listed s (Stop n) os x e is = record { entries = is.entries; orders = omega (arith, is.orders, ap (λ (l : List Order). length l) e) }
 order_listed s (Sync n) os x e is = record { entries = is.entries; orders = omega (arith, is.orders, ap (λ (l : List Order). length l) e) }
 
-obey_listed : (s : Setup) (l : List Order) (x : Split) → x.listed ≡ l → IsListed s x → IsListed s (on_obey l x)
+obey_listed : (s : Setup) (l : List Order) (x : Split) → x.listed_orders ≡ l → IsListed s x → IsListed s (on_obey l x)
 obey_listed s [] x e is = is
 obey_listed s (o ∷ os) x e is = order_listed s o os x e is
 
@@ -42,8 +42,8 @@ take_listed s (a ∷ rest) x e is =
 send_listed : (s : Setup) (h : Option Order) (x : Split) → IsListed s x → IsListed s (sent h x)
 send_listed s None x is = is
 send_listed s (Some o) x is =
-    cond_both (nat_lt (length x.listed) 64) (record x { hand = None; listed = x.listed ++ o ∷ [] }) x (IsListed s)
-    (λ may. record { entries = is.entries; orders = omega (arith, length-append x.listed (o ∷ []), ltb-true (length x.listed) 64 may) }) (λ may. is)
+    cond_both (nat_lt (length x.listed_orders) 64) (record x { hand = None; listed_orders = x.listed_orders ++ o ∷ [] }) x (IsListed s)
+    (λ may. record { entries = is.entries; orders = omega (arith, length-append x.listed_orders (o ∷ []), ltb-true (length x.listed_orders) 64 may) }) (λ may. is)
 
 event_listed : (s : Setup) (e : Event) (x : Split) → IsListed s x → IsListed s (event_at s e x)
 unfolding event_at
@@ -51,7 +51,7 @@ event_listed s compute x is =
     cond_both (may_compute s x) (record x { computed = Some (entry s x.obeyed x.position); position = x.position + 1 }) x (IsListed s)
     (λ may. record { entries = is.entries; orders = is.orders }) (λ may. is)
 event_listed s push x is = push_listed s x.computed x is
-event_listed s obey x is = obey_listed s x.listed x refl is
+event_listed s obey x is = obey_listed s x.listed_orders x refl is
 event_listed s tick x is =
     cond_both (may_tick x) (ticked_to (step s x.place) x) x (IsListed s)
     (λ may. record { entries = is.entries; orders = is.orders }) (λ may. is)

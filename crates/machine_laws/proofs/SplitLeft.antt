@@ -5,7 +5,7 @@ use Rattle.mono_model.specs.declared.setup.Setup.{Setup}
 use Rattle.mono_model.specs.Final.{has_ended}
 use Rattle.mono_model.specs.Commit.{Ending, plain, trap, sync, commit_phase}
 use Rattle.mono_model.specs.Complete.{completes}
-use Rattle.mono_model.specs.Cycle.{ticked}
+use Rattle.mono_model.specs.Cycle.{end_of_cycle}
 use Rattle.mono_model.specs.Fetch.{Try, misses, appends, turns, may_fetch, fetch_try}
 use Rattle.mono_model.specs.Demand.{Demand, ending_orders, commit_order, demand_commit, demand_issue, demand_try, At, interrupting, committing, completing, issuing, trying, ending, stopping, halted, try_or_end, at_after_commit, Run, tried_turn, turn_at, turn, Place, step_by, step, place}
 use Rattle.mono_model.specs.Split.{is_cycle_start, is_place_boundary}
@@ -46,15 +46,15 @@ turn_left s committing d on =
     let c = commit_phase s d.machine in
     let behind : left_at s (at_after_commit (demand_commit s d)) ≤ s.params.core_fetch + 3 =
     cond_both (has_ended c.machine.end) ending completing (λ at. left_at s at ≤ s.params.core_fetch + 3) (λ e. omega arith) (λ e. omega arith) in
-    omega (arith, ending_most c.ending c.machine.arch.pc (d.done + c.left) c.left d, behind)
+    omega (arith, ending_most c.ending c.machine.arch.pc (d.to_commit + c.left) c.left d, behind)
 turn_left s completing d on =
     let c = completes d.machine.cycle d.machine.window in
-    omega (arith, redirect_count c.redirect (d.done + length c.records) d.orders)
+    omega (arith, redirect_count c.redirect (d.to_commit + length c.records) d.orders)
 turn_left s issuing d on = omega (arith, time_count s d, try_or_end_left s s.params.core_fetch (demand_issue s d))
 turn_left s (trying more) d on = omega (arith, tried_left s (fetch_try s d.machine) more d)
 turn_left s ending d on =
     let behind : left_at s (turn_at s ending d).at ≤ 0 =
-    cond_both (has_ended (ticked s d.machine).end) stopping interrupting (λ at. left_at s at ≤ 0) (λ e. omega arith) (λ e. omega arith) in
+    cond_both (has_ended (end_of_cycle s d.machine).end) stopping interrupting (λ at. left_at s at ≤ 0) (λ e. omega arith) (λ e. omega arith) in
     omega (arith, behind)
 turn_left s stopping d on = cc
 turn_left s halted d on = cc

@@ -18,7 +18,7 @@ use Rattle.machine_laws.proofs.SplitEvents.{run_keeps}
 pub record IsOrdered (s : Setup) (x : Split) : Type 0 where
   pub steps : ℕ
   pub at : x.place ≡ place s steps
-  pub orders : told x.place ≡ with_order x.hand (reverse x.listed ++ x.obeyed)
+  pub orders : told x.place ≡ with_order x.hand (reverse x.listed_orders ++ x.obeyed)
 
 pub start_ordered : (s : Setup) → IsOrdered s (split_start s)
 unfolding split_start place
@@ -39,13 +39,13 @@ push_ordered s (Some e) x is =
 pub obey_list : (o : Order) (os obeyed : List Order) → reverse (o ∷ os) ++ obeyed ≡ reverse os ++ o ∷ obeyed
 obey_list o os obeyed = ap (λ (l : List Order). l ++ obeyed) (reverse-cons o os) ∙ append_assoc (reverse os) (o ∷ []) obeyed
 
-order_ordered : (s : Setup) (o : Order) (os : List Order) (x : Split) → IsOrdered s x → x.listed ≡ o ∷ os → IsOrdered s (obeys o (record x { listed = os }))
+order_ordered : (s : Setup) (o : Order) (os : List Order) (x : Split) → IsOrdered s x → x.listed_orders ≡ o ∷ os → IsOrdered s (obeys o (record x { listed_orders = os }))
 order_ordered s o os x is e = by_order o refl
   where
     told_is : told x.place ≡ with_order x.hand (reverse os ++ o ∷ x.obeyed)
     told_is = is.orders ∙ ap (λ (l : List Order). with_order x.hand (reverse l ++ x.obeyed)) e ∙ ap (λ (l : List Order). with_order x.hand l) (obey_list o os x.obeyed)
 
-    by_order : (a : Order) → o ≡ a → IsOrdered s (obeys a (record x { listed = os }))
+    by_order : (a : Order) → o ≡ a → IsOrdered s (obeys a (record x { listed_orders = os }))
     by_order (Set n addr) is_a = record { steps = is.steps; at = is.at; orders = subst (λ (a : Order). told x.place ≡ with_order x.hand (reverse os ++ a ∷ x.obeyed)) is_a told_is }
     by_order (Commit n) is_a = record { steps = is.steps; at = is.at; orders = subst (λ (a : Order). told x.place ≡ with_order x.hand (reverse os ++ a ∷ x.obeyed)) is_a told_is }
     by_order (Interrupt n) is_a = record { steps = is.steps; at = is.at; orders = subst (λ (a : Order). told x.place ≡ with_order x.hand (reverse os ++ a ∷ x.obeyed)) is_a told_is }
@@ -53,7 +53,7 @@ order_ordered s o os x is e = by_order o refl
     by_order (Stop n) is_a = record { steps = is.steps; at = is.at; orders = subst (λ (a : Order). told x.place ≡ with_order x.hand (reverse os ++ a ∷ x.obeyed)) is_a told_is }
     by_order (Sync n) is_a = record { steps = is.steps; at = is.at; orders = subst (λ (a : Order). told x.place ≡ with_order x.hand (reverse os ++ a ∷ x.obeyed)) is_a told_is }
 
-obey_ordered : (s : Setup) (l : List Order) (x : Split) → x.listed ≡ l → IsOrdered s x → IsOrdered s (on_obey l x)
+obey_ordered : (s : Setup) (l : List Order) (x : Split) → x.listed_orders ≡ l → IsOrdered s x → IsOrdered s (on_obey l x)
 obey_ordered s [] x e is = is
 obey_ordered s (o ∷ os) x e is = order_ordered s o os x is e
 
@@ -83,7 +83,7 @@ tick_ordered s x is =
       steps = suc is.steps;
       at = step_is s is.steps x.place is.at;
       orders = step_from s is.steps x.place is.at
-          ∙ ap (λ (os : List Order). with_order (told_by x.place (step s x.place)) os) (is.orders ∙ ap (λ (h : Option Order). with_order h (reverse x.listed ++ x.obeyed)) (may_hand x may));
+          ∙ ap (λ (os : List Order). with_order (told_by x.place (step s x.place)) os) (is.orders ∙ ap (λ (h : Option Order). with_order h (reverse x.listed_orders ++ x.obeyed)) (may_hand x may));
     }) (λ may. is)
 
 take_ordered : (s : Setup) (l : List Entry) (x : Split) → IsOrdered s x → IsOrdered s (on_take l x)
@@ -99,18 +99,18 @@ reverse_last os o = reverse-append os (o ∷ [])
 send_ordered : (s : Setup) (h : Option Order) (x : Split) → x.hand ≡ h → IsOrdered s x → IsOrdered s (sent h x)
 send_ordered s None x e is = is
 send_ordered s (Some o) x e is =
-    cond_both (nat_lt (length x.listed) 64) (record x { hand = None; listed = x.listed ++ o ∷ [] }) x (IsOrdered s)
+    cond_both (nat_lt (length x.listed_orders) 64) (record x { hand = None; listed_orders = x.listed_orders ++ o ∷ [] }) x (IsOrdered s)
     (λ may. record {
       steps = is.steps;
       at = is.at;
-      orders = is.orders ∙ ap (λ (h : Option Order). with_order h (reverse x.listed ++ x.obeyed)) e ∙ ap (λ (l : List Order). l ++ x.obeyed) (sym (reverse_last x.listed o));
+      orders = is.orders ∙ ap (λ (h : Option Order). with_order h (reverse x.listed_orders ++ x.obeyed)) e ∙ ap (λ (l : List Order). l ++ x.obeyed) (sym (reverse_last x.listed_orders o));
     }) (λ may. is)
 
 pub event_ordered : (s : Setup) (e : Event) (x : Split) → IsOrdered s x → IsOrdered s (event_at s e x)
 unfolding event_at
 event_ordered s compute x is = compute_ordered s x is
 event_ordered s push x is = push_ordered s x.computed x is
-event_ordered s obey x is = obey_ordered s x.listed x refl is
+event_ordered s obey x is = obey_ordered s x.listed_orders x refl is
 event_ordered s tick x is = tick_ordered s x is
 event_ordered s take x is = take_ordered s x.entries x is
 event_ordered s send x is = send_ordered s x.hand x refl is

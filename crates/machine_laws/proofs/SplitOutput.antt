@@ -38,15 +38,15 @@ output_kept s o os n most = ⊎_elim here (λ other. ⊎_elim below (λ above. a
     below : n < number_of o → (path s (o ∷ os) n).output ≡ (path s os n).output
     below under = ap (λ (a : Arch). a.output) (path_below s o os n under)
 
-told_kept : (s : Setup) (p : Place) → Owes p → (path s p.run.demand.orders p.run.demand.done).output ≡ (path s (told p) p.run.demand.done).output
-told_kept s p (owes_none all) = ap (λ (k : ℕ). (path s (drop k p.run.demand.orders) p.run.demand.done).output) (sym all)
+told_kept : (s : Setup) (p : Place) → Owes p → (path s p.run.demand.orders p.run.demand.to_commit).output ≡ (path s (told p) p.run.demand.to_commit).output
+told_kept s p (owes_none all) = ap (λ (k : ℕ). (path s (drop k p.run.demand.orders) p.run.demand.to_commit).output) (sym all)
 told_kept s p (owes_one all m o os is opening on) =
     let d = p.run.demand in
     let rest : told p ≡ Commit m ∷ os = ap (λ (k : ℕ). drop k d.orders) all ∙ ap (λ (l : List Order). drop 1 l) is in
-    ap (λ (l : List Order). (path s l d.done).output) is ∙ output_kept s o (Commit m ∷ os) d.done (omega (arith, opening.number)) ∙ ap (λ (l : List Order). (path s l d.done).output) (sym rest)
+    ap (λ (l : List Order). (path s l d.to_commit).output) is ∙ output_kept s o (Commit m ∷ os) d.to_commit (omega (arith, opening.number)) ∙ ap (λ (l : List Order). (path s l d.to_commit).output) (sym rest)
 
 -- what is committed under the orders told has room
-pub told_output : (s : Setup) (k : ℕ) → length (path s (told (place s k)) (place s k).run.demand.done).output ≤ s.output
+pub told_output : (s : Setup) (k : ℕ) → length (path s (told (place s k)) (place s k).run.demand.to_commit).output ≤ s.output
 told_output s k =
     let p = place s k in
     let d = p.run.demand in

@@ -38,8 +38,8 @@ take_keeps (e ∷ rest) x = cond_both (may_take x) (taken e rest x) x (Keeps x) 
 send_keeps : (hand : Option Order) (x : Split) → Keeps x (sent hand x)
 send_keeps None x = refl
 send_keeps (Some o) x =
-    cond_both (nat_lt (length x.listed) 64)
-    (record x { hand = None; listed = x.listed ++ o ∷ [] }) x (Keeps x) (λ room. refl) (λ full. refl)
+    cond_both (nat_lt (length x.listed_orders) 64)
+    (record x { hand = None; listed_orders = x.listed_orders ++ o ∷ [] }) x (Keeps x) (λ room. refl) (λ full. refl)
 
 -- an order commits nothing below what is committed
 order_rises : (o : Order) (x : Split) (n : ℕ) → n ≡ x.committed_number → n ≤ number_of o
@@ -56,7 +56,7 @@ obey_rises : (x : Split) (listed : List Order)
     → x.committed_number ≤ (on_obey listed x).committed_number
 obey_rises x [] least = omega arith
 obey_rises x (o ∷ os) least =
-    order_rises o (record x { listed = os }) x.committed_number refl (least o os refl)
+    order_rises o (record x { listed_orders = os }) x.committed_number refl (least o os refl)
 
 kept : (x y : Split) → Keeps x y → x.committed_number ≤ y.committed_number
 kept x y same = omega arith
@@ -67,7 +67,7 @@ unfolding event_at
 event_rises s compute x reached = kept x (on_compute s x) (compute_keeps s x)
 event_rises s push x reached = kept x (pushed s x.computed x) (push_keeps s x.computed x)
 event_rises s obey x reached =
-    obey_rises x x.listed (λ o os is. ((reached_run s x reached).obeys o os is).least)
+    obey_rises x x.listed_orders (λ o os is. ((reached_run s x reached).obeys o os is).least)
 event_rises s tick x reached = kept x (on_tick s x) (tick_keeps s x)
 event_rises s take x reached = kept x (on_take x.entries x) (take_keeps x.entries x)
 event_rises s send x reached = kept x (sent x.hand x) (send_keeps x.hand x)

@@ -25,26 +25,26 @@ use Rattle.machine_laws.proofs.SplitFull.{run_listed}
 use Rattle.machine_laws.proofs.SplitBounds.{is_small}
 use Rattle.machine_laws.proofs.SplitOutput.{AreWithin, told_within, within_behind, commits_within}
 use Rattle.machine_laws.proofs.SplitNames.{entry_named}
-use Rattle.machine_laws.proofs.SplitEntries.{each_front, each_behind, each_more, each_both, each_some, needs_on, Holds, run_holds, is_needed}
+use Rattle.machine_laws.proofs.SplitEntries.{each_front, each_behind, each_more, each_both, each_some, needs_on, EntriesHold, run_holds, is_needed}
 
 -- Where a cycle starts, the machine and what is committed are those of the monolithic run.
 boundary_mono : (s : Setup) (k : ℕ) → is_place_boundary (place s k) ≡ true → IsMono s (place s k)
 boundary_mono s k at = is_mono s k (and_parts ((place s k).owed == 0) (is_cycle_start (place s k).run.at) at).1
 
 abbrev HasState : Setup → Place → Type 0
-HasState s p = path s (told p) p.run.demand.done ≡ (mono s p.run.demand.machine.cycle).arch
+HasState s p = path s (told p) p.run.demand.to_commit ≡ (mono s p.run.demand.machine.cycle).arch
 
 boundary_state : (s : Setup) (k : ℕ) → is_place_boundary (place s k) ≡ true → HasState s (place s k)
 boundary_state s k at =
     let p = place s k in
     let all : told p ≡ p.run.demand.orders = ap (λ (n : ℕ). drop n p.run.demand.orders) (eqb-true p.owed 0 (and_parts (p.owed == 0) (is_cycle_start p.run.at) at).0) in
-    ap (λ (os : List Order). path s os p.run.demand.done) all ∙ sym (place_related s k).arch ∙ ap (λ (m : Machine). m.arch) (boundary_mono s k at).machine
+    ap (λ (os : List Order). path s os p.run.demand.to_commit) all ∙ sym (place_related s k).arch ∙ ap (λ (m : Machine). m.arch) (boundary_mono s k at).machine
 
 no_orders : (os : List Order) → (length os == 0) ≡ true → os ≡ []
 no_orders [] e = refl
 no_orders (o ∷ os) e = absurd (omega (arith, eqb-true (suc (length os)) 0 e))
 
-module _ (s : Setup) (x : Split) (is : Holds s x) where
+module _ (s : Setup) (x : Split) (is : EntriesHold s x) where
   abbrev Made : Entry → Type 0
   Made = IsEntry s (told x.place)
 
@@ -54,31 +54,31 @@ module _ (s : Setup) (x : Split) (is : Holds s x) where
   state : is_place_boundary x.place ≡ true → HasState s x.place
   state at = subst (HasState s) (sym is.ordered.at) (boundary_state s is.ordered.steps (subst (λ (p : Place). is_place_boundary p ≡ true) is.ordered.at at))
 
-  done_is : x.place.run.demand.done ≡ last_commit (told x.place)
-  done_is = subst (λ (p : Place). p.run.demand.done ≡ last_commit (told p)) (sym is.ordered.at) (done_told s is.ordered.steps)
+  done_is : x.place.run.demand.to_commit ≡ last_commit (told x.place)
+  done_is = subst (λ (p : Place). p.run.demand.to_commit ≡ last_commit (told p)) (sym is.ordered.at) (done_told s is.ordered.steps)
 
   level : is_boundary x ≡ true → IsLevel s x
   level at =
-      let parts = and_parts (is_place_boundary x.place && is_none x.hand) (length x.listed == 0) at in
+      let parts = and_parts (is_place_boundary x.place && is_none x.hand) (length x.listed_orders == 0) at in
       let there = and_parts (is_place_boundary x.place) (is_none x.hand) parts.0 in
       let obeyed : x.obeyed ≡ told x.place =
-      sym (is.ordered.orders ∙ ap (λ (h : Option Order). with_order h (reverse x.listed ++ x.obeyed)) (none_is x.hand there.1) ∙ ap (λ (l : List Order). reverse l ++ x.obeyed) (no_orders x.listed parts.1)) in
-      let done : x.committed_number ≡ x.place.run.demand.done = is.counted.committed ∙ ap (λ (os : List Order). last_commit os) obeyed ∙ sym done_is in
+      sym (is.ordered.orders ∙ ap (λ (h : Option Order). with_order h (reverse x.listed_orders ++ x.obeyed)) (none_is x.hand there.1) ∙ ap (λ (l : List Order). reverse l ++ x.obeyed) (no_orders x.listed_orders parts.1)) in
+      let done : x.committed_number ≡ x.place.run.demand.to_commit = is.counted.committed ∙ ap (λ (os : List Order). last_commit os) obeyed ∙ sym done_is in
       record {
         obeyed = obeyed;
-        done = done;
+        to_commit = done;
         state = ap (λ (os : List Order). path s os x.committed_number) obeyed ∙ ap (path s (told x.place)) done ∙ state there.0;
       }
 
   kinds : AreAtCommit x.obeyed
   kinds =
-      at_commit_behind (hand_list x.hand ++ reverse x.listed) x.obeyed
+      at_commit_behind (hand_list x.hand ++ reverse x.listed_orders) x.obeyed
       (subst AreAtCommit (told_front s x is.ordered) (subst (λ (p : Place). AreAtCommit (told p)) (sym is.ordered.at) (orders_at_commit s is.ordered.steps)))
 
   within : AreWithin s (told x.place)
   within = subst (λ (p : Place). AreWithin s (told p)) (sym is.ordered.at) (told_within s is.ordered.steps)
 
-  may_obey : (o : Order) (os : List Order) → x.listed ≡ o ∷ os → MayObey s x o
+  may_obey : (o : Order) (os : List Order) → x.listed_orders ≡ o ∷ os → MayObey s x o
   may_obey o os e =
       let first = next_is s x o os is.ordered is.ahead e in
       record {
@@ -142,7 +142,7 @@ module _ (s : Setup) (x : Split) (is : Holds s x) where
     kinds = kinds;
     small = is_small s x is.ordered is.counted;
     obeys = may_obey;
-    listed = listed;
+    listed_orders = listed;
     entries = each_front UnderWay x.entries (entry_list x.computed) rest_under_way;
     computed = each_some UnderWay x.computed (each_behind UnderWay x.entries (entry_list x.computed) rest_under_way);
     holds = each_some UnderWay x.held (each_front UnderWay (entry_list x.held) (x.entries ++ entry_list x.computed) all_under_way);

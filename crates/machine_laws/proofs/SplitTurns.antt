@@ -23,7 +23,7 @@ use Rattle.mono_model.specs.Commit.{Leaving, stays, full, leaves, faults, syncs,
 use Rattle.mono_model.specs.Complete.{Completed, due, is_mispredicted, complete_next, completes, completed_by, complete_phase}
 use Rattle.mono_model.specs.Issue.{none_passed, wants_time, replayed, issued, issue_phase}
 use Rattle.mono_model.specs.Fetch.{Try, misses, appends, turns, may_fetch, cache_read, missed, appended, new_record, predicted_next, tried, fetch_try}
-use Rattle.mono_model.specs.Cycle.{ticked}
+use Rattle.mono_model.specs.Cycle.{end_of_cycle}
 use Rattle.mono_model.specs.Path.{entry, stops}
 use Rattle.mono_model.specs.Demand.{Demand, next, ending_orders, commit_order, redirect_orders, path_orders, demand_interrupt, demand_commit, demand_complete, demand_issue, demand_try, At, interrupting, committing, completing, issuing, trying, ending, stopping, halted, is_try, try_or_end, at_after_commit, Run, tried_turn, turn_at, number_of}
 use Rattle.mono_model.specs.Split.{is_halted}
@@ -149,8 +149,8 @@ interrupt_turned : (s : Setup) (d : Demand) → Turned interrupting d (turn_at s
 interrupt_turned s d =
     let to = next (demand_interrupt d) in
     still interrupting d (turn_at s interrupting d) (interrupt_fetched d.machine)
-    (cond_both (is_interrupted d.machine) (Interrupt d.done ∷ d.orders) d.orders (MadeBy (next d) to false d.orders)
-    (λ is. opens_at (Interrupt d.done) refl (record { opens = refl; number = omega (arith, interrupt_flushes d.machine is); runs = refl }) (omega (arith, interrupt_window d.machine)) refl)
+    (cond_both (is_interrupted d.machine) (Interrupt d.to_commit ∷ d.orders) d.orders (MadeBy (next d) to false d.orders)
+    (λ is. opens_at (Interrupt d.to_commit) refl (record { opens = refl; number = omega (arith, interrupt_flushes d.machine is); runs = refl }) (omega (arith, interrupt_window d.machine)) refl)
     (λ is. quiet refl (omega (arith, interrupt_same d.machine is)) refl))
 
 commit_made : (n m left handler all : ℕ) (e : Ending) (halts : Bool) (w : List Record) (os : List Order) → m ≡ n + left → EndingLeft e left w → left + length w ≤ all → IsWhole e (left + length w) all → halts ≡ false →
@@ -174,7 +174,7 @@ commit_turned s d =
     let from = commit_from s d.machine in
     let e : 0 + length d.machine.window ≡ length d.machine.window = omega arith in
     still committing d (turn_at s committing d) whole.fetched
-    (commit_made d.done (d.done + c.left) c.left c.machine.arch.pc (length d.machine.window) c.ending (is_halted (at_after_commit (demand_commit s d))) c.machine.window d.orders refl from.ending (omega (arith, from.window))
+    (commit_made d.to_commit (d.to_commit + c.left) c.left c.machine.arch.pc (length d.machine.window) c.ending (is_halted (at_after_commit (demand_commit s d))) c.machine.window d.orders refl from.ending (omega (arith, from.window))
     (subst (IsWhole c.ending (c.left + length c.machine.window)) e whole.window)
     (goes_on (has_ended c.machine.end) ending completing refl refl))
 
@@ -221,8 +221,8 @@ complete_turned : (s : Setup) (d : Demand) → Turned completing d (turn_at s co
 complete_turned s d =
     let c = completes d.machine.cycle d.machine.window in
     still completing d (turn_at s completing d) (complete_fetched d.machine)
-    (subst (λ (w : List Record). MadeBy (next d) (d.done + length w) false d.orders (demand_complete d).orders) (sym (complete_window d.machine))
-    (redirect_made c.redirect d.done (length c.records) (length d.machine.window) d.orders (completes_same d.machine.cycle d.machine.window) (completes_from d.machine.cycle d.machine.window).window))
+    (subst (λ (w : List Record). MadeBy (next d) (d.to_commit + length w) false d.orders (demand_complete d).orders) (sym (complete_window d.machine))
+    (redirect_made c.redirect d.to_commit (length c.records) (length d.machine.window) d.orders (completes_same d.machine.cycle d.machine.window) (completes_from d.machine.cycle d.machine.window).window))
 
 try_or_end_on : (s : Setup) (more : ℕ) (d : Demand) → is_halted (try_or_end s more d) ≡ false
 try_or_end_on s zero d = refl
@@ -242,8 +242,8 @@ issue_turned s d =
     let behind = demand_issue s d in
     let on = try_or_end_on s s.params.core_fetch behind in
     still issuing d (turn_at s issuing d) (issue_fetched s d.machine)
-    (cond_both (wants_time s d.machine) (Time d.done d.machine.cycle ∷ d.orders) d.orders (MadeBy (next d) (next behind) (is_halted (try_or_end s s.params.core_fetch behind)) d.orders)
-    (λ is. opens_at (Time d.done d.machine.cycle) refl (record { opens = refl; number = omega (arith, replay_flushes s d.machine is); runs = refl }) (omega (arith, replay_flushes s d.machine is)) on)
+    (cond_both (wants_time s d.machine) (Time d.to_commit d.machine.cycle ∷ d.orders) d.orders (MadeBy (next d) (next behind) (is_halted (try_or_end s s.params.core_fetch behind)) d.orders)
+    (λ is. opens_at (Time d.to_commit d.machine.cycle) refl (record { opens = refl; number = omega (arith, replay_flushes s d.machine is); runs = refl }) (omega (arith, replay_flushes s d.machine is)) on)
     (λ is. quiet refl (omega (arith, issue_same s d.machine is)) on))
 
 -- a try
@@ -277,32 +277,32 @@ path_made s d to halts is on =
     (λ e. quiet refl is on) (λ e. opens_at (Set (next d + 1) (predicted_next s d.machine)) refl (record { opens = refl; number = sym is; runs = refl }) (omega (arith, is)) on)
 
 by_try : (s : Setup) (t : Try) (more : ℕ) (d : Demand) → TriesAll d.machine t → Turned (trying more) d (tried_turn s t more d)
-by_try s (misses behind) more d made = still (trying more) d (tried_turn s (misses behind) more d) made.1 (quiet refl (ap (λ (k : ℕ). d.done + k) made.0) refl)
+by_try s (misses behind) more d made = still (trying more) d (tried_turn s (misses behind) more d) made.1 (quiet refl (ap (λ (k : ℕ). d.to_commit + k) made.0) refl)
 by_try s (appends behind) more d made = record {
   appends = true;
   fetched = made.fetched;
   try = λ is. refl;
-  made = path_made s d (d.done + length behind.window) (is_halted (try_or_end s more (demand_try s (appends behind) d))) (omega (arith, made.window)) (try_or_end_on s more (demand_try s (appends behind) d));
+  made = path_made s d (d.to_commit + length behind.window) (is_halted (try_or_end s more (demand_try s (appends behind) d))) (omega (arith, made.window)) (try_or_end_on s more (demand_try s (appends behind) d));
 }
 by_try s (turns behind) more d made = record {
   appends = true;
   fetched = made.fetched;
   try = λ is. refl;
-  made = path_made s d (d.done + length behind.window) false (omega (arith, made.window)) refl;
+  made = path_made s d (d.to_commit + length behind.window) false (omega (arith, made.window)) refl;
 }
 
-ticked_window : (s : Setup) (m : Machine) → length (ticked s m).window ≡ length m.window
-unfolding ticked
-ticked_window s m = refl
+cycle_end_window : (s : Setup) (m : Machine) → length (end_of_cycle s m).window ≡ length m.window
+unfolding end_of_cycle
+cycle_end_window s m = refl
 
-ticked_fetched : (s : Setup) (m : Machine) → (ticked s m).counts.fetched ≡ m.counts.fetched
-unfolding ticked
-ticked_fetched s m = refl
+cycle_end_fetched : (s : Setup) (m : Machine) → (end_of_cycle s m).counts.fetched ≡ m.counts.fetched
+unfolding end_of_cycle
+cycle_end_fetched s m = refl
 
 ending_turned : (s : Setup) (d : Demand) → Turned ending d (turn_at s ending d)
 ending_turned s d =
-    still ending d (turn_at s ending d) (ticked_fetched s d.machine)
-    (quiet refl (ap (λ (k : ℕ). d.done + k) (ticked_window s d.machine)) (goes_on (has_ended (ticked s d.machine).end) stopping interrupting refl refl))
+    still ending d (turn_at s ending d) (cycle_end_fetched s d.machine)
+    (quiet refl (ap (λ (k : ℕ). d.to_commit + k) (cycle_end_window s d.machine)) (goes_on (has_ended (end_of_cycle s d.machine).end) stopping interrupting refl refl))
 
 pub turn_turned : (s : Setup) (at : At) (d : Demand) → is_halted at ≡ false → Turned at d (turn_at s at d)
 turn_turned s interrupting d on = interrupt_turned s d
@@ -311,5 +311,5 @@ turn_turned s completing d on = complete_turned s d
 turn_turned s issuing d on = issue_turned s d
 turn_turned s (trying more) d on = by_try s (fetch_try s d.machine) more d (try_all s d.machine)
 turn_turned s ending d on = ending_turned s d
-turn_turned s stopping d on = still stopping d (turn_at s stopping d) refl (stops_at d.done refl (omega arith) refl)
+turn_turned s stopping d on = still stopping d (turn_at s stopping d) refl (stops_at d.to_commit refl (omega arith) refl)
 turn_turned s halted d on = cc

@@ -93,12 +93,12 @@ tried_orders s (appends behind) more d = refl
 tried_orders s (turns behind) more d = refl
 
 -- no turn takes back what is committed
-try_done : (s : Setup) (t : Try) (more : ℕ) (d : Demand) → (tried_turn s t more d).demand.done ≡ d.done
+try_done : (s : Setup) (t : Try) (more : ℕ) (d : Demand) → (tried_turn s t more d).demand.to_commit ≡ d.to_commit
 try_done s (misses behind) more d = refl
 try_done s (appends behind) more d = refl
 try_done s (turns behind) more d = refl
 
-turn_done : (s : Setup) (at : At) (d : Demand) → d.done ≤ (turn_at s at d).demand.done
+turn_done : (s : Setup) (at : At) (d : Demand) → d.to_commit ≤ (turn_at s at d).demand.to_commit
 turn_done s interrupting d = omega arith
 turn_done s committing d = omega arith
 turn_done s completing d = omega arith
@@ -112,12 +112,12 @@ turn_done s halted d = omega arith
 pub record Onto (p q : Place) : Type 0 where
   pub later : List Order
   pub orders : q.run.demand.orders ≡ later ++ p.run.demand.orders
-  are : AreLater p.run.demand.done later
-  done : p.run.demand.done ≤ q.run.demand.done
+  are : AreLater p.run.demand.to_commit later
+  to_commit : p.run.demand.to_commit ≤ q.run.demand.to_commit
   pub owed : q.owed ≤ p.owed + length later
 
 onto_start : (p : Place) → Onto p p
-onto_start p = record { later = []; orders = refl; are = tt; done = omega arith; owed = omega arith }
+onto_start p = record { later = []; orders = refl; are = tt; to_commit = omega arith; owed = omega arith }
 
 onto_step : (s : Setup) (p : Place) (owed : ℕ) (r : Run) → Onto p (record { run = r; owed = owed }) → Onto p (step_by s owed r)
 unfolding turn
@@ -129,11 +129,11 @@ onto_step s p zero r onto =
     record {
       later = made.made ++ onto.later;
       orders = made.orders ∙ ap (λ (os : List Order). made.made ++ os) onto.orders ∙ sym (append_assoc made.made onto.later p.run.demand.orders);
-      are = later_append p.run.demand.done made.made onto.later (all_earlier p.run.demand.done r.demand.done made.made onto.done made.later) onto.are;
-      done = omega (arith, onto.done);
+      are = later_append p.run.demand.to_commit made.made onto.later (all_earlier p.run.demand.to_commit r.demand.to_commit made.made onto.to_commit made.later) onto.are;
+      to_commit = omega (arith, onto.to_commit);
       owed = omega (arith, length-append made.made onto.later);
     }
-onto_step s p (suc owed) r onto = record { later = onto.later; orders = onto.orders; are = onto.are; done = onto.done; owed = omega (arith, onto.owed) }
+onto_step s p (suc owed) r onto = record { later = onto.later; orders = onto.orders; are = onto.are; to_commit = onto.to_commit; owed = omega (arith, onto.owed) }
 
 onto_on : (s : Setup) (k j : ℕ) → Onto (place s k) (place s (j + k))
 unfolding place step
@@ -158,8 +158,8 @@ stays_at s k l settled later =
     record {
       later = drop q.owed o.later;
       orders = orders;
-      state = ap (λ (os : List Order). path s os p.run.demand.done) orders
-          ∙ at_later s p.run.demand.done (drop q.owed o.later) (told p) (later_drop p.run.demand.done q.owed o.later o.are);
+      state = ap (λ (os : List Order). path s os p.run.demand.to_commit) orders
+          ∙ at_later s p.run.demand.to_commit (drop q.owed o.later) (told p) (later_drop p.run.demand.to_commit q.owed o.later o.are);
     }
 
 -- The orders of a turn that aren't told yet: none is a Commit, and they speak of what isn't committed.
@@ -214,30 +214,30 @@ commit_first sync handler n left k os is = first_one n k (Sync n) (commit_order 
 first_of_one : (n : ℕ) (os behind : List Order) → length behind ≤ length os + 1 → FirstFrom n (length behind - length os - 1) behind
 first_of_one n os behind most = first_none n (length behind - length os - 1) behind (omega arith)
 
-turn_first : (s : Setup) (at : At) (d : Demand) → let behind = (turn_at s at d).demand in FirstFrom behind.done (length behind.orders - length d.orders - 1) behind.orders
-turn_first s interrupting d = first_of_one d.done d.orders (demand_interrupt d).orders (interrupt_count d)
+turn_first : (s : Setup) (at : At) (d : Demand) → let behind = (turn_at s at d).demand in FirstFrom behind.to_commit (length behind.orders - length d.orders - 1) behind.orders
+turn_first s interrupting d = first_of_one d.to_commit d.orders (demand_interrupt d).orders (interrupt_count d)
 turn_first s committing d =
     let c = commit_phase s d.machine in
-    commit_first c.ending c.machine.arch.pc (d.done + c.left) c.left (length (demand_commit s d).orders - length d.orders - 1) d.orders refl
+    commit_first c.ending c.machine.arch.pc (d.to_commit + c.left) c.left (length (demand_commit s d).orders - length d.orders - 1) d.orders refl
 turn_first s completing d =
     let c = completes d.machine.cycle d.machine.window in
-    first_of_one d.done d.orders (demand_complete d).orders (redirect_count c.redirect (d.done + length c.records) d.orders)
-turn_first s issuing d = first_of_one d.done d.orders (demand_issue s d).orders (time_count s d)
+    first_of_one d.to_commit d.orders (demand_complete d).orders (redirect_count c.redirect (d.to_commit + length c.records) d.orders)
+turn_first s issuing d = first_of_one d.to_commit d.orders (demand_issue s d).orders (time_count s d)
 turn_first s (trying more) d =
     let behind = (turn_at s (trying more) d).demand in
-    first_of_one behind.done d.orders behind.orders (subst (λ (os : List Order). length os ≤ length d.orders + 1) (tried_orders s (fetch_try s d.machine) more d) (try_count s (fetch_try s d.machine) d))
-turn_first s ending d = first_of_one d.done d.orders d.orders (omega arith)
-turn_first s stopping d = first_of_one d.done d.orders (Stop d.done ∷ d.orders) (omega arith)
-turn_first s halted d = first_of_one d.done d.orders d.orders (omega arith)
+    first_of_one behind.to_commit d.orders behind.orders (subst (λ (os : List Order). length os ≤ length d.orders + 1) (tried_orders s (fetch_try s d.machine) more d) (try_count s (fetch_try s d.machine) d))
+turn_first s ending d = first_of_one d.to_commit d.orders d.orders (omega arith)
+turn_first s stopping d = first_of_one d.to_commit d.orders (Stop d.to_commit ∷ d.orders) (omega arith)
+turn_first s halted d = first_of_one d.to_commit d.orders d.orders (omega arith)
 
 abbrev OwedFrom : Place → Type 0
-OwedFrom p = FirstFrom p.run.demand.done p.owed p.run.demand.orders
+OwedFrom p = FirstFrom p.run.demand.to_commit p.owed p.run.demand.orders
 
 place_owed : (s : Setup) (k : ℕ) → OwedFrom (place s k)
 unfolding turn
 place_owed s =
-    at_each_turn s (λ k r owed. FirstFrom r.demand.done owed r.demand.orders) tt (λ k r from. turn_first s r.at r.demand)
-    (λ k owed r from. one_fewer r.demand.done owed r.demand.orders from)
+    at_each_turn s (λ k r owed. FirstFrom r.demand.to_commit owed r.demand.orders) tt (λ k r from. turn_first s r.at r.demand)
+    (λ k owed r from. one_fewer r.demand.to_commit owed r.demand.orders from)
 
 -- the path below what is committed is the same with them and without
 below_owed : (s : Setup) (n k : ℕ) (os : List Order) → FirstFrom n k os → (i : ℕ) → i < n → path s os i ≡ path s (drop k os) i
@@ -251,10 +251,10 @@ stays_below s k l later n under =
     let p = place s k in
     let q = place s l in
     let o = onto s k l later in
-    sym (below_owed s q.run.demand.done q.owed q.run.demand.orders (place_owed s l) n (omega (arith, o.done)))
+    sym (below_owed s q.run.demand.to_commit q.owed q.run.demand.orders (place_owed s l) n (omega (arith, o.to_commit)))
     ∙ ap (λ (os : List Order). path s os n) o.orders
-    ∙ below_later s p.run.demand.done o.later p.run.demand.orders o.are n under
-    ∙ below_owed s p.run.demand.done p.owed p.run.demand.orders (place_owed s k) n under
+    ∙ below_later s p.run.demand.to_commit o.later p.run.demand.orders o.are n under
+    ∙ below_owed s p.run.demand.to_commit p.owed p.run.demand.orders (place_owed s k) n under
 
 -- The last Commit told is the last one made.
 commit_owed : (n k : ℕ) (os : List Order) → FirstFrom n k os → last_commit (drop k os) ≡ last_commit os
@@ -262,7 +262,7 @@ commit_owed n zero os from = refl
 commit_owed n (suc k) [] from = refl
 commit_owed n (suc k) (o ∷ os) from = commit_owed n k os from.1 ∙ sym (owed_commit n o os from.0)
 
-pub done_told : (s : Setup) (k : ℕ) → (place s k).run.demand.done ≡ last_commit (told (place s k))
+pub done_told : (s : Setup) (k : ℕ) → (place s k).run.demand.to_commit ≡ last_commit (told (place s k))
 done_told s k =
     let p = place s k in
-    done_is s k ∙ sym (commit_owed p.run.demand.done p.owed p.run.demand.orders (place_owed s k))
+    done_is s k ∙ sym (commit_owed p.run.demand.to_commit p.owed p.run.demand.orders (place_owed s k))

@@ -50,5 +50,5 @@ module _ (s : Setup) (times : ℕ → Option ℕ) (p : ℕ → Arch) where
 -- with a record in the window no time is kept
 pub kept_none : (s : Setup) (d : Demand) → Related s d → 0 < length d.machine.window → d.machine.kept ≡ None
 kept_none s d related some =
-    (tracks_end s (time_of d.orders) (path s d.orders) d.done d.machine.window d.machine.fetch_addr d.machine.kept related.window).1
-    ∙ time_none d.orders d.done (d.done + length d.machine.window) related.within (omega arith)
+    (tracks_end s (time_of d.orders) (path s d.orders) d.to_commit d.machine.window d.machine.fetch_addr d.machine.kept related.window).1
+    ∙ time_none d.orders d.to_commit (d.to_commit + length d.machine.window) related.within (omega arith)

@@ -45,7 +45,7 @@ AreAtMost n (o ∷ os) = number_of o ≤ n × AreAtMost n os
 -- How far the numbers of a run go.
 pub record IsBounded (s : Setup) (k : ℕ) (p : Place) : Type 0 where
   pub cycle : p.run.demand.machine.cycle ≤ s.cycles
-  pub done : p.run.demand.done ≤ s.params.core_commit * s.cycles
+  pub to_commit : p.run.demand.to_commit ≤ s.params.core_commit * s.cycles
   pub numbers : AreAtMost (s.params.core_commit * s.cycles + s.params.core_window) (told p)
   -- each step tells one order at most
   pub orders : length (told p) ≤ k

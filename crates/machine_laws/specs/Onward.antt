@@ -35,11 +35,11 @@ IsStepButAddress s os n =
 -- What the orders made so far leave of the path.
 pub record GoesOnward (s : Setup) (d : Demand) : Type 0 where
   -- each order but Set speaks of the next instruction to commit or an earlier one
-  pub orders : AreAtMostButSet d.done d.orders
+  pub orders : AreAtMostButSet d.to_commit d.orders
   -- so no later instruction was given a time
-  pub times : (n : ℕ) → d.done < n → time_of d.orders n ≡ None
+  pub times : (n : ℕ) → d.to_commit < n → time_of d.orders n ≡ None
   -- and from the next instruction to commit on the path is executed, but for addresses
-  pub steps : (n : ℕ) → d.done ≤ n → IsStepButAddress s d.orders n
+  pub steps : (n : ℕ) → d.to_commit ≤ n → IsStepButAddress s d.orders n
   -- the last order that opened an epoch speaks of the record to fetch next or an earlier one
   pub opening : IfSome (last_opening d.orders) (λ o. number_of o ≤ next d)
   -- so from there on the path is what is executed, address and all

@@ -64,10 +64,10 @@ Within (Sync m ∷ os) n = (m ≤ n) × Within os n
 pub record Related (s : Setup) (d : Demand) : Type 0 where
   -- what is committed is the state before the next instruction to commit: its address, registers, memory, the memory
   -- that fetch sees, CSRs, devices and output
-  pub arch : d.machine.arch ≡ path s d.orders d.done
+  pub arch : d.machine.arch ≡ path s d.orders d.to_commit
   -- the window and fetch stand on the path from there on
-  pub window : Tracks s (time_of d.orders) (path s d.orders) d.done d.machine.window d.machine.fetch_addr d.machine.kept
+  pub window : Tracks s (time_of d.orders) (path s d.orders) d.to_commit d.machine.window d.machine.fetch_addr d.machine.kept
   -- from the record to fetch next on, the path goes on by execution
   pub on : GoesOn d.orders (next d)
   -- only Set speaks of an instruction that isn't committed yet
-  pub within : Within d.orders d.done
+  pub within : Within d.orders d.to_commit

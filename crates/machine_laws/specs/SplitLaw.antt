@@ -59,12 +59,12 @@ Each P (e ∷ es) = P e × Each P es
 -- The lists between the sides stay within their lengths.
 pub record IsListed (s : Setup) (x : Split) : Type 0 where
   pub entries : length x.entries ≤ s.ring
-  pub orders : length x.listed ≤ 64
+  pub orders : length x.listed_orders ≤ 64
 
 -- At a boundary all orders are obeyed, and what the functional side has committed is the state of the monolithic machine.
 pub record IsLevel (s : Setup) (x : Split) : Type 0 where
   pub obeyed : x.obeyed ≡ told x.place
-  pub done : x.committed_number ≡ x.place.run.demand.done
+  pub to_commit : x.committed_number ≡ x.place.run.demand.to_commit
   pub state : path s x.obeyed x.committed_number ≡ (mono s x.place.run.demand.machine.cycle).arch
 
 pub record IsRun (s : Setup) (x : Split) : Type 0 where
@@ -72,7 +72,7 @@ pub record IsRun (s : Setup) (x : Split) : Type 0 where
   pub steps : ℕ
   pub at : x.place ≡ place s steps
   -- the orders told there are those obeyed, those listed and the one in hand
-  pub orders : told x.place ≡ with_order x.hand (reverse x.listed ++ x.obeyed)
+  pub orders : told x.place ≡ with_order x.hand (reverse x.listed_orders ++ x.obeyed)
   -- where a cycle starts and at the end, the machine is the monolithic one, and what is committed is its state
   pub machine : is_place_boundary x.place ≡ true → IsMono s x.place
   pub state : is_place_boundary x.place ≡ true → committed s x ≡ (mono s x.place.run.demand.machine.cycle).arch
@@ -81,8 +81,8 @@ pub record IsRun (s : Setup) (x : Split) : Type 0 where
   pub counted : IsCounted s x
   pub kinds : AreAtCommit x.obeyed
   pub small : 1 ≤ s.cycles → IsSmall s x
-  pub obeys : (o : Order) (os : List Order) → x.listed ≡ o ∷ os → MayObey s x o
-  pub listed : IsListed s x
+  pub obeys : (o : Order) (os : List Order) → x.listed_orders ≡ o ∷ os → MayObey s x o
+  pub listed_orders : IsListed s x
   -- each entry, listed, computed or held, is that of its number in its epoch
   pub entries : Each (IsUnderWay s x) x.entries
   pub computed : IfSome x.computed (IsUnderWay s x)

@@ -19,11 +19,11 @@ with_interrupts (Sync m ∷ os) n a = with_interrupts os n a
 
 -- the path up to the next instruction to commit, at a place and at a later one: below it the path stays
 abbrev pub StaysBelow : Setup → Place → Place → Type 0
-StaysBelow s p q = (n : ℕ) → n < p.run.demand.done → path s (told q) n ≡ path s (told p) n
+StaysBelow s p q = (n : ℕ) → n < p.run.demand.to_commit → path s (told q) n ≡ path s (told p) n
 
 -- and at it only interrupts change the path, each by its trap
 pub record StaysAt (s : Setup) (p q : Place) : Type 0 where
   -- the orders told since, the newest first
   pub later : List Order
   pub orders : told q ≡ later ++ told p
-  pub state : path s (told q) p.run.demand.done ≡ with_interrupts later p.run.demand.done (path s (told p) p.run.demand.done)
+  pub state : path s (told q) p.run.demand.to_commit ≡ with_interrupts later p.run.demand.to_commit (path s (told p) p.run.demand.to_commit)

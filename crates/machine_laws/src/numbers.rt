@@ -17,7 +17,7 @@ pub fn window_stays_within_its_size()
 pub fn orders_are_numbered_within_the_window()
     ensures numbered { (s : Setup) (k : ℕ) → AreNumbered s (told (place s k)) }
     ensures at_commit { (s : Setup) (k : ℕ) → AreAtCommit (told (place s k)) }
-    ensures done { (s : Setup) (k : ℕ) → (place s k).run.demand.done ≡ last_commit (told (place s k)) }
+    ensures done { (s : Setup) (k : ℕ) → (place s k).run.demand.to_commit ≡ last_commit (told (place s k)) }
 {}
 
 /// How far cycle number, instruction numbers and the list of orders go.

@@ -26,7 +26,7 @@ pub fn output_stays_within_its_limit()
 #[tactic(auto, using(crate::proofs::SplitOutput::told_output))]
 pub fn output_told_stays_within_its_limit()
     ensures within { (s : Setup) (k : ℕ) →
-        length (path s (told (place s k)) (place s k).run.demand.done).output ≤ s.output }
+        length (path s (told (place s k)) (place s k).run.demand.to_commit).output ≤ s.output }
 {}
 
 /// What each order commits has room in the output: the path before its number has at most the limit's bytes.

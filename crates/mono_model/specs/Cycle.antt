@@ -20,15 +20,15 @@ abbrev pub phases : Setup → Machine → Machine
 phases s m = after_commit s (commit_phase s (interrupt_phase m)).machine
 
 -- the end of a cycle: a run that has not ended ends at the limit
-unfoldable pub ticked : Setup → Machine → Machine
-ticked s m = record m {
+unfoldable pub end_of_cycle : Setup → Machine → Machine
+end_of_cycle s m = record m {
   cycle = m.cycle + 1;
   end = if has_ended m.end then m.end else (if m.cycle + 1 == s.cycles then Limit else m.end);
 }
 
 -- a cycle, where the run has not ended
 unfoldable pub cycled : Setup → Machine → Machine
-cycled s m = if has_ended m.end then m else ticked s (phases s m)
+cycled s m = if has_ended m.end then m else end_of_cycle s (phases s m)
 
 -- the machine after so many cycles
 unfoldable pub mono : Setup → ℕ → Machine

@@ -13,23 +13,23 @@ use Rattle.mono_model.specs.Commit.{Committed, Ending, plain, trap, sync, commit
 use Rattle.mono_model.specs.Complete.{completes, complete_phase}
 use Rattle.mono_model.specs.Issue.{wants_time, issue_phase}
 use Rattle.mono_model.specs.Fetch.{Try, misses, appends, turns, may_fetch, fetch_try, predicted_next}
-use Rattle.mono_model.specs.Cycle.{ticked}
+use Rattle.mono_model.specs.Cycle.{end_of_cycle}
 use Rattle.mono_model.specs.Path.{entry, openings}
 
 pub record Demand : Type 0 where
   pub machine : Machine
-  -- the number of the next instruction to commit; the record at place i of the window has number done + i
-  pub done : ℕ
+  -- the number of the next instruction to commit; the record at place i of the window has number to_commit + i
+  pub to_commit : ℕ
   -- the orders so far, the newest first
   pub orders : List Order
 
 -- the number of the next record fetched
 abbrev pub next : Demand → ℕ
-next d = d.done + length d.machine.window
+next d = d.to_commit + length d.machine.window
 
 -- The phases, with their orders.
 abbrev pub interrupt_orders : Demand → List Order
-interrupt_orders d = if is_interrupted d.machine then Interrupt d.done ∷ d.orders else d.orders
+interrupt_orders d = if is_interrupted d.machine then Interrupt d.to_commit ∷ d.orders else d.orders
 
 abbrev pub demand_interrupt : Demand → Demand
 demand_interrupt d = record d { machine = interrupt_phase d.machine; orders = interrupt_orders d }
@@ -47,8 +47,8 @@ commit_order (suc left) done os = Commit done ∷ os
 abbrev pub demand_committed : Committed → Demand → Demand
 demand_committed c d = record {
   machine = c.machine;
-  done = d.done + c.left;
-  orders = ending_orders c.ending c.machine.arch.pc (d.done + c.left) (commit_order c.left (d.done + c.left) d.orders);
+  to_commit = d.to_commit + c.left;
+  orders = ending_orders c.ending c.machine.arch.pc (d.to_commit + c.left) (commit_order c.left (d.to_commit + c.left) d.orders);
 }
 
 abbrev pub demand_commit : Setup → Demand → Demand
@@ -62,10 +62,10 @@ redirect_orders (Some addr) behind os = Set behind addr ∷ os
 abbrev pub demand_complete : Demand → Demand
 demand_complete d =
     let c = completes d.machine.cycle d.machine.window in
-    record d { machine = complete_phase d.machine; orders = redirect_orders c.redirect (d.done + length c.records) d.orders }
+    record d { machine = complete_phase d.machine; orders = redirect_orders c.redirect (d.to_commit + length c.records) d.orders }
 
 abbrev pub time_orders : Setup → Demand → List Order
-time_orders s d = if wants_time s d.machine then Time d.done d.machine.cycle ∷ d.orders else d.orders
+time_orders s d = if wants_time s d.machine then Time d.to_commit d.machine.cycle ∷ d.orders else d.orders
 
 abbrev pub demand_issue : Setup → Demand → Demand
 demand_issue s d = record d { machine = issue_phase s d.machine; orders = time_orders s d }
@@ -101,7 +101,7 @@ pub record Run : Type 0 where
   pub at : At
 
 abbrev pub run_start : Setup → Run
-run_start s = record { demand = record { machine = machine_start s; done = 0; orders = [] }; at = interrupting }
+run_start s = record { demand = record { machine = machine_start s; to_commit = 0; orders = [] }; at = interrupting }
 
 -- a try where one may be made, else the end of the cycle
 abbrev pub try_or_end : Setup → ℕ → Demand → At
@@ -131,8 +131,8 @@ turn_at s committing d = let behind = demand_commit s d in run_at behind (at_aft
 turn_at s completing d = run_at (demand_complete d) issuing
 turn_at s issuing d = let behind = demand_issue s d in run_at behind (try_or_end s s.params.core_fetch behind)
 turn_at s (trying more) d = tried_turn s (fetch_try s d.machine) more d
-turn_at s ending d = let behind = record d { machine = ticked s d.machine } in run_at behind (at_after_cycle behind)
-turn_at s stopping d = run_at (record d { orders = Stop d.done ∷ d.orders }) halted
+turn_at s ending d = let behind = record d { machine = end_of_cycle s d.machine } in run_at behind (at_after_cycle behind)
+turn_at s stopping d = run_at (record d { orders = Stop d.to_commit ∷ d.orders }) halted
 turn_at s halted d = run_at d halted
 
 -- one turn

@@ -23,7 +23,7 @@ pub record Split : Type 0 where
   pub hand : Option Order
   -- the entries and orders under way, the first to arrive in front
   pub entries : List Entry
-  pub listed : List Order
+  pub listed_orders : List Order
 
 unfoldable pub split_start : Setup → Split
 split_start s = record {
@@ -36,7 +36,7 @@ split_start s = record {
   held = None;
   hand = None;
   entries = [];
-  listed = [];
+  listed_orders = [];
 }
 
 pub data Event : Type 0 where
@@ -77,7 +77,7 @@ obeys (Sync n) x = record (goes_to (Sync n) n x) { committed_number = n }
 
 abbrev pub on_obey : List Order → Split → Split
 on_obey [] x = x
-on_obey (o ∷ os) x = obeys o (record x { listed = os })
+on_obey (o ∷ os) x = obeys o (record x { listed_orders = os })
 
 -- Tick: one step of the demand run, where no order is in hand and the entry that the place needs is held.
 abbrev pub is_halted : At → Bool
@@ -134,13 +134,13 @@ on_take (e ∷ rest) x = if may_take x then taken e rest x else x
 -- Send: the order in hand goes to the end of the list.
 abbrev pub sent : Option Order → Split → Split
 sent None x = x
-sent (Some o) x = if nat_lt (length x.listed) 64 then record x { hand = None; listed = x.listed ++ o ∷ [] } else x
+sent (Some o) x = if nat_lt (length x.listed_orders) 64 then record x { hand = None; listed_orders = x.listed_orders ++ o ∷ [] } else x
 
 -- an event that can't happen changes nothing
 unfoldable pub event_at : Setup → Event → Split → Split
 event_at s compute x = on_compute s x
 event_at s push x = pushed s x.computed x
-event_at s obey x = on_obey x.listed x
+event_at s obey x = on_obey x.listed_orders x
 event_at s tick x = on_tick s x
 event_at s take x = on_take x.entries x
 event_at s send x = sent x.hand x
@@ -156,7 +156,7 @@ run s events = played s events (split_start s)
 
 -- the committed state: that of the path before the next instruction to commit, under the orders told so far
 unfoldable pub committed : Setup → Split → Arch
-committed s x = path s (told x.place) x.place.run.demand.done
+committed s x = path s (told x.place) x.place.run.demand.to_commit
 
 -- A boundary: the start of a cycle, or the end, with no order in hand or listed.
 abbrev pub is_cycle_start : At → Bool
@@ -173,7 +173,7 @@ abbrev pub is_place_boundary : Place → Bool
 is_place_boundary p = p.owed == 0 && is_cycle_start p.run.at
 
 abbrev pub is_boundary : Split → Bool
-is_boundary x = is_place_boundary x.place && is_none x.hand && length x.listed == 0
+is_boundary x = is_place_boundary x.place && is_none x.hand && length x.listed_orders == 0
 
 -- A round of events, which leaves out the step of the timing side where that stands at a boundary.
 abbrev pub round : Setup → Split → Split

@@ -18,22 +18,22 @@ number_on slots consecutive i (suc k) d within =
     let before = number_on slots consecutive i k d (omega arith) in
     rw e (omega (arith, before, consecutive (i + k) d (omega arith)))
 
--- fewer than cap numbers on, the index is another one
-other_index : (cap n k : ℕ) → 0 < k → k < cap → index_of cap n ≡ index_of cap (n + k) → ⊥
-other_index cap n k some within same =
-    let here = div-add-mod n cap in
-    let there = div-add-mod (n + k) cap in
-    elim (cases_lt (n / cap) ((n + k) / cap)) [
-      | inl more ↦ omega (arith, here, there, mul-le-mul_left {m = suc (n / cap)} {n = (n + k) / cap} cap (omega arith), mul-suc cap (n / cap))
-      | inr less ↦ omega (arith, here, there, mul-le-mul_left {m = (n + k) / cap} {n = n / cap} cap less)
+-- fewer than capacity numbers on, the index is another one
+other_index : (capacity n k : ℕ) → 0 < k → k < capacity → index_of capacity n ≡ index_of capacity (n + k) → ⊥
+other_index capacity n k some within same =
+    let here = div-add-mod n capacity in
+    let there = div-add-mod (n + k) capacity in
+    elim (cases_lt (n / capacity) ((n + k) / capacity)) [
+      | inl more ↦ omega (arith, here, there, mul-le-mul_left {m = suc (n / capacity)} {n = (n + k) / capacity} capacity (omega arith), mul-suc capacity (n / capacity))
+      | inr less ↦ omega (arith, here, there, mul-le-mul_left {m = (n + k) / capacity} {n = n / capacity} capacity less)
     ]
 
 -- as many slots as there are indices
-pub own_indices : (cap : ℕ) (slots : List Slot) → IsConsecutive slots → length slots ≤ cap → HasOwnIndices cap slots
-own_indices cap slots consecutive within = λ i j d before inside same.
+pub own_indices : (capacity : ℕ) (slots : List Slot) → IsConsecutive slots → length slots ≤ capacity → HasOwnIndices capacity slots
+own_indices capacity slots consecutive within = λ i j d before inside same.
     let e : i + (j - i) ≡ j = omega arith in
     let on = rw e at (number_on slots consecutive i (j - i) d (omega arith)) in
-    other_index cap (get_or slots i d).number (j - i) (omega arith) (omega arith) (rw (← on) same)
+    other_index capacity (get_or slots i d).number (j - i) (omega arith) (omega arith) (rw (← on) same)
 
 -- a slot with the next number
 pub one_more : (slots : List Slot) (s : Slot) → IsConsecutive slots → IfSome (youngest slots) (λ last. s.number ≡ last.number + 1) → IsConsecutive (slots ++ s ∷ [])
@@ -48,11 +48,11 @@ one_more slots s consecutive next = λ k d within.
     ]
 
 -- it has an index that none of them has
-pub free_index : (cap : ℕ) (slots : List Slot) (s : Slot) → IsConsecutive slots → IfSome (youngest slots) (λ last. s.number ≡ last.number + 1) → length slots < cap
-    → All (λ held. index_of cap held.number ≡ index_of cap s.number → ⊥) slots
-free_index cap slots s consecutive next room = λ k d within same.
+pub free_index : (capacity : ℕ) (slots : List Slot) (s : Slot) → IsConsecutive slots → IfSome (youngest slots) (λ last. s.number ≡ last.number + 1) → length slots < capacity
+    → All (λ held. index_of capacity held.number ≡ index_of capacity s.number → ⊥) slots
+free_index capacity slots s consecutive next room = λ k d within same.
     let long = length-append slots (s ∷ []) in
-    let own = own_indices cap (slots ++ s ∷ []) (one_more slots s consecutive next) (omega (arith, long)) k (length slots) d within (omega (arith, long)) in
+    let own = own_indices capacity (slots ++ s ∷ []) (one_more slots s consecutive next) (omega (arith, long)) k (length slots) d within (omega (arith, long)) in
     own (rw (get_or_append_left slots (s ∷ []) d k within, get_or_push slots s d (length slots) refl) same)
 
 -- the slots behind the oldest follow one another too
@@ -106,17 +106,17 @@ oldest_none (s ∷ slots) None same = grind arith
 oldest_none (s ∷ slots) (Some t) same = (λ none. grind arith, λ empty. grind arith)
 
 -- so many places on, the index goes on, and back to 0 at the end
-pub index_on : (cap index places number : ℕ) → index < cap → places < cap - index → index ≡ index_of cap number → index + places ≡ index_of cap (number + places)
-index_on cap index places number within before is =
-    let below : index + places < cap = omega arith in
-    sym (mod-eq_of_lt below) ∙ ap (λ k. (k + places) % cap) is ∙ mod-add-mod number cap places
+pub index_on : (capacity index places number : ℕ) → index < capacity → places < capacity - index → index ≡ index_of capacity number → index + places ≡ index_of capacity (number + places)
+index_on capacity index places number within before is =
+    let below : index + places < capacity = omega arith in
+    sym (mod-eq_of_lt below) ∙ ap (λ k. (k + places) % capacity) is ∙ mod-add-mod number capacity places
 
-pub index_around : (cap index places number : ℕ) → index < cap → places ≤ cap → cap - index ≤ places → index ≡ index_of cap number → places - (cap - index) ≡ index_of cap (number + places)
-index_around cap index places number within most behind is =
-    let over : index + places ≡ places - (cap - index) + cap = omega arith in
-    let below : places - (cap - index) < cap = omega arith in
-    sym (mod-eq_of_lt below) ∙ sym (add-mod_right (places - (cap - index)) cap) ∙ ap (λ k. k % cap) (sym over)
-    ∙ ap (λ k. (k + places) % cap) is ∙ mod-add-mod number cap places
+pub index_around : (capacity index places number : ℕ) → index < capacity → places ≤ capacity → capacity - index ≤ places → index ≡ index_of capacity number → places - (capacity - index) ≡ index_of capacity (number + places)
+index_around capacity index places number within most behind is =
+    let over : index + places ≡ places - (capacity - index) + capacity = omega arith in
+    let below : places - (capacity - index) < capacity = omega arith in
+    sym (mod-eq_of_lt below) ∙ sym (add-mod_right (places - (capacity - index)) capacity) ∙ ap (λ k. k % capacity) (sym over)
+    ∙ ap (λ k. (k + places) % capacity) is ∙ mod-add-mod number capacity places
 
 -- the number of a slot is that of the oldest and its place
 pub number_at : (slots : List Slot) (place : ℕ) (oldest slot : Slot) → IsConsecutive slots → slice_get slots 0 ≡ Some oldest → slice_get slots place ≡ Some slot → slot.number ≡ oldest.number + place
@@ -129,19 +129,19 @@ number_at slots place oldest slot consecutive first there =
 
 -- What is behind the index of the oldest slot: that of a slot at a place, of the next slot, and of the oldest but one.
 abbrev pub IsBehind : ℕ → ℕ → ℕ → ℕ → Type 0
-IsBehind cap first places result = (number : ℕ) → first ≡ index_of cap number → result ≡ index_of cap (number + places)
+IsBehind capacity first places result = (number : ℕ) → first ≡ index_of capacity number → result ≡ index_of capacity (number + places)
 
-module _ (cap room first result : ℕ) (same : cap ≡ room) where
-  behind_is : (places number : ℕ) → IsBehind cap first places result → first ≡ index_of room number → result ≡ index_of room (number + places)
+module _ (capacity room first result : ℕ) (same : capacity ≡ room) where
+  behind_is : (places number : ℕ) → IsBehind capacity first places result → first ≡ index_of room number → result ≡ index_of room (number + places)
   behind_is places number behind is = behind number (is ∙ ap (λ c. index_of c number) (sym same)) ∙ ap (λ c. index_of c (number + places)) same
 
-  pub place_index : (slots : List Slot) (place : ℕ) (slot : Slot) → IsConsecutive slots → IsFirst slots room first → IsBehind cap first place result →
+  pub place_index : (slots : List Slot) (place : ℕ) (slot : Slot) → IsConsecutive slots → IsFirst slots room first → IsBehind capacity first place result →
       slice_get slots place ≡ Some slot → result ≡ index_of room slot.number
   place_index [] place slot consecutive is behind there = let within = slice_get_within [] place slot there in absurd (omega (arith, within))
   place_index (s ∷ slots) place slot consecutive is behind there =
       behind_is place s.number behind is ∙ ap (index_of room) (sym (number_at (s ∷ slots) place s slot consecutive refl there))
 
-  pub next_index : (slots : List Slot) (number : ℕ) → IsConsecutive slots → IsFirst slots room first → IsBehind cap first (length slots) result →
+  pub next_index : (slots : List Slot) (number : ℕ) → IsConsecutive slots → IsFirst slots room first → IsBehind capacity first (length slots) result →
       IfSome (youngest slots) (λ last. number ≡ last.number + 1) → 1 ≤ length slots → result ≡ index_of room number
   next_index [] number consecutive is behind next some = absurd (omega (arith, some))
   next_index (s ∷ slots) number consecutive is behind next some =
@@ -153,7 +153,7 @@ module _ (cap room first result : ℕ) (same : cap ≡ room) where
       let e : s.number + length (s ∷ slots) ≡ number = omega (arith, one, on) in
       behind_is (length (s ∷ slots)) s.number behind is ∙ ap (index_of room) e
 
-  pub second_index : (slots : List Slot) → IsConsecutive slots → IsFirst slots room first → IsBehind cap first 1 result → IsFirst (drop 1 slots) room result
+  pub second_index : (slots : List Slot) → IsConsecutive slots → IsFirst slots room first → IsBehind capacity first 1 result → IsFirst (drop 1 slots) room result
   second_index [] consecutive is behind = tt
   second_index (s ∷ []) consecutive is behind = tt
   second_index (s ∷ t ∷ slots) consecutive is behind =

@@ -5,7 +5,7 @@ use Rattle.reorder_buffer.specs.declared.slot.Slot.{Slot}
 
 -- how many slots a window has room for, and those that it holds, the oldest first
 pub record Contents : Type 0 where
-  pub cap : ℕ
+  pub capacity : ℕ
   pub slots : List Slot
 
 -- each number is one above that of the slot in front
@@ -16,17 +16,17 @@ IsConsecutive slots = AllAdjacentBelow (λ older younger. younger.number ≡ old
 abbrev pub youngest : List Slot → Option Slot
 youngest slots = slice_get slots (length slots - 1)
 
--- the index of an instruction's slot: the numbers in the window follow one another and are at most cap, so each has its own
+-- the index of an instruction's slot: the numbers in the window follow one another and are at most capacity, so each has its own
 abbrev pub index_of : ℕ → ℕ → ℕ
-index_of cap number = number % cap
+index_of capacity number = number % capacity
 
 -- the index of the oldest slot, where there is one
 abbrev pub IsFirst : List Slot → ℕ → ℕ → Type 0
-IsFirst slots cap first = IfSome (slice_get slots 0) (λ oldest. first ≡ index_of cap oldest.number)
+IsFirst slots capacity first = IfSome (slice_get slots 0) (λ oldest. first ≡ index_of capacity oldest.number)
 
 -- no two slots have one index
 abbrev pub HasOwnIndices : ℕ → List Slot → Type 0
-HasOwnIndices cap slots = AllPairs (λ older younger. index_of cap older.number ≢ index_of cap younger.number) slots
+HasOwnIndices capacity slots = AllPairs (λ older younger. index_of capacity older.number ≢ index_of capacity younger.number) slots
 
 -- the slots whose numbers are below n
 abbrev pub below_number : ℕ → List Slot → List Slot

@@ -22,7 +22,7 @@ impl Model for Window {
 
     ghost Value = { Contents };
 
-    ghost view = { λ w. record { cap = w.slots.capacity; slots = w.slots.items } };
+    ghost view = { λ w. record { capacity = w.slots.capacity; slots = w.slots.items } };
 
     ghost invariant = { λ w. ((w.slots.capacity < 2 ^ 32)
         × IsFirst w.slots.items w.slots.capacity w.first)
@@ -34,11 +34,11 @@ impl Window {
     ghost use Rattle.std.specs.Option.{option_copied};
     ghost use Rattle.reorder_buffer.specs.Window.{IsConsecutive, HasOwnIndices, youngest, index_of, below_number, count_from};
 
-    /// An empty window with room for `cap` slots. All its memory is taken here; want of it is the one refusal.
-    pub fn new(alloc: Global, cap: u32) -> Result<Window, NoMemory>
-        ensures opening { IfOk result (λ w. w ≡ record { cap = cap; slots = [] }) }
+    /// An empty window with room for `capacity` slots. All its memory is taken here; want of it is the one refusal.
+    pub fn new(alloc: Global, capacity: u32) -> Result<Window, NoMemory>
+        ensures opening { IfOk result (λ w. w ≡ record { capacity = capacity; slots = [] }) }
     {
-        match HeapCircularBuffer::with_capacity(alloc, cap as usize) {
+        match HeapCircularBuffer::with_capacity(alloc, capacity as usize) {
             Ok(slots) => Ok(Window { slots, first: 0 }),
             Err(_) => Err(NoMemory),
         }
@@ -48,17 +48,17 @@ impl Window {
     #[tactic(auto, using(crate::proofs::Consecutive::own_indices))]
     pub fn len(&self) -> u32
         ensures count { result ≡ length self.now.slots }
-        ensures within { result ≤ self.now.cap }
+        ensures within { result ≤ self.now.capacity }
         ensures consecutive { IsConsecutive self.now.slots }
-        ensures apart { HasOwnIndices self.now.cap self.now.slots }
+        ensures apart { HasOwnIndices self.now.capacity self.now.slots }
     {
         self.slots.len() as u32
     }
 
     /// Whether there is no room for a further slot.
     pub fn is_full(&self) -> bool
-        ensures full { IsTrue result ↔ (length self.now.slots ≡ self.now.cap) }
-        ensures within { length self.now.slots ≤ self.now.cap }
+        ensures full { IsTrue result ↔ (length self.now.slots ≡ self.now.capacity) }
+        ensures within { length self.now.slots ≤ self.now.capacity }
     {
         self.slots.len() == self.slots.capacity()
     }
@@ -66,12 +66,12 @@ impl Window {
     /// Adds a slot behind the others and gives its index, which no other slot has. There is room, and its number is
     /// the one behind the youngest slot's.
     pub fn append(&mut self, s: Slot) -> u32
-        requires room { length self.old.slots < self.old.cap }
+        requires room { length self.old.slots < self.old.capacity }
         requires next { IfSome (youngest self.old.slots) (λ last. s.number ≡ last.number + 1) }
         ensures appended { self.new ≡ record self.old { slots = self.old.slots ++ s ∷ [] } }
-        ensures index { result ≡ index_of self.old.cap s.number }
-        ensures below { result < self.old.cap }
-        ensures free { All (λ held. index_of self.old.cap held.number ≢ result) self.old.slots }
+        ensures index { result ≡ index_of self.old.capacity s.number }
+        ensures below { result < self.old.capacity }
+        ensures free { All (λ held. index_of self.old.capacity held.number ≢ result) self.old.slots }
     {
         let index = self.next_index(s.number);
         if self.slots.is_empty() {
@@ -84,29 +84,29 @@ impl Window {
 
     /// The index of a further slot of this number.
     fn next_index(&self, number: u64) -> u32
-        requires room { length self.now.slots < self.now.cap }
+        requires room { length self.now.slots < self.now.capacity }
         requires next { IfSome (youngest self.now.slots) (λ last. number ≡ last.number + 1) }
-        ensures index { result ≡ index_of self.now.cap number }
-        ensures below { result < self.now.cap }
+        ensures index { result ≡ index_of self.now.capacity number }
+        ensures below { result < self.now.capacity }
     {
-        let cap = self.slots.capacity();
+        let capacity = self.slots.capacity();
         let held = self.slots.len();
         if held == 0 {
-            return index_in(cap, number);
+            return index_in(capacity, number);
         }
-        index_behind(cap as u32, self.first, held as u32)
+        index_behind(capacity as u32, self.first, held as u32)
     }
 
     /// The index and the slot at a place, counted from the oldest at 0.
     pub fn at(&self, place: u32) -> (u32, &Slot)
         requires { place < length self.now.slots }
         ensures slot { slice_get self.now.slots place ≡ Some result.1.now }
-        ensures index { result.0 ≡ index_of self.now.cap result.1.now.number }
-        ensures below { result.0 < self.now.cap }
+        ensures index { result.0 ≡ index_of self.now.capacity result.1.now.number }
+        ensures below { result.0 < self.now.capacity }
     {
         let slot = self.slots.get(place as usize).unwrap();
-        let cap = self.slots.capacity() as u32;
-        (index_behind(cap, self.first, place), slot)
+        let capacity = self.slots.capacity() as u32;
+        (index_behind(capacity, self.first, place), slot)
     }
 
     /// The slot at a place, counted from the oldest at 0.
@@ -172,24 +172,24 @@ impl Window {
 }
 
 /// The index of the slot that an instruction of this number has in a window of this room.
-fn index_in(cap: usize, number: u64) -> u32
-    requires some { 0 < cap }
-    requires fits { cap < 2 ^ 32 }
-    ensures index { result ≡ index_of cap number }
-    ensures below { result < cap }
+fn index_in(capacity: usize, number: u64) -> u32
+    requires some { 0 < capacity }
+    requires fits { capacity < 2 ^ 32 }
+    ensures index { result ≡ index_of capacity number }
+    ensures below { result < capacity }
 {
-    (number % cap as u64) as u32
+    (number % capacity as u64) as u32
 }
 
 /// The index so many places behind one, in a window of this room.
-fn index_behind(cap: u32, index: u32, places: u32) -> u32
-    requires index { index < cap }
-    requires places { places ≤ cap }
-    ensures behind { (number : ℕ) → index ≡ index_of cap number
-        → result ≡ index_of cap (number + places) }
-    ensures below { result < cap }
+fn index_behind(capacity: u32, index: u32, places: u32) -> u32
+    requires index { index < capacity }
+    requires places { places ≤ capacity }
+    ensures behind { (number : ℕ) → index ≡ index_of capacity number
+        → result ≡ index_of capacity (number + places) }
+    ensures below { result < capacity }
 {
-    let to_end = cap - index;
+    let to_end = capacity - index;
     if places < to_end {
         index + places
     } else {

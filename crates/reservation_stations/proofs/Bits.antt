@@ -8,16 +8,16 @@ use Rattle.std.proofs.lemmas.Nat.Bits.{bit_at_set_same, bit_at_set_other, bit_at
 
 -- whether a bit is set
 abbrev pub is_set : List ℕ → ℕ → Bool
-is_set words slot = bit_at (get_or words (slot / 64) 0) (slot % 64) == 1
+is_set words index = bit_at (get_or words (index / 64) 0) (index % 64) == 1
 
 -- one word replaced: the bit in it, or in another word
-in_word : (words : List ℕ) (slot other word : ℕ) → slot < 256 → length words ≡ 4 → other / 64 ≡ slot / 64 →
-    get_or (slice_set words (slot / 64) word) (other / 64) 0 ≡ word
-in_word words slot other word within four same = rw same (get_or-set_same words (slot / 64) word 0 (omega arith))
+in_word : (words : List ℕ) (index other word : ℕ) → index < 256 → length words ≡ 4 → other / 64 ≡ index / 64 →
+    get_or (slice_set words (index / 64) word) (other / 64) 0 ≡ word
+in_word words index other word within four same = rw same (get_or-set_same words (index / 64) word 0 (omega arith))
 
-elsewhere : (words : List ℕ) (slot other word : ℕ) → other / 64 ≢ slot / 64 →
-    get_or (slice_set words (slot / 64) word) (other / 64) 0 ≡ get_or words (other / 64) 0
-elsewhere words slot other word differ = get_or-set_other words (slot / 64) (other / 64) word 0 differ
+elsewhere : (words : List ℕ) (index other word : ℕ) → other / 64 ≢ index / 64 →
+    get_or (slice_set words (index / 64) word) (other / 64) 0 ≡ get_or words (other / 64) 0
+elsewhere words index other word differ = get_or-set_other words (index / 64) (other / 64) word 0 differ
 
 false_or : (b c : Bool) → c ≡ false → b ≡ (b || c)
 false_or true c is = refl
@@ -36,68 +36,68 @@ and_not_false true c is = grind arith
 and_not_false false c is = refl
 
 abbrev with_bit : List ℕ → ℕ → List ℕ
-with_bit words slot = slice_set words (slot / 64) (bit_or (get_or words (slot / 64) 0) (1 * 2 ^ (slot % 64) % 18446744073709551616))
+with_bit words index = slice_set words (index / 64) (bit_or (get_or words (index / 64) 0) (1 * 2 ^ (index % 64) % 18446744073709551616))
 
 abbrev without_bit : List ℕ → ℕ → List ℕ
-without_bit words slot = slice_set words (slot / 64) (bit_and (get_or words (slot / 64) 0) (18446744073709551615 - 1 * 2 ^ (slot % 64) % 18446744073709551616))
+without_bit words index = slice_set words (index / 64) (bit_and (get_or words (index / 64) 0) (18446744073709551615 - 1 * 2 ^ (index % 64) % 18446744073709551616))
 
-with_other : (words : List ℕ) (slot other : ℕ) → slot < 256 → length words ≡ 4 → other ≢ slot → is_set (with_bit words slot) other ≡ is_set words other
-with_other words slot other within four differ =
-    elim (cases_eq (other / 64) (slot / 64)) [
+with_other : (words : List ℕ) (index other : ℕ) → index < 256 → length words ≡ 4 → other ≢ index → is_set (with_bit words index) other ≡ is_set words other
+with_other words index other within four differ =
+    elim (cases_eq (other / 64) (index / 64)) [
       | inl same ↦
-          let apart : other % 64 ≢ slot % 64 = λ e. differ (omega arith) in
-          ap (λ n. bit_at n (other % 64) == 1) (in_word words slot other _ within four same)
-          ∙ ap (λ n. n == 1) (bit_at_set_other w64 (get_or words (slot / 64) 0) (slot % 64) (omega arith) (other % 64) apart)
+          let apart : other % 64 ≢ index % 64 = λ e. differ (omega arith) in
+          ap (λ n. bit_at n (other % 64) == 1) (in_word words index other _ within four same)
+          ∙ ap (λ n. n == 1) (bit_at_set_other w64 (get_or words (index / 64) 0) (index % 64) (omega arith) (other % 64) apart)
           ∙ ap (λ k. bit_at (get_or words k 0) (other % 64) == 1) (sym same)
-      | inr apart ↦ ap (λ n. bit_at n (other % 64) == 1) (elsewhere words slot other _ apart)
+      | inr apart ↦ ap (λ n. bit_at n (other % 64) == 1) (elsewhere words index other _ apart)
     ]
 
-pub is_set-with : (words : List ℕ) (slot : ℕ) → slot < 256 → length words ≡ 4 → (other : ℕ) →
-    is_set (with_bit words slot) other ≡ (is_set words other || (other == slot))
-is_set-with words slot within four other =
-    elim (cases_eq other slot) [
+pub is_set-with : (words : List ℕ) (index : ℕ) → index < 256 → length words ≡ 4 → (other : ℕ) →
+    is_set (with_bit words index) other ≡ (is_set words other || (other == index))
+is_set-with words index within four other =
+    elim (cases_eq other index) [
       | inl same ↦
-          ap (is_set (with_bit words slot)) same
-          ∙ ap (λ n. bit_at n (slot % 64) == 1) (in_word words slot slot _ within four refl)
-          ∙ ap (λ n. n == 1) (bit_at_set_same w64 (get_or words (slot / 64) 0) (slot % 64) (omega arith))
-          ∙ or_true (is_set words other) (other == slot) (eq-eqb other slot same)
-      | inr differ ↦ with_other words slot other within four differ ∙ false_or (is_set words other) (other == slot) (ne_eqb other slot differ)
+          ap (is_set (with_bit words index)) same
+          ∙ ap (λ n. bit_at n (index % 64) == 1) (in_word words index index _ within four refl)
+          ∙ ap (λ n. n == 1) (bit_at_set_same w64 (get_or words (index / 64) 0) (index % 64) (omega arith))
+          ∙ or_true (is_set words other) (other == index) (eq-eqb other index same)
+      | inr differ ↦ with_other words index other within four differ ∙ false_or (is_set words other) (other == index) (ne_eqb other index differ)
     ]
 
-without_other : (words : List ℕ) (slot other : ℕ) → slot < 256 → length words ≡ 4 → other ≢ slot → is_set (without_bit words slot) other ≡ is_set words other
-without_other words slot other within four differ =
-    elim (cases_eq (other / 64) (slot / 64)) [
+without_other : (words : List ℕ) (index other : ℕ) → index < 256 → length words ≡ 4 → other ≢ index → is_set (without_bit words index) other ≡ is_set words other
+without_other words index other within four differ =
+    elim (cases_eq (other / 64) (index / 64)) [
       | inl same ↦
-          let apart : other % 64 ≢ slot % 64 = λ e. differ (omega arith) in
-          ap (λ n. bit_at n (other % 64) == 1) (in_word words slot other _ within four same)
-          ∙ ap (λ n. n == 1) (bit_at_clear_other w64 (get_or words (slot / 64) 0) (slot % 64) (omega arith) (other % 64) (omega arith) apart)
+          let apart : other % 64 ≢ index % 64 = λ e. differ (omega arith) in
+          ap (λ n. bit_at n (other % 64) == 1) (in_word words index other _ within four same)
+          ∙ ap (λ n. n == 1) (bit_at_clear_other w64 (get_or words (index / 64) 0) (index % 64) (omega arith) (other % 64) (omega arith) apart)
           ∙ ap (λ k. bit_at (get_or words k 0) (other % 64) == 1) (sym same)
-      | inr apart ↦ ap (λ n. bit_at n (other % 64) == 1) (elsewhere words slot other _ apart)
+      | inr apart ↦ ap (λ n. bit_at n (other % 64) == 1) (elsewhere words index other _ apart)
     ]
 
-pub is_set-without : (words : List ℕ) (slot : ℕ) → slot < 256 → length words ≡ 4 → (other : ℕ) →
-    is_set (without_bit words slot) other ≡ (is_set words other && not (other == slot))
-is_set-without words slot within four other =
-    elim (cases_eq other slot) [
+pub is_set-without : (words : List ℕ) (index : ℕ) → index < 256 → length words ≡ 4 → (other : ℕ) →
+    is_set (without_bit words index) other ≡ (is_set words other && not (other == index))
+is_set-without words index within four other =
+    elim (cases_eq other index) [
       | inl same ↦
-          ap (is_set (without_bit words slot)) same
-          ∙ ap (λ n. bit_at n (slot % 64) == 1) (in_word words slot slot _ within four refl)
-          ∙ ap (λ n. n == 1) (bit_at_clear_same w64 (get_or words (slot / 64) 0) (slot % 64) (omega arith))
-          ∙ and_not_true (is_set words other) (other == slot) (eq-eqb other slot same)
-      | inr differ ↦ without_other words slot other within four differ ∙ and_not_false (is_set words other) (other == slot) (ne_eqb other slot differ)
+          ap (is_set (without_bit words index)) same
+          ∙ ap (λ n. bit_at n (index % 64) == 1) (in_word words index index _ within four refl)
+          ∙ ap (λ n. n == 1) (bit_at_clear_same w64 (get_or words (index / 64) 0) (index % 64) (omega arith))
+          ∙ and_not_true (is_set words other) (other == index) (eq-eqb other index same)
+      | inr differ ↦ without_other words index other within four differ ∙ and_not_false (is_set words other) (other == index) (ne_eqb other index differ)
     ]
 
 -- no bit is set exactly where each word is 0
-pub none_from_zeros : (words : List ℕ) → ((k : ℕ) → k < 4 → get_or words k 0 ≡ 0) → length words ≡ 4 → (slot : ℕ) → is_set words slot ≡ false
-none_from_zeros words zeros four slot =
-    let word : get_or words (slot / 64) 0 ≡ 0 =
-    elim (cases_eq (min (slot / 64) 3) (slot / 64)) [
-      | inl few ↦ zeros (slot / 64) (omega arith)
-      | inr many ↦ get_or_past words (slot / 64) 0 (omega arith)
+pub none_from_zeros : (words : List ℕ) → ((k : ℕ) → k < 4 → get_or words k 0 ≡ 0) → length words ≡ 4 → (index : ℕ) → is_set words index ≡ false
+none_from_zeros words zeros four index =
+    let word : get_or words (index / 64) 0 ≡ 0 =
+    elim (cases_eq (min (index / 64) 3) (index / 64)) [
+      | inl few ↦ zeros (index / 64) (omega arith)
+      | inr many ↦ get_or_past words (index / 64) 0 (omega arith)
     ] in
-    ap (λ n. bit_at n (slot % 64) == 1) word ∙ ap (λ n. n == 1) (bit_at-zero (slot % 64))
+    ap (λ n. bit_at n (index % 64) == 1) word ∙ ap (λ n. n == 1) (bit_at-zero (index % 64))
 
-pub zero_from_none : (words : List ℕ) (k : ℕ) → get_or words k 0 < 2 ^ 64 → ((slot : ℕ) → is_set words slot ≡ false) → get_or words k 0 ≡ 0
+pub zero_from_none : (words : List ℕ) (k : ℕ) → get_or words k 0 < 2 ^ 64 → ((index : ℕ) → is_set words index ≡ false) → get_or words k 0 ≡ 0
 zero_from_none words k fits none =
     same_from_bits_below 64 (get_or words k 0) 0 fits (omega arith) (λ i within.
     let quotient : (64 * k + i) / 64 ≡ k = omega arith in
@@ -133,7 +133,7 @@ zeros_from_union words none k within =
     ]
 
 pub empty : (words : List ℕ) → length words ≡ 4 → ((k : ℕ) → get_or words k 0 < 2 ^ 64) →
-    IsTrue (union words == 0) ↔ ((slot : ℕ) → is_set words slot ≡ false)
+    IsTrue (union words == 0) ↔ ((index : ℕ) → is_set words index ≡ false)
 empty words four fits = (
   λ is. none_from_zeros words (zeros_from_union words (eqb-true (union words) 0 is)) four,
   λ none. eq-eqb (union words) 0 (union_of_zeros words (λ k. zero_from_none words k (fits k) none)),

@@ -1,32 +1,32 @@
--- How a change of single entries carries over to what they are by the older ones.
+-- How a change of single rows carries over to what they are by the older ones.
 use Rattle.std.proofs.Common.{◌≡◌, ℕ, zero, suc, take, ◌==◌, ◌||◌, ◌&&◌, not, Bool, true, false, if◌then◌else◌, Option, Some, None, List, [], ◌∷◌, ◌++◌, reverse, refl, ap, sym, ◌∙◌, inl, inr, eq-eqb, subst}
 use Rattle.std.specs.Prelude.{slice_get}
 use Rattle.std.proofs.lemmas.Bool.{cases_eq, ne_eqb}
 use Rattle.std.proofs.lemmas.Option.{same_Some}
-use Rattle.reservation_stations.specs.declared.entry.Entry.{Entry}
-use Rattle.reservation_stations.specs.Mask.{holds, is_slot}
+use Rattle.reservation_stations.specs.declared.row.Row.{Row}
+use Rattle.reservation_stations.specs.Mask.{holds, is_index}
 use Rattle.reservation_stations.specs.Readiness.{is_done, is_register}
-use Rattle.reservation_stations.specs.Keeps.{Each, AreEntries, IsEntry, stations_at, producer, producer_of, unfinished, awaited}
-use Rattle.reservation_stations.proofs.Slots.{reverse_behind}
+use Rattle.reservation_stations.specs.AreTables.{Each, AreRows, IsRow, stations_at, producer, producer_of, unfinished, awaited}
+use Rattle.reservation_stations.proofs.Indices.{reverse_behind}
 
--- a slot, unless it is one of these
+-- an index, unless it is one of these
 abbrev pub dropped : (ℕ → Bool) → Option ℕ → Option ℕ
 dropped lost None = None
-dropped lost (Some slot) = if lost slot then None else Some slot
+dropped lost (Some index) = if lost index then None else Some index
 
-is_slot-here : (b : Bool) (slot : ℕ) → is_slot slot (if b then None else Some slot) ≡ ((slot == slot) && not b)
-is_slot-here true slot = rw (eq-eqb slot slot refl) refl
-is_slot-here false slot = rw (eq-eqb slot slot refl) refl
+is_index-here : (b : Bool) (index : ℕ) → is_index index (if b then None else Some index) ≡ ((index == index) && not b)
+is_index-here true index = rw (eq-eqb index index refl) refl
+is_index-here false index = rw (eq-eqb index index refl) refl
 
-is_slot-elsewhere : (b c : Bool) (k slot : ℕ) → (k == slot) ≡ false → is_slot k (if b then None else Some slot) ≡ ((k == slot) && c)
-is_slot-elsewhere true c k slot is = rw is refl
-is_slot-elsewhere false c k slot is = rw is refl
+is_index-elsewhere : (b c : Bool) (k index : ℕ) → (k == index) ≡ false → is_index k (if b then None else Some index) ≡ ((k == index) && c)
+is_index-elsewhere true c k index is = rw is refl
+is_index-elsewhere false c k index is = rw is refl
 
-is_slot-dropped : (lost : ℕ → Bool) (k : ℕ) (o : Option ℕ) → is_slot k (dropped lost o) ≡ (is_slot k o && not (lost k))
-is_slot-dropped lost k None = refl
-is_slot-dropped lost k (Some slot) = elim (cases_eq k slot) [
-  | inl same ↦ rw same (is_slot-here (lost slot) slot)
-  | inr differ ↦ is_slot-elsewhere (lost slot) (not (lost k)) k slot (ne_eqb k slot differ)
+is_index-dropped : (lost : ℕ → Bool) (k : ℕ) (o : Option ℕ) → is_index k (dropped lost o) ≡ (is_index k o && not (lost k))
+is_index-dropped lost k None = refl
+is_index-dropped lost k (Some index) = elim (cases_eq k index) [
+  | inl same ↦ rw same (is_index-here (lost index) index)
+  | inr differ ↦ is_index-elsewhere (lost index) (not (lost k)) k index (ne_eqb k index differ)
 ]
 
 either_kept : (a b c : Bool) → ((a || b) && c) ≡ ((a && c) || (b && c))
@@ -37,43 +37,43 @@ either_kept true false false = refl
 either_kept false true c = refl
 either_kept false false c = refl
 
-module _ (at at' : ℕ → Entry) (lost gone : ℕ → Bool) where
-  -- a slot's entry waits no longer for the lost ones, and the gone ones leave; none of those that stay is gone
-  pub record Changes (slot : ℕ) : Type 0 where
-    pub first : (at' slot).first ≡ (at slot).first
-    pub second : (at' slot).second ≡ (at slot).second
-    pub destination : (at' slot).destination ≡ (at slot).destination
-    pub done : is_done (at' slot).mark ≡ (is_done (at slot).mark || lost slot)
-    pub stays : gone slot ≡ false
-    pub displaced : (at' slot).displaced ≡ dropped gone (at slot).displaced
-    pub waits : (k : ℕ) → holds (at' slot).waits k ≡ (holds (at slot).waits k && not (lost k))
+module _ (at at' : ℕ → Row) (lost gone : ℕ → Bool) where
+  -- an index's row waits no longer for the lost ones, and the gone ones leave; none of those that stay is gone
+  pub record Changes (index : ℕ) : Type 0 where
+    pub first : (at' index).first ≡ (at index).first
+    pub second : (at' index).second ≡ (at index).second
+    pub destination : (at' index).destination ≡ (at index).destination
+    pub done : is_done (at' index).mark ≡ (is_done (at index).mark || lost index)
+    pub stays : gone index ≡ false
+    pub displaced : (at' index).displaced ≡ dropped gone (at index).displaced
+    pub waits : (k : ℕ) → holds (at' index).waits k ≡ (holds (at index).waits k && not (lost k))
 
   -- what the older ones are behind the change
   pub record Carries (older older' : List ℕ) : Type 0 where
     pub unfinished : (register : ℕ) → unfinished (stations_at at' older') register ≡ dropped lost (unfinished (stations_at at older) register)
     pub producer : (register : ℕ) → producer (stations_at at' older') register ≡ dropped gone (producer (stations_at at older) register)
 
-  unfinished_cons : (slot : ℕ) (is done lost_here : Bool) (mine theirs : Option ℕ) → lost slot ≡ lost_here → theirs ≡ dropped lost mine →
-      (if is then (if (done || lost_here) then None else Some slot) else theirs) ≡
-      dropped lost (if is then (if done then None else Some slot) else mine)
-  unfinished_cons slot true true lost_here mine theirs is_lost carried = refl
-  unfinished_cons slot true false lost_here mine theirs is_lost carried = ap (λ b. if b then None else Some slot) (sym is_lost)
-  unfinished_cons slot false done lost_here mine theirs is_lost carried = carried
+  unfinished_cons : (index : ℕ) (is done lost_here : Bool) (mine theirs : Option ℕ) → lost index ≡ lost_here → theirs ≡ dropped lost mine →
+      (if is then (if (done || lost_here) then None else Some index) else theirs) ≡
+      dropped lost (if is then (if done then None else Some index) else mine)
+  unfinished_cons index true true lost_here mine theirs is_lost carried = refl
+  unfinished_cons index true false lost_here mine theirs is_lost carried = ap (λ b. if b then None else Some index) (sym is_lost)
+  unfinished_cons index false done lost_here mine theirs is_lost carried = carried
 
-  producer_cons : (slot : ℕ) (is : Bool) (mine theirs : Option ℕ) → gone slot ≡ false → theirs ≡ dropped gone mine →
-      (if is then Some slot else theirs) ≡ dropped gone (if is then Some slot else mine)
-  producer_cons slot true mine theirs stays carried = ap (λ b. if b then None else Some slot) (sym stays)
-  producer_cons slot false mine theirs stays carried = carried
+  producer_cons : (index : ℕ) (is : Bool) (mine theirs : Option ℕ) → gone index ≡ false → theirs ≡ dropped gone mine →
+      (if is then Some index else theirs) ≡ dropped gone (if is then Some index else mine)
+  producer_cons index true mine theirs stays carried = ap (λ b. if b then None else Some index) (sym stays)
+  producer_cons index false mine theirs stays carried = carried
 
-  pub Carries-cons : (slot : ℕ) (older older' : List ℕ) → Changes slot → Carries older older' → Carries (slot ∷ older) (slot ∷ older')
-  Carries-cons slot older older' here carried = record {
+  pub Carries-cons : (index : ℕ) (older older' : List ℕ) → Changes index → Carries older older' → Carries (index ∷ older) (index ∷ older')
+  Carries-cons index older older' here carried = record {
     unfinished = λ register.
-        ap (λ destination. if is_register register destination then (if is_done (at' slot).mark then None else Some slot) else unfinished (stations_at at' older') register) here.destination
-        ∙ ap (λ done. if is_register register (at slot).destination then (if done then None else Some slot) else unfinished (stations_at at' older') register) here.done
-        ∙ unfinished_cons slot (is_register register (at slot).destination) (is_done (at slot).mark) (lost slot) (unfinished (stations_at at older) register) (unfinished (stations_at at' older') register) refl (carried.unfinished register);
+        ap (λ destination. if is_register register destination then (if is_done (at' index).mark then None else Some index) else unfinished (stations_at at' older') register) here.destination
+        ∙ ap (λ done. if is_register register (at index).destination then (if done then None else Some index) else unfinished (stations_at at' older') register) here.done
+        ∙ unfinished_cons index (is_register register (at index).destination) (is_done (at index).mark) (lost index) (unfinished (stations_at at older) register) (unfinished (stations_at at' older') register) refl (carried.unfinished register);
     producer = λ register.
-        ap (λ destination. if is_register register destination then Some slot else producer (stations_at at' older') register) here.destination
-        ∙ producer_cons slot (is_register register (at slot).destination) (producer (stations_at at older) register) (producer (stations_at at' older') register) here.stays (carried.producer register);
+        ap (λ destination. if is_register register destination then Some index else producer (stations_at at' older') register) here.destination
+        ∙ producer_cons index (is_register register (at index).destination) (producer (stations_at at older) register) (producer (stations_at at' older') register) here.stays (carried.producer register);
   }
 
   awaited_carried : (older older' : List ℕ) (source : Option ℕ) → Carries older older' →
@@ -87,56 +87,56 @@ module _ (at at' : ℕ → Entry) (lost gone : ℕ → Bool) where
   producer_carried older older' (Some register) carried = carried.producer register
 
   one : (k : ℕ) (older older' : List ℕ) (source : Option ℕ) → Carries older older' →
-      is_slot k (awaited (stations_at at' older') source) ≡ (is_slot k (awaited (stations_at at older) source) && not (lost k))
-  one k older older' source carried = ap (is_slot k) (awaited_carried older older' source carried) ∙ is_slot-dropped lost k (awaited (stations_at at older) source)
+      is_index k (awaited (stations_at at' older') source) ≡ (is_index k (awaited (stations_at at older) source) && not (lost k))
+  one k older older' source carried = ap (is_index k) (awaited_carried older older' source carried) ∙ is_index-dropped lost k (awaited (stations_at at older) source)
 
-  pub IsEntry-carried : (slot : ℕ) (older older' : List ℕ) → Changes slot → Carries older older' →
-      IsEntry (stations_at at older) (at slot) → IsEntry (stations_at at' older') (at' slot)
-  IsEntry-carried slot older older' here carried is = record {
+  pub IsRow-carried : (index : ℕ) (older older' : List ℕ) → Changes index → Carries older older' →
+      IsRow (stations_at at older) (at index) → IsRow (stations_at at' older') (at' index)
+  IsRow-carried index older older' here carried is = record {
     waits = λ k.
         here.waits k ∙ ap (λ b. b && not (lost k)) (is.waits k)
-        ∙ either_kept (is_slot k (awaited (stations_at at older) (at slot).first)) (is_slot k (awaited (stations_at at older) (at slot).second)) (not (lost k))
-        ∙ (λ i. sym (one k older older' (at slot).first carried) i || sym (one k older older' (at slot).second carried) i)
-        ∙ ap (λ source. is_slot k (awaited (stations_at at' older') source) || is_slot k (awaited (stations_at at' older') (at slot).second)) (sym here.first)
-        ∙ ap (λ source. is_slot k (awaited (stations_at at' older') (at' slot).first) || is_slot k (awaited (stations_at at' older') source)) (sym here.second);
+        ∙ either_kept (is_index k (awaited (stations_at at older) (at index).first)) (is_index k (awaited (stations_at at older) (at index).second)) (not (lost k))
+        ∙ (λ i. sym (one k older older' (at index).first carried) i || sym (one k older older' (at index).second carried) i)
+        ∙ ap (λ source. is_index k (awaited (stations_at at' older') source) || is_index k (awaited (stations_at at' older') (at index).second)) (sym here.first)
+        ∙ ap (λ source. is_index k (awaited (stations_at at' older') (at' index).first) || is_index k (awaited (stations_at at' older') source)) (sym here.second);
     displaced =
-        here.displaced ∙ ap (dropped gone) is.displaced ∙ sym (producer_carried older older' (at slot).destination carried)
+        here.displaced ∙ ap (dropped gone) is.displaced ∙ sym (producer_carried older older' (at index).destination carried)
         ∙ ap (producer_of (stations_at at' older')) (sym here.destination);
   }
 
-  pub AreEntries-carried : (slots older older' : List ℕ) → Each Changes slots → Carries older older' → AreEntries at older slots → AreEntries at' older' slots
-  AreEntries-carried [] older older' each carried are = tt
-  AreEntries-carried (slot ∷ slots) older older' each carried are = (
-    IsEntry-carried slot older older' each.0 carried are.0,
-    AreEntries-carried slots (slot ∷ older) (slot ∷ older') each.1 (Carries-cons slot older older' each.0 carried) are.1,
+  pub AreRows-carried : (indices older older' : List ℕ) → Each Changes indices → Carries older older' → AreRows at older indices → AreRows at' older' indices
+  AreRows-carried [] older older' each carried are = tt
+  AreRows-carried (index ∷ indices) older older' each carried are = (
+    IsRow-carried index older older' each.0 carried are.0,
+    AreRows-carried indices (index ∷ older) (index ∷ older') each.1 (Carries-cons index older older' each.0 carried) are.1,
   )
 
   -- and behind all of them
-  pub Carries-behind : (slots older older' : List ℕ) → Each Changes slots → Carries older older' → Carries (reverse slots ++ older) (reverse slots ++ older')
+  pub Carries-behind : (indices older older' : List ℕ) → Each Changes indices → Carries older older' → Carries (reverse indices ++ older) (reverse indices ++ older')
   Carries-behind [] older older' each carried = carried
-  Carries-behind (slot ∷ slots) older older' each carried =
-      let rest : Carries (reverse slots ++ (slot ∷ older)) (reverse slots ++ (slot ∷ older')) =
-      Carries-behind slots (slot ∷ older) (slot ∷ older') each.1 (Carries-cons slot older older' each.0 carried) in
-      rw (reverse_behind slot slots older, reverse_behind slot slots older') rest
+  Carries-behind (index ∷ indices) older older' each carried =
+      let rest : Carries (reverse indices ++ (index ∷ older)) (reverse indices ++ (index ∷ older')) =
+      Carries-behind indices (index ∷ older) (index ∷ older') each.1 (Carries-cons index older older' each.0 carried) in
+      rw (reverse_behind index indices older, reverse_behind index indices older') rest
 
--- one entry more, the youngest
-pub AreEntries-push : (at : ℕ → Entry) (slots older : List ℕ) (slot : ℕ) → AreEntries at older slots →
-    IsEntry (stations_at at (reverse slots ++ older)) (at slot) → AreEntries at older (slots ++ slot ∷ [])
-AreEntries-push at [] older slot are here = (here, tt)
-AreEntries-push at (other ∷ slots) older slot are here =
-    (are.0, AreEntries-push at slots (other ∷ older) slot are.1 (rw (← reverse_behind other slots older) here))
+-- one row more, the youngest
+pub AreRows-push : (at : ℕ → Row) (indices older : List ℕ) (index : ℕ) → AreRows at older indices →
+    IsRow (stations_at at (reverse indices ++ older)) (at index) → AreRows at older (indices ++ index ∷ [])
+AreRows-push at [] older index are here = (here, tt)
+AreRows-push at (other ∷ indices) older index are here =
+    (are.0, AreRows-push at indices (other ∷ older) index are.1 (rw (← reverse_behind other indices older) here))
 
-pub AreEntries-front : (at : ℕ → Entry) (slots older : List ℕ) (slot : ℕ) → AreEntries at older (slots ++ slot ∷ []) →
-    AreEntries at older slots × IsEntry (stations_at at (reverse slots ++ older)) (at slot)
-AreEntries-front at [] older slot are = (tt, are.0)
-AreEntries-front at (other ∷ slots) older slot are =
-    let rest = AreEntries-front at slots (other ∷ older) slot are.1 in
-    ((are.0, rest.0), rw (reverse_behind other slots older) rest.1)
+pub AreRows-front : (at : ℕ → Row) (indices older : List ℕ) (index : ℕ) → AreRows at older (indices ++ index ∷ []) →
+    AreRows at older indices × IsRow (stations_at at (reverse indices ++ older)) (at index)
+AreRows-front at [] older index are = (tt, are.0)
+AreRows-front at (other ∷ indices) older index are =
+    let rest = AreRows-front at indices (other ∷ older) index are.1 in
+    ((are.0, rest.0), rw (reverse_behind other indices older) rest.1)
 
--- the entry at a place, beside those before it
-pub AreEntries_at : (at : ℕ → Entry) (slots older : List ℕ) (place slot : ℕ) → AreEntries at older slots → slice_get slots place ≡ Some slot →
-    IsEntry (stations_at at (reverse (take place slots) ++ older)) (at slot)
-AreEntries_at at [] older place slot are there = absurd cc
-AreEntries_at at (other ∷ slots) older zero slot are there = subst (λ s. IsEntry (stations_at at older) (at s)) (same_Some other slot there) are.0
-AreEntries_at at (other ∷ slots) older (suc place) slot are there =
-    rw (reverse_behind other (take place slots) older) (AreEntries_at at slots (other ∷ older) place slot are.1 there)
+-- the row at a place, beside those before it
+pub AreRows_at : (at : ℕ → Row) (indices older : List ℕ) (place index : ℕ) → AreRows at older indices → slice_get indices place ≡ Some index →
+    IsRow (stations_at at (reverse (take place indices) ++ older)) (at index)
+AreRows_at at [] older place index are there = absurd cc
+AreRows_at at (other ∷ indices) older zero index are there = subst (λ s. IsRow (stations_at at older) (at s)) (same_Some other index there) are.0
+AreRows_at at (other ∷ indices) older (suc place) index are there =
+    rw (reverse_behind other (take place indices) older) (AreRows_at at indices (other ∷ older) place index are.1 there)

@@ -5,28 +5,28 @@ use Rattle.std.proofs.lemmas.Bool.{cases_eq, ne_eqb}
 use Rattle.std.proofs.lemmas.List.{length-set, append-nil, get_or_read}
 use Rattle.reservation_stations.specs.declared.station.Mark.{Mark}
 use Rattle.reservation_stations.specs.declared.station.Mark.TheVariants.{Waiting, Issued, Done, Faulted}
-use Rattle.reservation_stations.specs.declared.entry.Entry.{Entry}
+use Rattle.reservation_stations.specs.declared.row.Row.{Row}
 use Rattle.reservation_stations.specs.Mask.{holds}
 use Rattle.reservation_stations.specs.Readiness.{Window, is_waiting, is_done, station_of, mark_of, marked, waiting_count}
-use Rattle.reservation_stations.specs.Keeps.{Keeps, Each, entry_at, free_entry, stations_at, producer}
+use Rattle.reservation_stations.specs.AreTables.{AreTables, Each, row_at, free_row, stations_at, producer}
 use Rattle.reservation_stations.specs.Changes.{without, Releases, EachChanges}
-use Rattle.reservation_stations.proofs.Slots.{Each-map}
-use Rattle.reservation_stations.proofs.Carried.{dropped, Changes, Carries, AreEntries-carried, Carries-behind}
-use Rattle.reservation_stations.proofs.Marking.{entry_at-set, with_mark_of, mark_of-held, Marks, stations_at-marked, waiting_count-same, waiting_count-one_less}
+use Rattle.reservation_stations.proofs.Indices.{Each-map}
+use Rattle.reservation_stations.proofs.Carried.{dropped, Changes, Carries, AreRows-carried, Carries-behind}
+use Rattle.reservation_stations.proofs.Marking.{row_at-set, with_mark_of, mark_of-held, Marks, stations_at-marked, waiting_count-same, waiting_count-one_less}
 
 abbrev pub none : ℕ → Bool
-none slot = false
+none index = false
 
 pub dropped_none : (o : Option ℕ) → dropped none o ≡ o
 dropped_none None = refl
-dropped_none (Some slot) = refl
+dropped_none (Some index) = refl
 
 abbrev pub one : ℕ → ℕ → Bool
-one slot other = other == slot
+one index other = other == index
 
-pub dropped_one : (slot : ℕ) (o : Option ℕ) → dropped (one slot) o ≡ without slot o
-dropped_one slot None = refl
-dropped_one slot (Some other) = refl
+pub dropped_one : (index : ℕ) (o : Option ℕ) → dropped (one index) o ≡ without index o
+dropped_one index None = refl
+dropped_one index (Some other) = refl
 
 pub or_false : (b : Bool) → b ≡ (b || false)
 or_false true = refl
@@ -37,149 +37,149 @@ and_true true = refl
 and_true false = refl
 
 -- nothing stands before the oldest
-module _ (at at' : ℕ → Entry) (lost gone : ℕ → Bool) where
+module _ (at at' : ℕ → Row) (lost gone : ℕ → Bool) where
   pub Carries-none : Carries at at' lost gone [] []
   Carries-none = record { unfinished = λ register. refl; producer = λ register. refl }
 
--- where the list of slots stays, and no record leaves
-module _ (window : ℕ) (slots : List ℕ) (old new : List Entry) (producers : List (Option ℕ)) (waiting waiting' : ℕ) (lost : ℕ → Bool) where
-  pub Keeps-changed : Keeps window slots old producers waiting → length new ≡ length old → Each (Changes (entry_at old) (entry_at new) lost none) slots →
-      waiting' ≡ waiting_count (stations_at (entry_at new) slots) → Keeps window slots new producers waiting'
-  Keeps-changed keeps same each count =
-      let at = entry_at old in
-      let at' = entry_at new in
-      let behind : Carries at at' lost none (reverse slots) (reverse slots) =
-      subst (λ xs. Carries at at' lost none xs xs) (append-nil (reverse slots)) (Carries-behind at at' lost none slots [] [] each (Carries-none at at' lost none)) in
+-- where the list of indices stays, and no record leaves
+module _ (capacity : ℕ) (indices : List ℕ) (old new : List Row) (producers : List (Option ℕ)) (waiting waiting' : ℕ) (lost : ℕ → Bool) where
+  pub AreTables-changed : AreTables capacity indices old producers waiting → length new ≡ length old → Each (Changes (row_at old) (row_at new) lost none) indices →
+      waiting' ≡ waiting_count (stations_at (row_at new) indices) → AreTables capacity indices new producers waiting'
+  AreTables-changed keeps same each count =
+      let at = row_at old in
+      let at' = row_at new in
+      let behind : Carries at at' lost none (reverse indices) (reverse indices) =
+      subst (λ xs. Carries at at' lost none xs xs) (append-nil (reverse indices)) (Carries-behind at at' lost none indices [] [] each (Carries-none at at' lost none)) in
       record {
         limit = keeps.limit;
         within = keeps.within;
         distinct = keeps.distinct;
-        every_slot = same ∙ keeps.every_slot;
-        each_entry = AreEntries-carried at at' lost none slots [] [] each (Carries-none at at' lost none) keeps.each_entry;
+        every_index = same ∙ keeps.every_index;
+        each_row = AreRows-carried at at' lost none indices [] [] each (Carries-none at at' lost none) keeps.each_row;
         every_register = keeps.every_register;
         each_producer = λ register within.
-            keeps.each_producer register within ∙ sym (behind.producer register ∙ dropped_none (producer (stations_at at (reverse slots)) register));
+            keeps.each_producer register within ∙ sym (behind.producer register ∙ dropped_none (producer (stations_at at (reverse indices)) register));
         count = count;
       }
 
 -- another mark on one record, which isn't done before nor behind
-module _ (entries : List Entry) (slot : ℕ) (mark : Mark) (entry : Entry) (within : slot < length entries) (is : entry ≡ entry_at entries slot) where
-  abbrev with_mark : Entry
-  with_mark = record entry { mark = mark }
+module _ (rows : List Row) (index : ℕ) (mark : Mark) (row : Row) (within : index < length rows) (is : row ≡ row_at rows index) where
+  abbrev with_mark : Row
+  with_mark = record row { mark = mark }
 
-  abbrev written : List Entry
-  written = slice_set entries slot with_mark
+  abbrev written : List Row
+  written = slice_set rows index with_mark
 
-  mark_by : (b : Bool) (e : Entry) → (if b then with_mark else e).mark ≡ (if b then mark else e.mark)
+  mark_by : (b : Bool) (e : Row) → (if b then with_mark else e).mark ≡ (if b then mark else e.mark)
   mark_by true e = refl
   mark_by false e = refl
 
-  same_by : {X : Type 0} (f : Entry → X) (b : Bool) (e : Entry) → f with_mark ≡ f e → f (if b then with_mark else e) ≡ f e
+  same_by : {X : Type 0} (f : Row → X) (b : Bool) (e : Row) → f with_mark ≡ f e → f (if b then with_mark else e) ≡ f e
   same_by f true e same = same
   same_by f false e same = refl
 
-  field : {X : Type 0} (f : Entry → X) → f with_mark ≡ f entry → (other : ℕ) → f (entry_at written other) ≡ f (entry_at entries other)
-  field f kept other = ap f (entry_at-set entries slot with_mark within other) ∙ elim (cases_eq other slot) [
-    | inl same ↦ same_by f (other == slot) (entry_at entries other) (kept ∙ ap f is ∙ ap (λ s. f (entry_at entries s)) (sym same))
-    | inr differ ↦ ap (λ b. f (if b then with_mark else entry_at entries other)) (ne_eqb other slot differ)
+  field : {X : Type 0} (f : Row → X) → f with_mark ≡ f row → (other : ℕ) → f (row_at written other) ≡ f (row_at rows other)
+  field f kept other = ap f (row_at-set rows index with_mark within other) ∙ elim (cases_eq other index) [
+    | inl same ↦ same_by f (other == index) (row_at rows other) (kept ∙ ap f is ∙ ap (λ s. f (row_at rows s)) (sym same))
+    | inr differ ↦ ap (λ b. f (if b then with_mark else row_at rows other)) (ne_eqb other index differ)
   ]
 
-  pub Marks-written : (other : ℕ) → Marks (entry_at entries) (entry_at written) slot mark other
+  pub Marks-written : (other : ℕ) → Marks (row_at rows) (row_at written) index mark other
   Marks-written other = record {
     first = field (λ e. e.first) refl other;
     second = field (λ e. e.second) refl other;
     destination = field (λ e. e.destination) refl other;
-    mark = ap (λ (e : Entry). e.mark) (entry_at-set entries slot with_mark within other) ∙ mark_by (other == slot) (entry_at entries other);
+    mark = ap (λ (e : Row). e.mark) (row_at-set rows index with_mark within other) ∙ mark_by (other == index) (row_at rows other);
   }
 
-  done_by : (other : ℕ) → is_done mark ≡ is_done (entry_at entries slot).mark → is_done (entry_at written other).mark ≡ is_done (entry_at entries other).mark
-  done_by other alike = ap is_done (Marks-written other).mark ∙ elim (cases_eq other slot) [
-    | inl same ↦ ap (λ b. is_done (if b then mark else (entry_at entries other).mark)) (eq-eqb other slot same) ∙ alike ∙ ap (λ s. is_done (entry_at entries s).mark) (sym same)
-    | inr differ ↦ ap (λ b. is_done (if b then mark else (entry_at entries other).mark)) (ne_eqb other slot differ)
+  done_by : (other : ℕ) → is_done mark ≡ is_done (row_at rows index).mark → is_done (row_at written other).mark ≡ is_done (row_at rows other).mark
+  done_by other alike = ap is_done (Marks-written other).mark ∙ elim (cases_eq other index) [
+    | inl same ↦ ap (λ b. is_done (if b then mark else (row_at rows other).mark)) (eq-eqb other index same) ∙ alike ∙ ap (λ s. is_done (row_at rows s).mark) (sym same)
+    | inr differ ↦ ap (λ b. is_done (if b then mark else (row_at rows other).mark)) (ne_eqb other index differ)
   ]
 
-  Changes-written : is_done mark ≡ is_done (entry_at entries slot).mark → (other : ℕ) → Changes (entry_at entries) (entry_at written) none none other
+  Changes-written : is_done mark ≡ is_done (row_at rows index).mark → (other : ℕ) → Changes (row_at rows) (row_at written) none none other
   Changes-written alike other = record {
     first = (Marks-written other).first;
     second = (Marks-written other).second;
     destination = (Marks-written other).destination;
-    done = done_by other alike ∙ or_false (is_done (entry_at entries other).mark);
+    done = done_by other alike ∙ or_false (is_done (row_at rows other).mark);
     stays = refl;
-    displaced = field (λ e. e.displaced) refl other ∙ sym (dropped_none (entry_at entries other).displaced);
-    waits = λ k. field (λ e. holds e.waits k) refl other ∙ and_true (holds (entry_at entries other).waits k);
+    displaced = field (λ e. e.displaced) refl other ∙ sym (dropped_none (row_at rows other).displaced);
+    waits = λ k. field (λ e. holds e.waits k) refl other ∙ and_true (holds (row_at rows other).waits k);
   }
 
 -- what contracts see of the tables
-abbrev pub seen : ℕ → List ℕ → List Entry → Window
-seen window slots entries = record { window = window; stations = stations_at (entry_at entries) slots }
+abbrev pub seen : ℕ → List ℕ → List Row → Window
+seen capacity indices rows = record { capacity = capacity; stations = stations_at (row_at rows) indices }
 
-module _ {window : ℕ} {slots : List ℕ} {entries : List Entry} {producers : List (Option ℕ)} {waiting : ℕ} (keeps : Keeps window slots entries producers waiting) {w : Window} (is_seen : seen window slots entries ≡ w) where
-  pub held_with : (slot : ℕ) (mark : Mark) → mark_of slot w.stations ≡ Some mark → (slot < length entries) × ((entry_at entries slot).mark ≡ mark)
-  held_with slot mark is =
-      let found = mark_of-held (entry_at entries) (λ s. s < window) slots slot mark keeps.within (ap (λ (v : Window). mark_of slot v.stations) is_seen ∙ is) in
-      (omega (arith, found.0, keeps.every_slot), found.1)
+module _ {capacity : ℕ} {indices : List ℕ} {rows : List Row} {producers : List (Option ℕ)} {waiting : ℕ} (keeps : AreTables capacity indices rows producers waiting) {w : Window} (is_seen : seen capacity indices rows ≡ w) where
+  pub held_with : (index : ℕ) (mark : Mark) → mark_of index w.stations ≡ Some mark → (index < length rows) × ((row_at rows index).mark ≡ mark)
+  held_with index mark is =
+      let found = mark_of-held (row_at rows) (λ s. s < capacity) indices index mark keeps.within (ap (λ (v : Window). mark_of index v.stations) is_seen ∙ is) in
+      (omega (arith, found.0, keeps.every_index), found.1)
 
-  module _ (slot : ℕ) (mark next : Mark) (before : mark_of slot w.stations ≡ Some mark) (entry : Entry) (read : entry ≡ get_or entries slot entry) where
-    is : entry ≡ entry_at entries slot
-    is = get_or_read entries slot entry (held_with slot mark before).0 read free_entry
+  module _ (index : ℕ) (mark next : Mark) (before : mark_of index w.stations ≡ Some mark) (row : Row) (read : row ≡ get_or rows index row) where
+    is : row ≡ row_at rows index
+    is = get_or_read rows index row (held_with index mark before).0 read free_row
 
-    pub seen-marked : (new : List Entry) → Each (Marks (entry_at entries) (entry_at new) slot next) slots →
-        seen window slots new ≡ record w { stations = marked slot next w.stations }
+    pub seen-marked : (new : List Row) → Each (Marks (row_at rows) (row_at new) index next) indices →
+        seen capacity indices new ≡ record w { stations = marked index next w.stations }
     seen-marked new each =
-        (λ i. record { window = window; stations = stations_at-marked (entry_at entries) (entry_at new) slot next slots each i })
-        ∙ ap (λ (v : Window). record v { stations = marked slot next v.stations }) is_seen
+        (λ i. record { capacity = capacity; stations = stations_at-marked (row_at rows) (row_at new) index next indices each i })
+        ∙ ap (λ (v : Window). record v { stations = marked index next v.stations }) is_seen
 
-    abbrev new_entries : List Entry
-    new_entries = slice_set entries slot (record entry { mark = next })
+    abbrev new_rows : List Row
+    new_rows = slice_set rows index (record row { mark = next })
 
-    each_marked : Each (Marks (entry_at entries) (entry_at new_entries) slot next) slots
+    each_marked : Each (Marks (row_at rows) (row_at new_rows) index next) indices
     each_marked =
-        Each-map (λ s. s < window) (Marks (entry_at entries) (entry_at new_entries) slot next) (λ other h. Marks-written entries slot next entry (held_with slot mark before).0 is other) slots keeps.within
+        Each-map (λ s. s < capacity) (Marks (row_at rows) (row_at new_rows) index next) (λ other h. Marks-written rows index next row (held_with index mark before).0 is other) indices keeps.within
 
-    pub seen-written : seen window slots new_entries ≡ record w { stations = marked slot next w.stations }
-    seen-written = seen-marked new_entries each_marked
+    pub seen-written : seen capacity indices new_rows ≡ record w { stations = marked index next w.stations }
+    seen-written = seen-marked new_rows each_marked
 
     -- neither mark is that of a done record
-    keeps_written : is_done next ≡ is_done mark → (waiting' : ℕ) → waiting' ≡ waiting_count (stations_at (entry_at new_entries) slots) → Keeps window slots new_entries producers waiting'
+    keeps_written : is_done next ≡ is_done mark → (waiting' : ℕ) → waiting' ≡ waiting_count (stations_at (row_at new_rows) indices) → AreTables capacity indices new_rows producers waiting'
     keeps_written alike waiting' count =
-        let here = held_with slot mark before in
-        Keeps-changed window slots entries new_entries producers waiting waiting' none keeps (length-set entries slot (record entry { mark = next }))
-        (Each-map (λ s. s < window) (Changes (entry_at entries) (entry_at new_entries) none none)
-        (λ other h. Changes-written entries slot next entry here.0 is (alike ∙ ap is_done (sym here.1)) other) slots keeps.within)
+        let here = held_with index mark before in
+        AreTables-changed capacity indices rows new_rows producers waiting waiting' none keeps (length-set rows index (record row { mark = next }))
+        (Each-map (λ s. s < capacity) (Changes (row_at rows) (row_at new_rows) none none)
+        (λ other h. Changes-written rows index next row here.0 is (alike ∙ ap is_done (sym here.1)) other) indices keeps.within)
         count
 
-    alike_by : (other : ℕ) → is_waiting next ≡ is_waiting mark → is_waiting (entry_at new_entries other).mark ≡ is_waiting (entry_at entries other).mark
+    alike_by : (other : ℕ) → is_waiting next ≡ is_waiting mark → is_waiting (row_at new_rows other).mark ≡ is_waiting (row_at rows other).mark
     alike_by other alike =
-        let here = held_with slot mark before in
-        ap is_waiting (Marks-written entries slot next entry here.0 is other).mark ∙ elim (cases_eq other slot) [
+        let here = held_with index mark before in
+        ap is_waiting (Marks-written rows index next row here.0 is other).mark ∙ elim (cases_eq other index) [
           | inl same ↦
-              ap (λ b. is_waiting (if b then next else (entry_at entries other).mark)) (eq-eqb other slot same)
-              ∙ alike ∙ ap is_waiting (sym here.1) ∙ ap (λ s. is_waiting (entry_at entries s).mark) (sym same)
-          | inr differ ↦ ap (λ b. is_waiting (if b then next else (entry_at entries other).mark)) (ne_eqb other slot differ)
+              ap (λ b. is_waiting (if b then next else (row_at rows other).mark)) (eq-eqb other index same)
+              ∙ alike ∙ ap is_waiting (sym here.1) ∙ ap (λ s. is_waiting (row_at rows s).mark) (sym same)
+          | inr differ ↦ ap (λ b. is_waiting (if b then next else (row_at rows other).mark)) (ne_eqb other index differ)
         ]
 
     -- as many wait
-    waits_alike : is_waiting next ≡ is_waiting mark → waiting ≡ waiting_count (stations_at (entry_at new_entries) slots)
+    waits_alike : is_waiting next ≡ is_waiting mark → waiting ≡ waiting_count (stations_at (row_at new_rows) indices)
     waits_alike alike =
-        keeps.count ∙ sym (waiting_count-same (entry_at entries) (entry_at new_entries) slots
-        (Each-map (λ s. s < window) (λ other. is_waiting (entry_at new_entries other).mark ≡ is_waiting (entry_at entries other).mark) (λ other h. alike_by other alike) slots keeps.within))
+        keeps.count ∙ sym (waiting_count-same (row_at rows) (row_at new_rows) indices
+        (Each-map (λ s. s < capacity) (λ other. is_waiting (row_at new_rows other).mark ≡ is_waiting (row_at rows other).mark) (λ other h. alike_by other alike) indices keeps.within))
 
-    pub Keeps-marked : is_done next ≡ is_done mark → is_waiting next ≡ is_waiting mark → Keeps window slots new_entries producers waiting
-    Keeps-marked done alike = keeps_written done waiting (waits_alike alike)
+    pub AreTables-marked : is_done next ≡ is_done mark → is_waiting next ≡ is_waiting mark → AreTables capacity indices new_rows producers waiting
+    AreTables-marked done alike = keeps_written done waiting (waits_alike alike)
 
     -- one fewer waits
-    one_fewer : is_waiting next ≡ false → is_waiting mark ≡ true → waiting_count (stations_at (entry_at new_entries) slots) + 1 ≡ waiting
+    one_fewer : is_waiting next ≡ false → is_waiting mark ≡ true → waiting_count (stations_at (row_at new_rows) indices) + 1 ≡ waiting
     one_fewer not_now then_so =
-        let here = held_with slot mark before in
-        let found = with_mark_of (station_of slot (stations_at (entry_at entries) slots)) mark (ap (λ (v : Window). mark_of slot v.stations) is_seen ∙ before) in
-        waiting_count-one_less (entry_at entries) (entry_at new_entries) slot next slots keeps.distinct each_marked not_now (ap is_waiting here.1 ∙ then_so) found.0 found.1
+        let here = held_with index mark before in
+        let found = with_mark_of (station_of index (stations_at (row_at rows) indices)) mark (ap (λ (v : Window). mark_of index v.stations) is_seen ∙ before) in
+        waiting_count-one_less (row_at rows) (row_at new_rows) index next indices keeps.distinct each_marked not_now (ap is_waiting here.1 ∙ then_so) found.0 found.1
         ∙ sym keeps.count
 
     pub some_wait : is_waiting next ≡ false → is_waiting mark ≡ true → 1 ≤ waiting
     some_wait not_now then_so = omega (arith, one_fewer not_now then_so)
 
-    pub Keeps-fewer : is_done next ≡ is_done mark → is_waiting next ≡ false → is_waiting mark ≡ true → Keeps window slots new_entries producers (waiting - 1)
-    Keeps-fewer done not_now then_so = keeps_written done (waiting - 1) (omega (arith, one_fewer not_now then_so))
+    pub AreTables-fewer : is_done next ≡ is_done mark → is_waiting next ≡ false → is_waiting mark ≡ true → AreTables capacity indices new_rows producers (waiting - 1)
+    AreTables-fewer done not_now then_so = keeps_written done (waiting - 1) (omega (arith, one_fewer not_now then_so))
 
 done_or : (b : Bool) (mark : Mark) → is_done (if b then Done else mark) ≡ (is_done mark || b)
 done_or true Waiting = refl
@@ -189,28 +189,28 @@ done_or true Faulted = refl
 done_or false mark = or_false (is_done mark)
 
 -- a record is done, and none waits for it any more
-module _ {window : ℕ} {slots : List ℕ} {entries : List Entry} {producers : List (Option ℕ)} {waiting : ℕ} (keeps : Keeps window slots entries producers waiting) {w : Window} (is_seen : seen window slots entries ≡ w) (slot : ℕ) (before : mark_of slot w.stations ≡ Some Issued) (entry : Entry) (read : entry ≡ get_or entries slot entry) (freed : List Entry) (each : EachChanges (Releases slot) (slice_set entries slot (record entry { mark = Done })) freed) where
-  inside : slot < length entries
-  inside = (held_with keeps is_seen slot Issued before).0
+module _ {capacity : ℕ} {indices : List ℕ} {rows : List Row} {producers : List (Option ℕ)} {waiting : ℕ} (keeps : AreTables capacity indices rows producers waiting) {w : Window} (is_seen : seen capacity indices rows ≡ w) (index : ℕ) (before : mark_of index w.stations ≡ Some Issued) (row : Row) (read : row ≡ get_or rows index row) (freed : List Row) (each : EachChanges (Releases index) (slice_set rows index (record row { mark = Done })) freed) where
+  inside : index < length rows
+  inside = (held_with keeps is_seen index Issued before).0
 
-  is_entry : entry ≡ entry_at entries slot
-  is_entry = get_or_read entries slot entry inside read free_entry
+  is_row : row ≡ row_at rows index
+  is_row = get_or_read rows index row inside read free_row
 
-  released : (other : ℕ) → other < window → Releases slot (entry_at (slice_set entries slot (record entry { mark = Done })) other) (entry_at freed other)
-  released other h = each.each_entry other (omega (arith, length-set entries slot (record entry { mark = Done }), keeps.every_slot))
+  released : (other : ℕ) → other < capacity → Releases index (row_at (slice_set rows index (record row { mark = Done })) other) (row_at freed other)
+  released other h = each.each_row other (omega (arith, length-set rows index (record row { mark = Done }), keeps.every_index))
 
-  Marks-freed : (other : ℕ) → other < window → Marks (entry_at entries) (entry_at freed) slot Done other
+  Marks-freed : (other : ℕ) → other < capacity → Marks (row_at rows) (row_at freed) index Done other
   Marks-freed other h =
       let r = released other h in
-      let m = Marks-written entries slot Done entry inside is_entry other in
+      let m = Marks-written rows index Done row inside is_row other in
       record {
-        first = ap (λ (e : Entry). e.first) r.kept ∙ m.first;
-        second = ap (λ (e : Entry). e.second) r.kept ∙ m.second;
-        destination = ap (λ (e : Entry). e.destination) r.kept ∙ m.destination;
-        mark = ap (λ (e : Entry). e.mark) r.kept ∙ m.mark;
+        first = ap (λ (e : Row). e.first) r.kept ∙ m.first;
+        second = ap (λ (e : Row). e.second) r.kept ∙ m.second;
+        destination = ap (λ (e : Row). e.destination) r.kept ∙ m.destination;
+        mark = ap (λ (e : Row). e.mark) r.kept ∙ m.mark;
       }
 
-  Changes-freed : (other : ℕ) → other < window → Changes (entry_at entries) (entry_at freed) (one slot) none other
+  Changes-freed : (other : ℕ) → other < capacity → Changes (row_at rows) (row_at freed) (one index) none other
   Changes-freed other h =
       let r = released other h in
       let m = Marks-freed other h in
@@ -218,26 +218,26 @@ module _ {window : ℕ} {slots : List ℕ} {entries : List Entry} {producers : L
         first = m.first;
         second = m.second;
         destination = m.destination;
-        done = ap is_done m.mark ∙ done_or (other == slot) (entry_at entries other).mark;
+        done = ap is_done m.mark ∙ done_or (other == index) (row_at rows other).mark;
         stays = refl;
         displaced =
-            ap (λ (e : Entry). e.displaced) r.kept ∙ field entries slot Done entry inside is_entry (λ e. e.displaced) refl other
-            ∙ sym (dropped_none (entry_at entries other).displaced);
+            ap (λ (e : Row). e.displaced) r.kept ∙ field rows index Done row inside is_row (λ e. e.displaced) refl other
+            ∙ sym (dropped_none (row_at rows other).displaced);
         waits = λ k.
-            r.waits k ∙ ap (λ b. b && not (k == slot)) (field entries slot Done entry inside is_entry (λ e. holds e.waits k) refl other);
+            r.waits k ∙ ap (λ b. b && not (k == index)) (field rows index Done row inside is_row (λ e. holds e.waits k) refl other);
       }
 
-  waits_freed : (other : ℕ) → other < window → is_waiting (entry_at freed other).mark ≡ is_waiting (entry_at entries other).mark
+  waits_freed : (other : ℕ) → other < capacity → is_waiting (row_at freed other).mark ≡ is_waiting (row_at rows other).mark
   waits_freed other h =
-      ap (λ (e : Entry). is_waiting e.mark) (released other h).kept
-      ∙ alike_by keeps is_seen slot Issued Done before entry read other refl
+      ap (λ (e : Row). is_waiting e.mark) (released other h).kept
+      ∙ alike_by keeps is_seen index Issued Done before row read other refl
 
-  pub Keeps-freed : Keeps window slots freed producers waiting
-  Keeps-freed =
-      Keeps-changed window slots entries freed producers waiting waiting (one slot) keeps (each.every_slot ∙ length-set entries slot (record entry { mark = Done }))
-      (Each-map (λ s. s < window) (Changes (entry_at entries) (entry_at freed) (one slot) none) Changes-freed slots keeps.within)
-      (keeps.count ∙ sym (waiting_count-same (entry_at entries) (entry_at freed) slots
-      (Each-map (λ s. s < window) (λ other. is_waiting (entry_at freed other).mark ≡ is_waiting (entry_at entries other).mark) waits_freed slots keeps.within)))
+  pub AreTables-freed : AreTables capacity indices freed producers waiting
+  AreTables-freed =
+      AreTables-changed capacity indices rows freed producers waiting waiting (one index) keeps (each.every_index ∙ length-set rows index (record row { mark = Done }))
+      (Each-map (λ s. s < capacity) (Changes (row_at rows) (row_at freed) (one index) none) Changes-freed indices keeps.within)
+      (keeps.count ∙ sym (waiting_count-same (row_at rows) (row_at freed) indices
+      (Each-map (λ s. s < capacity) (λ other. is_waiting (row_at freed other).mark ≡ is_waiting (row_at rows other).mark) waits_freed indices keeps.within)))
 
-  pub seen-freed : seen window slots freed ≡ record w { stations = marked slot Done w.stations }
-  seen-freed = seen-marked keeps is_seen slot Issued Done before entry read freed (Each-map (λ s. s < window) (Marks (entry_at entries) (entry_at freed) slot Done) Marks-freed slots keeps.within)
+  pub seen-freed : seen capacity indices freed ≡ record w { stations = marked index Done w.stations }
+  seen-freed = seen-marked keeps is_seen index Issued Done before row read freed (Each-map (λ s. s < capacity) (Marks (row_at rows) (row_at freed) index Done) Marks-freed indices keeps.within)

@@ -7,12 +7,12 @@ use Rattle.std.proofs.lemmas.Option.{slice_get-map, same_Some}
 use Rattle.circular_buffer.specs.Buffer.{Buffer, buffer}
 use Rattle.circular_buffer.proofs.Items.{pops_last}
 use Rattle.reservation_stations.specs.declared.station.Station.{Station}
-use Rattle.reservation_stations.specs.declared.entry.Entry.{Entry}
-use Rattle.reservation_stations.specs.Readiness.{Window, is_waiting, is_done, is_register, oldest_slot, youngest_slot, waiting_count}
-use Rattle.reservation_stations.specs.Keeps.{Keeps, Each, IsEntry, entry_at, free_entry, stations_at, station_in, producer, producer_of}
+use Rattle.reservation_stations.specs.declared.row.Row.{Row}
+use Rattle.reservation_stations.specs.Readiness.{Window, is_waiting, is_done, is_register, oldest_index, youngest_index, waiting_count}
+use Rattle.reservation_stations.specs.AreTables.{AreTables, Each, IsRow, row_at, free_row, stations_at, station_in, producer, producer_of}
 use Rattle.reservation_stations.specs.Changes.{without, Forgets, EachChanges, with_producer, producer_at}
-use Rattle.reservation_stations.proofs.Slots.{Each-map, Each-both, Each-front, AreDistinct-front, reverse-cons}
-use Rattle.reservation_stations.proofs.Carried.{dropped, Changes, Carries, AreEntries-carried, Carries-behind, AreEntries-front}
+use Rattle.reservation_stations.proofs.Indices.{Each-map, Each-both, Each-front, AreDistinct-front, reverse-cons}
+use Rattle.reservation_stations.proofs.Carried.{dropped, Changes, Carries, AreRows-carried, Carries-behind, AreRows-front}
 use Rattle.reservation_stations.proofs.Marking.{Stays, stations_at-same}
 use Rattle.reservation_stations.proofs.Kept.{seen, one, dropped_one, or_false}
 use Rattle.reservation_stations.proofs.Reading.{producer-writes}
@@ -34,190 +34,190 @@ pub length-with_producer : (destination value : Option ℕ) (producers : List (O
 length-with_producer None value producers = refl
 length-with_producer (Some register) value producers = length-set producers register value
 
-pub waiting_count-push : (at : ℕ → Entry) (slots : List ℕ) (slot : ℕ) →
-    waiting_count (stations_at at (slots ++ slot ∷ [])) ≡ waiting_count (stations_at at slots) + (if is_waiting (at slot).mark then 1 else 0)
-waiting_count-push at [] slot = omega arith
-waiting_count-push at (other ∷ slots) slot = omega (arith, waiting_count-push at slots slot)
+pub waiting_count-push : (at : ℕ → Row) (indices : List ℕ) (index : ℕ) →
+    waiting_count (stations_at at (indices ++ index ∷ [])) ≡ waiting_count (stations_at at indices) + (if is_waiting (at index).mark then 1 else 0)
+waiting_count-push at [] index = omega arith
+waiting_count-push at (other ∷ indices) index = omega (arith, waiting_count-push at indices index)
 
-pub reverse-push : (slots : List ℕ) (slot : ℕ) → reverse (slots ++ slot ∷ []) ≡ slot ∷ reverse slots
-reverse-push slots slot = reverse-append slots (slot ∷ [])
+pub reverse-push : (indices : List ℕ) (index : ℕ) → reverse (indices ++ index ∷ []) ≡ index ∷ reverse indices
+reverse-push indices index = reverse-append indices (index ∷ [])
 
 -- cut
-cut_by : (b : Bool) (slot : ℕ) (displaced older table : Option ℕ) → (b ≡ true → displaced ≡ older) → table ≡ (if b then Some slot else older) →
+cut_by : (b : Bool) (index : ℕ) (displaced older table : Option ℕ) → (b ≡ true → displaced ≡ older) → table ≡ (if b then Some index else older) →
     (if b then displaced else table) ≡ older
-cut_by true slot displaced older table back is = back refl
-cut_by false slot displaced older table back is = is
+cut_by true index displaced older table back is = back refl
+cut_by false index displaced older table back is = is
 
-module _ (window : ℕ) (front : List ℕ) (slot : ℕ) (entries : List Entry) (producers : List (Option ℕ)) (waiting waiting' : ℕ) where
-  Keeps-front : Keeps window (front ++ slot ∷ []) entries producers waiting → waiting' + (if is_waiting (entry_at entries slot).mark then 1 else 0) ≡ waiting →
-      Keeps window front entries (with_producer (entry_at entries slot).destination (entry_at entries slot).displaced producers) waiting'
-  Keeps-front keeps left =
-      let at = entry_at entries in
-      let are = AreEntries-front at front [] slot keeps.each_entry in
-      let here : IsEntry (stations_at at (reverse front)) (at slot) = rw append-nil at are.1 in
-      let mine = (at slot).destination in
+module _ (capacity : ℕ) (front : List ℕ) (index : ℕ) (rows : List Row) (producers : List (Option ℕ)) (waiting waiting' : ℕ) where
+  AreTables-front : AreTables capacity (front ++ index ∷ []) rows producers waiting → waiting' + (if is_waiting (row_at rows index).mark then 1 else 0) ≡ waiting →
+      AreTables capacity front rows (with_producer (row_at rows index).destination (row_at rows index).displaced producers) waiting'
+  AreTables-front keeps left =
+      let at = row_at rows in
+      let are = AreRows-front at front [] index keeps.each_row in
+      let here : IsRow (stations_at at (reverse front)) (at index) = rw append-nil at are.1 in
+      let mine = (at index).destination in
       record {
         limit = keeps.limit;
-        within = (Each-front (λ s. s < window) front slot keeps.within).0;
-        distinct = (AreDistinct-front front slot keeps.distinct).0;
-        every_slot = keeps.every_slot;
-        each_entry = are.0;
-        every_register = length-with_producer mine (at slot).displaced producers ∙ keeps.every_register;
+        within = (Each-front (λ s. s < capacity) front index keeps.within).0;
+        distinct = (AreDistinct-front front index keeps.distinct).0;
+        every_index = keeps.every_index;
+        each_row = are.0;
+        every_register = length-with_producer mine (at index).displaced producers ∙ keeps.every_register;
         each_producer = λ register within.
-            get_or-with_producer mine (at slot).displaced producers register (omega (arith, keeps.every_register))
-            ∙ cut_by (is_register register mine) slot (at slot).displaced (producer (stations_at at (reverse front)) register) (get_or producers register None)
+            get_or-with_producer mine (at index).displaced producers register (omega (arith, keeps.every_register))
+            ∙ cut_by (is_register register mine) index (at index).displaced (producer (stations_at at (reverse front)) register) (get_or producers register None)
             (λ is. here.displaced ∙ ap (producer_of (stations_at at (reverse front))) (register_is register mine is))
-            (keeps.each_producer register within ∙ ap (λ xs. producer (stations_at at xs) register) (reverse-push front slot));
-        count = omega (arith, keeps.count, left, waiting_count-push at front slot);
+            (keeps.each_producer register within ∙ ap (λ xs. producer (stations_at at xs) register) (reverse-push front index));
+        count = omega (arith, keeps.count, left, waiting_count-push at front index);
       }
 
 -- what is left of the list
-last_slot : (o : Option ℕ) (slot : ℕ) (f : ℕ → Station) → ((s : ℕ) → (f s).slot ≡ s) → option_map (λ (station : Station). station.slot) (option_map f o) ≡ Some slot → o ≡ Some slot
-last_slot None slot f keeps is = absurd cc
-last_slot (Some other) slot f keeps is = ap Some (sym (keeps other)) ∙ is
+last_index : (o : Option ℕ) (index : ℕ) (f : ℕ → Station) → ((s : ℕ) → (f s).index ≡ s) → option_map (λ (station : Station). station.index) (option_map f o) ≡ Some index → o ≡ Some index
+last_index None index f keeps is = absurd cc
+last_index (Some other) index f keeps is = ap Some (sym (keeps other)) ∙ is
 
-module _ {window : ℕ} {slots : List ℕ} {entries : List Entry} {producers : List (Option ℕ)} {waiting : ℕ} (keeps : Keeps window slots entries producers waiting) {w : Window} (is_seen : seen window slots entries ≡ w) (slot : ℕ) where
-  module _ (youngest : youngest_slot w.stations ≡ Some slot) where
-    is_last : slice_get slots (length slots - 1) ≡ Some slot
+module _ {capacity : ℕ} {indices : List ℕ} {rows : List Row} {producers : List (Option ℕ)} {waiting : ℕ} (keeps : AreTables capacity indices rows producers waiting) {w : Window} (is_seen : seen capacity indices rows ≡ w) (index : ℕ) where
+  module _ (youngest : youngest_index w.stations ≡ Some index) where
+    is_last : slice_get indices (length indices - 1) ≡ Some index
     is_last =
-        let there : youngest_slot (stations_at (entry_at entries) slots) ≡ Some slot = ap (λ (v : Window). youngest_slot v.stations) is_seen ∙ youngest in
-        let found = slice_get-map (λ s. station_in s (entry_at entries s)) slots (length (stations_at (entry_at entries) slots) - 1) in
-        last_slot (slice_get slots (length slots - 1)) slot (λ s. station_in s (entry_at entries s)) (λ s. refl)
-        (ap (option_map (λ (station : Station). station.slot))
-        (ap (λ n. option_map (λ s. station_in s (entry_at entries s)) (slice_get slots (n - 1))) (sym (length-map slots (λ s. station_in s (entry_at entries s)))) ∙ sym found) ∙ there)
+        let there : youngest_index (stations_at (row_at rows) indices) ≡ Some index = ap (λ (v : Window). youngest_index v.stations) is_seen ∙ youngest in
+        let found = slice_get-map (λ s. station_in s (row_at rows s)) indices (length (stations_at (row_at rows) indices) - 1) in
+        last_index (slice_get indices (length indices - 1)) index (λ s. station_in s (row_at rows s)) (λ s. refl)
+        (ap (option_map (λ (station : Station). station.index))
+        (ap (λ n. option_map (λ s. station_in s (row_at rows s)) (slice_get indices (n - 1))) (sym (length-map indices (λ s. station_in s (row_at rows s)))) ∙ sym found) ∙ there)
 
-    pub split : slots ≡ take (length slots - 1) slots ++ slot ∷ []
-    split = rw is_last at (pops_last slots)
+    pub split : indices ≡ take (length indices - 1) indices ++ index ∷ []
+    split = rw is_last at (pops_last indices)
 
-    pub cut_within : slot < length entries
+    pub cut_within : index < length rows
     cut_within =
-        let each : Each (λ s. s < window) (take (length slots - 1) slots ++ slot ∷ []) = subst (Each (λ s. s < window)) split keeps.within in
-        omega (arith, (Each-front (λ s. s < window) (take (length slots - 1) slots) slot each).1, keeps.every_slot)
+        let each : Each (λ s. s < capacity) (take (length indices - 1) indices ++ index ∷ []) = subst (Each (λ s. s < capacity)) split keeps.within in
+        omega (arith, (Each-front (λ s. s < capacity) (take (length indices - 1) indices) index each).1, keeps.every_index)
 
-    pub front_keeps : Keeps window (take (length slots - 1) slots ++ slot ∷ []) entries producers waiting
-    front_keeps = subst (λ xs. Keeps window xs entries producers waiting) split keeps
+    pub front_keeps : AreTables capacity (take (length indices - 1) indices ++ index ∷ []) rows producers waiting
+    front_keeps = subst (λ xs. AreTables capacity xs rows producers waiting) split keeps
 
-    module _ (entry : Entry) (read : entry ≡ get_or entries slot entry) where
-      cut_entry : entry ≡ entry_at entries slot
-      cut_entry = get_or_read entries slot entry cut_within read free_entry
+    module _ (row : Row) (read : row ≡ get_or rows index row) where
+      cut_row : row ≡ row_at rows index
+      cut_row = get_or_read rows index row cut_within read free_row
 
-      pub cut_counted : (if is_waiting entry.mark then 1 else 0) ≤ waiting
-      cut_counted = rw cut_entry (omega (arith, front_keeps.count, waiting_count-push (entry_at entries) (take (length slots - 1) slots) slot))
+      pub cut_counted : (if is_waiting row.mark then 1 else 0) ≤ waiting
+      cut_counted = rw cut_row (omega (arith, front_keeps.count, waiting_count-push (row_at rows) (take (length indices - 1) indices) index))
 
-      pub Keeps-cut : (order : Buffer ℕ) (table : List (Option ℕ)) (waiting' : ℕ) → order ≡ buffer (take (length slots - 1) slots) window →
-          table ≡ with_producer entry.destination entry.displaced producers → waiting' + (if is_waiting entry.mark then 1 else 0) ≡ waiting →
-          Keeps order.capacity order.items entries table waiting'
-      Keeps-cut order table waiting' popped set left =
-          let left_by : waiting' + (if is_waiting (entry_at entries slot).mark then 1 else 0) ≡ waiting = subst (λ (e : Entry). waiting' + (if is_waiting e.mark then 1 else 0) ≡ waiting) cut_entry left in
-          rw (popped, set, cut_entry) (Keeps-front window (take (length slots - 1) slots) slot entries producers waiting waiting' front_keeps left_by)
+      pub AreTables-cut : (order : Buffer ℕ) (table : List (Option ℕ)) (waiting' : ℕ) → order ≡ buffer (take (length indices - 1) indices) capacity →
+          table ≡ with_producer row.destination row.displaced producers → waiting' + (if is_waiting row.mark then 1 else 0) ≡ waiting →
+          AreTables order.capacity order.items rows table waiting'
+      AreTables-cut order table waiting' popped set left =
+          let left_by : waiting' + (if is_waiting (row_at rows index).mark then 1 else 0) ≡ waiting = subst (λ (e : Row). waiting' + (if is_waiting e.mark then 1 else 0) ≡ waiting) cut_row left in
+          rw (popped, set, cut_row) (AreTables-front capacity (take (length indices - 1) indices) index rows producers waiting waiting' front_keeps left_by)
 
-  pub seen-cut : (order : Buffer ℕ) → order ≡ buffer (take (length slots - 1) slots) window →
-      seen order.capacity order.items entries ≡ record w { stations = take (length w.stations - 1) w.stations }
+  pub seen-cut : (order : Buffer ℕ) → order ≡ buffer (take (length indices - 1) indices) capacity →
+      seen order.capacity order.items rows ≡ record w { stations = take (length w.stations - 1) w.stations }
   seen-cut order popped =
-      ap (λ (o : Buffer ℕ). seen o.capacity o.items entries) popped
+      ap (λ (o : Buffer ℕ). seen o.capacity o.items rows) popped
       ∙ (λ i. record {
-        window = window;
-        stations = (sym (take-map (λ s. station_in s (entry_at entries s)) (length slots - 1) slots)
-            ∙ ap (λ n. take (n - 1) (stations_at (entry_at entries) slots)) (sym (length-map slots (λ s. station_in s (entry_at entries s))))) i;
+        capacity = capacity;
+        stations = (sym (take-map (λ s. station_in s (row_at rows s)) (length indices - 1) indices)
+            ∙ ap (λ n. take (n - 1) (stations_at (row_at rows) indices)) (sym (length-map indices (λ s. station_in s (row_at rows s))))) i;
       })
       ∙ ap (λ (v : Window). record v { stations = take (length v.stations - 1) v.stations }) is_seen
 
 -- retire
-without-other : (slot : ℕ) (table : Option ℕ) → (table ≡ Some slot → ⊥) → table ≡ without slot table
-without-other slot None other = refl
-without-other slot (Some producer) other = elim (cases_eq producer slot) [
+without-other : (index : ℕ) (table : Option ℕ) → (table ≡ Some index → ⊥) → table ≡ without index table
+without-other index None other = refl
+without-other index (Some producer) other = elim (cases_eq producer index) [
   | inl is ↦ absurd (other (ap Some is))
-  | inr differ ↦ rw (ne_eqb producer slot differ) refl
+  | inr differ ↦ rw (ne_eqb producer index differ) refl
 ]
 
 -- the oldest record is lost to those that waited for it, and no producer any more
-lost_oldest : (is done : Bool) (slot : ℕ) → None ≡ dropped (one slot) (if is then (if done then None else Some slot) else None)
-lost_oldest true true slot = refl
-lost_oldest true false slot = rw (eq-eqb slot slot refl) refl
-lost_oldest false done slot = refl
+lost_oldest : (is done : Bool) (index : ℕ) → None ≡ dropped (one index) (if is then (if done then None else Some index) else None)
+lost_oldest true true index = refl
+lost_oldest true false index = rw (eq-eqb index index refl) refl
+lost_oldest false done index = refl
 
-gone_oldest : (is : Bool) (slot : ℕ) → None ≡ dropped (one slot) (if is then Some slot else None)
-gone_oldest true slot = rw (eq-eqb slot slot refl) refl
-gone_oldest false slot = refl
+gone_oldest : (is : Bool) (index : ℕ) → None ≡ dropped (one index) (if is then Some index else None)
+gone_oldest true index = rw (eq-eqb index index refl) refl
+gone_oldest false index = refl
 
 or_apart : (b c : Bool) → c ≡ false → b ≡ (b || c)
 or_apart b c is = or_false b ∙ ap (λ d. b || d) (sym is)
 
-module _ (window : ℕ) (slot : ℕ) (rest : List ℕ) (old new : List Entry) (producers : List (Option ℕ)) (waiting waiting' : ℕ) (keeps : Keeps window (slot ∷ rest) old producers waiting) (each : EachChanges (Forgets slot) old new) where
-  apart : Each (λ other. (other < window) × (other ≢ slot)) rest
-  apart = Each-both (λ s. s < window) (λ s. s ≢ slot) rest keeps.within.1 keeps.distinct.0
+module _ (capacity : ℕ) (index : ℕ) (rest : List ℕ) (old new : List Row) (producers : List (Option ℕ)) (waiting waiting' : ℕ) (keeps : AreTables capacity (index ∷ rest) old producers waiting) (each : EachChanges (Forgets index) old new) where
+  apart : Each (λ other. (other < capacity) × (other ≢ index)) rest
+  apart = Each-both (λ s. s < capacity) (λ s. s ≢ index) rest keeps.within.1 keeps.distinct.0
 
-  Stays-behind : (other : ℕ) → (other < window) × (other ≢ slot) → Stays (entry_at old) (entry_at new) other
+  Stays-behind : (other : ℕ) → (other < capacity) × (other ≢ index) → Stays (row_at old) (row_at new) other
   Stays-behind other h =
-      let f = each.each_entry other (omega (arith, h.0, keeps.every_slot)) in
+      let f = each.each_row other (omega (arith, h.0, keeps.every_index)) in
       record {
-        first = ap (λ (e : Entry). e.first) f.kept;
-        second = ap (λ (e : Entry). e.second) f.kept;
-        destination = ap (λ (e : Entry). e.destination) f.kept;
-        mark = ap (λ (e : Entry). e.mark) f.kept;
+        first = ap (λ (e : Row). e.first) f.kept;
+        second = ap (λ (e : Row). e.second) f.kept;
+        destination = ap (λ (e : Row). e.destination) f.kept;
+        mark = ap (λ (e : Row). e.mark) f.kept;
       }
 
-  Changes-behind : (other : ℕ) → (other < window) × (other ≢ slot) → Changes (entry_at old) (entry_at new) (one slot) (one slot) other
+  Changes-behind : (other : ℕ) → (other < capacity) × (other ≢ index) → Changes (row_at old) (row_at new) (one index) (one index) other
   Changes-behind other h =
-      let f = each.each_entry other (omega (arith, h.0, keeps.every_slot)) in
+      let f = each.each_row other (omega (arith, h.0, keeps.every_index)) in
       let s = Stays-behind other h in
       record {
         first = s.first;
         second = s.second;
         destination = s.destination;
-        done = ap is_done s.mark ∙ or_apart (is_done (entry_at old other).mark) (other == slot) (ne_eqb other slot h.1);
-        stays = ne_eqb other slot h.1;
-        displaced = f.displaced ∙ sym (dropped_one slot (entry_at old other).displaced);
+        done = ap is_done s.mark ∙ or_apart (is_done (row_at old other).mark) (other == index) (ne_eqb other index h.1);
+        stays = ne_eqb other index h.1;
+        displaced = f.displaced ∙ sym (dropped_one index (row_at old other).displaced);
         waits = f.waits;
       }
 
-  each_behind : Each (Changes (entry_at old) (entry_at new) (one slot) (one slot)) rest
-  each_behind = Each-map (λ other. (other < window) × (other ≢ slot)) (Changes (entry_at old) (entry_at new) (one slot) (one slot)) Changes-behind rest apart
+  each_behind : Each (Changes (row_at old) (row_at new) (one index) (one index)) rest
+  each_behind = Each-map (λ other. (other < capacity) × (other ≢ index)) (Changes (row_at old) (row_at new) (one index) (one index)) Changes-behind rest apart
 
-  Carries-oldest : Carries (entry_at old) (entry_at new) (one slot) (one slot) (slot ∷ []) []
+  Carries-oldest : Carries (row_at old) (row_at new) (one index) (one index) (index ∷ []) []
   Carries-oldest = record {
-    unfinished = λ register. lost_oldest (is_register register (entry_at old slot).destination) (is_done (entry_at old slot).mark) slot;
-    producer = λ register. gone_oldest (is_register register (entry_at old slot).destination) slot;
+    unfinished = λ register. lost_oldest (is_register register (row_at old index).destination) (is_done (row_at old index).mark) index;
+    producer = λ register. gone_oldest (is_register register (row_at old index).destination) index;
   }
 
-  all_behind : Carries (entry_at old) (entry_at new) (one slot) (one slot) (reverse rest ++ slot ∷ []) (reverse rest ++ [])
-  all_behind = Carries-behind (entry_at old) (entry_at new) (one slot) (one slot) rest (slot ∷ []) [] each_behind Carries-oldest
+  all_behind : Carries (row_at old) (row_at new) (one index) (one index) (reverse rest ++ index ∷ []) (reverse rest ++ [])
+  all_behind = Carries-behind (row_at old) (row_at new) (one index) (one index) rest (index ∷ []) [] each_behind Carries-oldest
 
   producer_behind : (register : ℕ) → register < 256 →
-      producer (stations_at (entry_at new) (reverse rest)) register ≡ without slot (get_or producers register None)
+      producer (stations_at (row_at new) (reverse rest)) register ≡ without index (get_or producers register None)
   producer_behind register within =
-      ap (λ xs. producer (stations_at (entry_at new) xs) register) (sym (append-nil (reverse rest)))
+      ap (λ xs. producer (stations_at (row_at new) xs) register) (sym (append-nil (reverse rest)))
       ∙ all_behind.producer register
-      ∙ dropped_one slot (producer (stations_at (entry_at old) (reverse rest ++ slot ∷ [])) register)
-      ∙ ap (λ xs. without slot (producer (stations_at (entry_at old) xs) register)) (sym (reverse-cons slot rest))
-      ∙ ap (without slot) (sym (keeps.each_producer register within))
+      ∙ dropped_one index (producer (stations_at (row_at old) (reverse rest ++ index ∷ [])) register)
+      ∙ ap (λ xs. without index (producer (stations_at (row_at old) xs) register)) (sym (reverse-cons index rest))
+      ∙ ap (without index) (sym (keeps.each_producer register within))
 
-  table_by : (register : ℕ) → register < 256 → (b : Bool) → is_register register (entry_at old slot).destination ≡ b →
-      (if b then without slot (producer_at producers (entry_at old slot).destination) else get_or producers register None) ≡ without slot (get_or producers register None)
-  table_by register within true is = ap (λ d. without slot (producer_at producers d)) (register_is register (entry_at old slot).destination is)
+  table_by : (register : ℕ) → register < 256 → (b : Bool) → is_register register (row_at old index).destination ≡ b →
+      (if b then without index (producer_at producers (row_at old index).destination) else get_or producers register None) ≡ without index (get_or producers register None)
+  table_by register within true is = ap (λ d. without index (producer_at producers d)) (register_is register (row_at old index).destination is)
   table_by register within false is =
-      without-other slot (get_or producers register None)
-      (λ here. both_ways (is_register register (entry_at old slot).destination) is
-      (producer-writes (entry_at old) (reverse (slot ∷ rest)) register slot (sym (keeps.each_producer register within) ∙ here)))
+      without-other index (get_or producers register None)
+      (λ here. both_ways (is_register register (row_at old index).destination) is
+      (producer-writes (row_at old) (reverse (index ∷ rest)) register index (sym (keeps.each_producer register within) ∙ here)))
 
-  stations_behind : stations_at (entry_at new) rest ≡ stations_at (entry_at old) rest
+  stations_behind : stations_at (row_at new) rest ≡ stations_at (row_at old) rest
   stations_behind =
-      stations_at-same (entry_at old) (entry_at new) rest
-      (Each-map (λ other. (other < window) × (other ≢ slot)) (Stays (entry_at old) (entry_at new)) Stays-behind rest apart)
+      stations_at-same (row_at old) (row_at new) rest
+      (Each-map (λ other. (other < capacity) × (other ≢ index)) (Stays (row_at old) (row_at new)) Stays-behind rest apart)
 
-  Keeps-rest : waiting' + (if is_waiting (entry_at old slot).mark then 1 else 0) ≡ waiting →
-      Keeps window rest new (with_producer (entry_at old slot).destination (without slot (producer_at producers (entry_at old slot).destination)) producers) waiting'
-  Keeps-rest left =
-      let mine = (entry_at old slot).destination in
-      let value = without slot (producer_at producers mine) in
-      let same : waiting_count (stations_at (entry_at new) rest) ≡ waiting_count (stations_at (entry_at old) rest) =
+  AreTables-rest : waiting' + (if is_waiting (row_at old index).mark then 1 else 0) ≡ waiting →
+      AreTables capacity rest new (with_producer (row_at old index).destination (without index (producer_at producers (row_at old index).destination)) producers) waiting'
+  AreTables-rest left =
+      let mine = (row_at old index).destination in
+      let value = without index (producer_at producers mine) in
+      let same : waiting_count (stations_at (row_at new) rest) ≡ waiting_count (stations_at (row_at old) rest) =
       ap waiting_count stations_behind in
       record {
         limit = keeps.limit;
         within = keeps.within.1;
         distinct = keeps.distinct.1;
-        every_slot = each.every_slot ∙ keeps.every_slot;
-        each_entry = AreEntries-carried (entry_at old) (entry_at new) (one slot) (one slot) rest (slot ∷ []) [] each_behind Carries-oldest keeps.each_entry.1;
+        every_index = each.every_index ∙ keeps.every_index;
+        each_row = AreRows-carried (row_at old) (row_at new) (one index) (one index) rest (index ∷ []) [] each_behind Carries-oldest keeps.each_row.1;
         every_register = length-with_producer mine value producers ∙ keeps.every_register;
         each_producer = λ register within.
             get_or-with_producer mine value producers register (omega (arith, keeps.every_register))
@@ -225,45 +225,45 @@ module _ (window : ℕ) (slot : ℕ) (rest : List ℕ) (old new : List Entry) (p
         count = omega (arith, keeps.count, left, same);
       }
 
-head_is : (slots : List ℕ) (slot : ℕ) → slice_get slots 0 ≡ Some slot → slots ≡ slot ∷ drop 1 slots
-head_is [] slot is = absurd cc
-head_is (other ∷ slots) slot is = ap (λ s. s ∷ slots) (same_Some other slot is)
+head_is : (indices : List ℕ) (index : ℕ) → slice_get indices 0 ≡ Some index → indices ≡ index ∷ drop 1 indices
+head_is [] index is = absurd cc
+head_is (other ∷ indices) index is = ap (λ s. s ∷ indices) (same_Some other index is)
 
-module _ {window : ℕ} {slots : List ℕ} {entries : List Entry} {producers : List (Option ℕ)} {waiting : ℕ} (keeps : Keeps window slots entries producers waiting) {w : Window} (is_seen : seen window slots entries ≡ w) (slot : ℕ) (oldest : oldest_slot w.stations ≡ Some slot) where
-  pub is_first : slots ≡ slot ∷ drop 1 slots
+module _ {capacity : ℕ} {indices : List ℕ} {rows : List Row} {producers : List (Option ℕ)} {waiting : ℕ} (keeps : AreTables capacity indices rows producers waiting) {w : Window} (is_seen : seen capacity indices rows ≡ w) (index : ℕ) (oldest : oldest_index w.stations ≡ Some index) where
+  pub is_first : indices ≡ index ∷ drop 1 indices
   is_first =
-      let there : oldest_slot (stations_at (entry_at entries) slots) ≡ Some slot = ap (λ (v : Window). oldest_slot v.stations) is_seen ∙ oldest in
-      head_is slots slot (last_slot (slice_get slots 0) slot (λ s. station_in s (entry_at entries s)) (λ s. refl)
-      (ap (option_map (λ (station : Station). station.slot)) (sym (slice_get-map (λ s. station_in s (entry_at entries s)) slots 0)) ∙ there))
+      let there : oldest_index (stations_at (row_at rows) indices) ≡ Some index = ap (λ (v : Window). oldest_index v.stations) is_seen ∙ oldest in
+      head_is indices index (last_index (slice_get indices 0) index (λ s. station_in s (row_at rows s)) (λ s. refl)
+      (ap (option_map (λ (station : Station). station.index)) (sym (slice_get-map (λ s. station_in s (row_at rows s)) indices 0)) ∙ there))
 
-  pub first_keeps : Keeps window (slot ∷ drop 1 slots) entries producers waiting
-  first_keeps = subst (λ xs. Keeps window xs entries producers waiting) is_first keeps
+  pub first_keeps : AreTables capacity (index ∷ drop 1 indices) rows producers waiting
+  first_keeps = subst (λ xs. AreTables capacity xs rows producers waiting) is_first keeps
 
-  pub retire_within : slot < length entries
-  retire_within = omega (arith, first_keeps.within.0, keeps.every_slot)
+  pub retire_within : index < length rows
+  retire_within = omega (arith, first_keeps.within.0, keeps.every_index)
 
-  module _ (entry : Entry) (read : entry ≡ get_or entries slot entry) where
-    retired_entry : entry ≡ entry_at entries slot
-    retired_entry = get_or_read entries slot entry retire_within read free_entry
+  module _ (row : Row) (read : row ≡ get_or rows index row) where
+    retired_row : row ≡ row_at rows index
+    retired_row = get_or_read rows index row retire_within read free_row
 
-    pub retire_counted : (if is_waiting entry.mark then 1 else 0) ≤ waiting
-    retire_counted = rw retired_entry (omega (arith, first_keeps.count))
+    pub retire_counted : (if is_waiting row.mark then 1 else 0) ≤ waiting
+    retire_counted = rw retired_row (omega (arith, first_keeps.count))
 
-    pub Keeps-retired : (order : Buffer ℕ) (new : List Entry) (table : List (Option ℕ)) (waiting' : ℕ) → order ≡ buffer (drop 1 slots) window →
-        EachChanges (Forgets slot) entries new →
-        table ≡ with_producer entry.destination (without slot (producer_at producers entry.destination)) producers →
-        waiting' + (if is_waiting entry.mark then 1 else 0) ≡ waiting → Keeps order.capacity order.items new table waiting'
-    Keeps-retired order new table waiting' popped each dropped left =
-        let left_by : waiting' + (if is_waiting (entry_at entries slot).mark then 1 else 0) ≡ waiting = subst (λ (e : Entry). waiting' + (if is_waiting e.mark then 1 else 0) ≡ waiting) retired_entry left in
-        rw (popped, dropped, retired_entry) (Keeps-rest window slot (drop 1 slots) entries new producers waiting waiting' first_keeps each left_by)
+    pub AreTables-retired : (order : Buffer ℕ) (new : List Row) (table : List (Option ℕ)) (waiting' : ℕ) → order ≡ buffer (drop 1 indices) capacity →
+        EachChanges (Forgets index) rows new →
+        table ≡ with_producer row.destination (without index (producer_at producers row.destination)) producers →
+        waiting' + (if is_waiting row.mark then 1 else 0) ≡ waiting → AreTables order.capacity order.items new table waiting'
+    AreTables-retired order new table waiting' popped each dropped left =
+        let left_by : waiting' + (if is_waiting (row_at rows index).mark then 1 else 0) ≡ waiting = subst (λ (e : Row). waiting' + (if is_waiting e.mark then 1 else 0) ≡ waiting) retired_row left in
+        rw (popped, dropped, retired_row) (AreTables-rest capacity index (drop 1 indices) rows new producers waiting waiting' first_keeps each left_by)
 
-  pub seen-retired : (order : Buffer ℕ) (new : List Entry) → order ≡ buffer (drop 1 slots) window → EachChanges (Forgets slot) entries new →
+  pub seen-retired : (order : Buffer ℕ) (new : List Row) → order ≡ buffer (drop 1 indices) capacity → EachChanges (Forgets index) rows new →
       seen order.capacity order.items new ≡ record w { stations = drop 1 w.stations }
   seen-retired order new popped each =
       ap (λ (o : Buffer ℕ). seen o.capacity o.items new) popped
       ∙ (λ i. record {
-        window = window;
-        stations = (stations_behind window slot (drop 1 slots) entries new producers waiting waiting first_keeps each
-            ∙ sym (drop-map (λ s. station_in s (entry_at entries s)) 1 slots)) i;
+        capacity = capacity;
+        stations = (stations_behind capacity index (drop 1 indices) rows new producers waiting waiting first_keeps each
+            ∙ sym (drop-map (λ s. station_in s (row_at rows s)) 1 indices)) i;
       })
       ∙ ap (λ (v : Window). record v { stations = drop 1 v.stations }) is_seen

@@ -1,6 +1,6 @@
 pub mod Bits
 pub mod Turns
-pub mod Slots
+pub mod Indices
 pub mod Carried
 pub mod Marking
 pub mod Kept

@@ -7,124 +7,124 @@ use Rattle.std.proofs.lemmas.List.{get_or-set_same, get_or-set_other, get_or-rep
 use Rattle.reservation_stations.specs.declared.station.Mark.{Mark}
 use Rattle.reservation_stations.specs.declared.station.Mark.TheVariants.{Waiting, Issued, Done}
 use Rattle.reservation_stations.specs.declared.mask.Mask.{Mask}
-use Rattle.reservation_stations.specs.declared.entry.Entry.{Entry}
+use Rattle.reservation_stations.specs.declared.row.Row.{Row}
 use Rattle.reservation_stations.specs.Mask.{holds}
 use Rattle.reservation_stations.specs.Readiness.{is_waiting, is_issued, mark_of}
-use Rattle.reservation_stations.specs.Keeps.{Keeps, Each, entry_at, free_entry, stations_at}
-use Rattle.reservation_stations.specs.Covers.{AreCovered, dependents_of, depends, no_slots}
+use Rattle.reservation_stations.specs.AreTables.{AreTables, Each, row_at, free_row, stations_at}
+use Rattle.reservation_stations.specs.Covers.{AreCovered, dependents_of, depends, no_indices}
 use Rattle.reservation_stations.specs.Changes.{EachChanges}
 use Rattle.reservation_stations.specs.Places.{place_in, IsReady, IsIssued, AreTurned, HoldsPlaces, ArePlaced, KeepsReady, NotesReady}
-use Rattle.reservation_stations.proofs.Slots.{Each-front, Each-push}
+use Rattle.reservation_stations.proofs.Indices.{Each-front, Each-push}
 use Rattle.reservation_stations.proofs.Bits.{none_from_zeros}
 use Rattle.reservation_stations.proofs.Marking.{mark_of-held}
 
--- a slot has a place in the list, or none has it
-pub find_place : (slots : List ℕ) (slot : ℕ) → ((place : ℕ) × (slice_get slots place ≡ Some slot)) ⊎ Each (λ other. other ≢ slot) slots
-find_place [] slot = inr tt
-find_place (other ∷ slots) slot = elim (cases_eq other slot) [
+-- an index has a place in the list, or none has it
+pub find_place : (indices : List ℕ) (index : ℕ) → ((place : ℕ) × (slice_get indices place ≡ Some index)) ⊎ Each (λ other. other ≢ index) indices
+find_place [] index = inr tt
+find_place (other ∷ indices) index = elim (cases_eq other index) [
   | inl same ↦ inl (zero, ap Some same)
-  | inr differ ↦ elim (find_place slots slot) [ inl found ↦ inl (suc found.0, found.1) | inr none ↦ inr (differ, none) ]
+  | inr differ ↦ elim (find_place indices index) [ inl found ↦ inl (suc found.0, found.1) | inr none ↦ inr (differ, none) ]
 ]
 
-pub not_absent : (slots : List ℕ) (place slot : ℕ) → slice_get slots place ≡ Some slot → Each (λ other. other ≢ slot) slots → ⊥
-not_absent [] place slot there absent = cc
-not_absent (other ∷ slots) zero slot there absent = absent.0 (same_Some other slot there)
-not_absent (other ∷ slots) (suc place) slot there absent = not_absent slots place slot there absent.1
+pub not_absent : (indices : List ℕ) (place index : ℕ) → slice_get indices place ≡ Some index → Each (λ other. other ≢ index) indices → ⊥
+not_absent [] place index there absent = cc
+not_absent (other ∷ indices) zero index there absent = absent.0 (same_Some other index there)
+not_absent (other ∷ indices) (suc place) index there absent = not_absent indices place index there absent.1
 
-same_slot : (slots : List ℕ) (p q s t : ℕ) → p ≡ q → slice_get slots p ≡ Some s → slice_get slots q ≡ Some t → s ≡ t
-same_slot slots p q s t same here there = same_Some s t (sym here ∙ ap (slice_get slots) same ∙ there)
+same_index : (indices : List ℕ) (p q s t : ℕ) → p ≡ q → slice_get indices p ≡ Some s → slice_get indices q ≡ Some t → s ≡ t
+same_index indices p q s t same here there = same_Some s t (sym here ∙ ap (slice_get indices) same ∙ there)
 
--- one entry is another one
-module _ (entries : List Entry) (slot : ℕ) (entry : Entry) where
-  pub other_at : (s : ℕ) → s ≢ slot → entry_at (slice_set entries slot entry) s ≡ entry_at entries s
-  other_at s differ = get_or-set_other entries slot s entry free_entry differ
+-- one row is another one
+module _ (rows : List Row) (index : ℕ) (row : Row) where
+  pub other_at : (s : ℕ) → s ≢ index → row_at (slice_set rows index row) s ≡ row_at rows s
+  other_at s differ = get_or-set_other rows index s row free_row differ
 
-  pub mine_at : slot < length entries → entry_at (slice_set entries slot entry) slot ≡ entry
-  mine_at inside = get_or-set_same entries slot entry free_entry inside
+  pub mine_at : index < length rows → row_at (slice_set rows index row) index ≡ row
+  mine_at inside = get_or-set_same rows index row free_row inside
 
   -- with the same of something
-  kept_at : {X : Type 0} (f : Entry → X) → slot < length entries → f entry ≡ f (entry_at entries slot) → (s : ℕ) → f (entry_at (slice_set entries slot entry) s) ≡ f (entry_at entries s)
-  kept_at f inside same s = elim (cases_eq s slot) [
+  kept_at : {X : Type 0} (f : Row → X) → index < length rows → f row ≡ f (row_at rows index) → (s : ℕ) → f (row_at (slice_set rows index row) s) ≡ f (row_at rows s)
+  kept_at f inside same s = elim (cases_eq s index) [
     | inl is ↦ rw is (ap f (mine_at inside) ∙ same)
     | inr differ ↦ ap f (other_at s differ)
   ]
 
-  -- an entry with the same turn and mark
-  pub turned_kept : (retired : ℕ) → slot < length entries → entry.turn ≡ (entry_at entries slot).turn → entry.mark ≡ (entry_at entries slot).mark →
-      (slots : List ℕ) → AreTurned retired slots entries → AreTurned retired slots (slice_set entries slot entry)
-  turned_kept retired inside turn mark slots turned = record {
+  -- a row with the same turn and mark
+  pub turned_kept : (retired : ℕ) → index < length rows → row.turn ≡ (row_at rows index).turn → row.mark ≡ (row_at rows index).mark →
+      (indices : List ℕ) → AreTurned retired indices rows → AreTurned retired indices (slice_set rows index row)
+  turned_kept retired inside turn mark indices turned = record {
     places = λ p s there. ap (λ t. (t + (256 - retired)) % 256) (kept_at (λ e. e.turn) inside turn s) ∙ turned.places p s there;
     idle = λ s absent. ap is_waiting (kept_at (λ e. e.mark) inside mark s) ∙ turned.idle s absent;
   }
 
 -- what waits stands in the list
-pub waits_in : (retired : ℕ) (slots : List ℕ) (entries : List Entry) → AreTurned retired slots entries → (slot : ℕ) → is_waiting (entry_at entries slot).mark ≡ true →
-    (place : ℕ) × (slice_get slots place ≡ Some slot)
-waits_in retired slots entries turned slot waits = elim (find_place slots slot) [
+pub waits_in : (retired : ℕ) (indices : List ℕ) (rows : List Row) → AreTurned retired indices rows → (index : ℕ) → is_waiting (row_at rows index).mark ≡ true →
+    (place : ℕ) × (slice_get indices place ≡ Some index)
+waits_in retired indices rows turned index waits = elim (find_place indices index) [
   | inl found ↦ found
-  | inr absent ↦ let none = turned.idle slot absent in absurd cc
+  | inr absent ↦ let none = turned.idle index absent in absurd cc
 ]
 
--- an entry that waits for fewer, and its place where it can begin
-module _ (retired : ℕ) (entries : List Entry) (ready ready' : Mask) (slot : ℕ) (entry : Entry) (inside : slot < length entries)
-    (turn : entry.turn ≡ (entry_at entries slot).turn) (mark : entry.mark ≡ (entry_at entries slot).mark)
-    (fewer : (k : ℕ) → holds (entry_at entries slot).waits k ≡ false → holds entry.waits k ≡ false)
-    (notes : NotesReady retired entry ready ready') where
-  still_ready : IsReady (entry_at entries slot) → IsReady entry
+-- a row that waits for fewer, and its place where it can begin
+module _ (retired : ℕ) (rows : List Row) (ready ready' : Mask) (index : ℕ) (row : Row) (inside : index < length rows)
+    (turn : row.turn ≡ (row_at rows index).turn) (mark : row.mark ≡ (row_at rows index).mark)
+    (fewer : (k : ℕ) → holds (row_at rows index).waits k ≡ false → holds row.waits k ≡ false)
+    (notes : NotesReady retired row ready ready') where
+  still_ready : IsReady (row_at rows index) → IsReady row
   still_ready is = record { waits = ap is_waiting mark ∙ is.waits; nothing = λ k. fewer k (is.nothing k) }
 
-  its_place : (slots : List ℕ) → AreTurned retired slots entries → (p : ℕ) → slice_get slots p ≡ Some slot → place_in retired entry ≡ p
-  its_place slots turned p there = ap (λ t. (t + (256 - retired)) % 256) turn ∙ turned.places p slot there
+  its_place : (indices : List ℕ) → AreTurned retired indices rows → (p : ℕ) → slice_get indices p ≡ Some index → place_in retired row ≡ p
+  its_place indices turned p there = ap (λ t. (t + (256 - retired)) % 256) turn ∙ turned.places p index there
 
-  stands : (slots : List ℕ) → AreTurned retired slots entries → IsReady entry → (p : ℕ) × (slice_get slots p ≡ Some slot)
-  stands slots turned is = waits_in retired slots entries turned slot (ap is_waiting (sym mark) ∙ is.waits)
+  stands : (indices : List ℕ) → AreTurned retired indices rows → IsReady row → (p : ℕ) × (slice_get indices p ≡ Some index)
+  stands indices turned is = waits_in retired indices rows turned index (ap is_waiting (sym mark) ∙ is.waits)
 
-  ready_here : (slots : List ℕ) → AreTurned retired slots entries → HoldsPlaces IsReady slots entries ready → (p : ℕ) → slice_get slots p ≡ Some slot → (holds ready' p ≡ true) ↔ IsReady entry
-  ready_here slots turned held p there = (
-    λ is. elim ((notes p).0 is) [ inl was ↦ still_ready ((held.each p slot there).0 was) | inr now ↦ now.0 ],
-    λ is. (notes p).1 (inr (is, sym (its_place slots turned p there))),
+  ready_here : (indices : List ℕ) → AreTurned retired indices rows → HoldsPlaces IsReady indices rows ready → (p : ℕ) → slice_get indices p ≡ Some index → (holds ready' p ≡ true) ↔ IsReady row
+  ready_here indices turned held p there = (
+    λ is. elim ((notes p).0 is) [ inl was ↦ still_ready ((held.each p index there).0 was) | inr now ↦ now.0 ],
+    λ is. (notes p).1 (inr (is, sym (its_place indices turned p there))),
   )
 
-  ready_there : (slots : List ℕ) → AreTurned retired slots entries → HoldsPlaces IsReady slots entries ready → (p s : ℕ) → slice_get slots p ≡ Some s → s ≢ slot → (holds ready' p ≡ true) ↔ IsReady (entry_at entries s)
-  ready_there slots turned held p s there differ = (
+  ready_there : (indices : List ℕ) → AreTurned retired indices rows → HoldsPlaces IsReady indices rows ready → (p s : ℕ) → slice_get indices p ≡ Some s → s ≢ index → (holds ready' p ≡ true) ↔ IsReady (row_at rows s)
+  ready_there indices turned held p s there differ = (
     λ is. elim ((notes p).0 is) [
       | inl was ↦ (held.each p s there).0 was
       | inr now ↦
-          let at = stands slots turned now.0 in
-          absurd (differ (same_slot slots p at.0 s slot (now.1 ∙ its_place slots turned at.0 at.1) there at.1))
+          let at = stands indices turned now.0 in
+          absurd (differ (same_index indices p at.0 s index (now.1 ∙ its_place indices turned at.0 at.1) there at.1))
     ],
     λ is. (notes p).1 (inl ((held.each p s there).1 is)),
   )
 
-  pub ready_noted : KeepsReady retired entries ready (slice_set entries slot entry) ready'
+  pub ready_noted : KeepsReady retired rows ready (slice_set rows index row) ready'
   ready_noted = record {
-    turned = turned_kept entries slot entry retired inside turn mark;
-    readies = λ slots turned held. record {
-      each = λ p s there. elim (cases_eq s slot) [
+    turned = turned_kept rows index row retired inside turn mark;
+    readies = λ indices turned held. record {
+      each = λ p s there. elim (cases_eq s index) [
         | inl same ↦
-            let here : slice_get slots p ≡ Some slot = there ∙ ap Some same in
-            subst (λ (e : Entry). (holds ready' p ≡ true) ↔ IsReady e) (sym (ap (entry_at (slice_set entries slot entry)) same ∙ mine_at entries slot entry inside)) (ready_here slots turned held p here)
+            let here : slice_get indices p ≡ Some index = there ∙ ap Some same in
+            subst (λ (e : Row). (holds ready' p ≡ true) ↔ IsReady e) (sym (ap (row_at (slice_set rows index row)) same ∙ mine_at rows index row inside)) (ready_here indices turned held p here)
         | inr differ ↦
-            subst (λ (e : Entry). (holds ready' p ≡ true) ↔ IsReady e) (sym (other_at entries slot entry s differ)) (ready_there slots turned held p s there differ)
+            subst (λ (e : Row). (holds ready' p ≡ true) ↔ IsReady e) (sym (other_at rows index row s differ)) (ready_there indices turned held p s there differ)
       ];
       within = λ p is. elim ((notes p).0 is) [
         | inl was ↦ held.within p was
         | inr now ↦
-            let at = stands slots turned now.0 in
-            let here : p ≡ at.0 = now.1 ∙ its_place slots turned at.0 at.1 in
-            let inside_list = slice_get_within slots at.0 slot at.1 in
+            let at = stands indices turned now.0 in
+            let here : p ≡ at.0 = now.1 ∙ its_place indices turned at.0 at.1 in
+            let inside_list = slice_get_within indices at.0 index at.1 in
             omega (arith, here, inside_list)
       ];
     };
   }
 
-pub ready_same : (retired : ℕ) (entries : List Entry) (ready : Mask) → KeepsReady retired entries ready entries ready
-ready_same retired entries ready = record { turned = λ slots turned. turned; readies = λ slots turned held. held }
+pub ready_same : (retired : ℕ) (rows : List Row) (ready : Mask) → KeepsReady retired rows ready rows ready
+ready_same retired rows ready = record { turned = λ indices turned. turned; readies = λ indices turned held. held }
 
-pub ready_on : (retired : ℕ) (old mid new : List Entry) (first second third : Mask) → KeepsReady retired old first mid second → KeepsReady retired mid second new third → KeepsReady retired old first new third
+pub ready_on : (retired : ℕ) (old mid new : List Row) (first second third : Mask) → KeepsReady retired old first mid second → KeepsReady retired mid second new third → KeepsReady retired old first new third
 ready_on retired old mid new first second third one two = record {
-  turned = λ slots turned. two.turned slots (one.turned slots turned);
-  readies = λ slots turned held. two.readies slots (one.turned slots turned) (one.readies slots turned held);
+  turned = λ indices turned. two.turned indices (one.turned indices turned);
+  readies = λ indices turned held. two.readies indices (one.turned indices turned) (one.readies indices turned held);
 }
 
 -- what is held of fewer
@@ -132,38 +132,38 @@ pub fewer_held : (was here now : Bool) → now ≡ (was && not here) → was ≡
 fewer_held was here now is none = is ∙ ap (λ b. b && not here) none
 
 -- a record that has a mark stands in the list
-pub marked_in : (at : ℕ → Entry) (slots : List ℕ) (slot : ℕ) (mark : Mark) → mark_of slot (stations_at at slots) ≡ Some mark → (place : ℕ) × (slice_get slots place ≡ Some slot)
-marked_in at slots slot mark is = elim (find_place slots slot) [
+pub marked_in : (at : ℕ → Row) (indices : List ℕ) (index : ℕ) (mark : Mark) → mark_of index (stations_at at indices) ≡ Some mark → (place : ℕ) × (slice_get indices place ≡ Some index)
+marked_in at indices index mark is = elim (find_place indices index) [
   | inl found ↦ found
-  | inr absent ↦ absurd ((mark_of-held at (λ other. other ≢ slot) slots slot mark absent is).0 refl)
+  | inr absent ↦ absurd ((mark_of-held at (λ other. other ≢ index) indices index mark absent is).0 refl)
 ]
 
-differs : (slots : List ℕ) (p q s t : ℕ) → slice_get slots p ≡ Some s → slice_get slots q ≡ Some t → s ≢ t → p ≢ q
-differs slots p q s t here there apart same = apart (same_slot slots p q s t same here there)
+differs : (indices : List ℕ) (p q s t : ℕ) → slice_get indices p ≡ Some s → slice_get indices q ≡ Some t → s ≢ t → p ≢ q
+differs indices p q s t here there apart same = apart (same_index indices p q s t same here there)
 
 -- one record changes, at its place
-module _ (retired : ℕ) (slots : List ℕ) (entries : List Entry) (turned : AreTurned retired slots entries) (place slot : ℕ) (there : slice_get slots place ≡ Some slot) (entry : Entry) (inside : slot < length entries) where
-  turned_here : entry.turn ≡ (entry_at entries slot).turn → AreTurned retired slots (slice_set entries slot entry)
+module _ (retired : ℕ) (indices : List ℕ) (rows : List Row) (turned : AreTurned retired indices rows) (place index : ℕ) (there : slice_get indices place ≡ Some index) (row : Row) (inside : index < length rows) where
+  turned_here : row.turn ≡ (row_at rows index).turn → AreTurned retired indices (slice_set rows index row)
   turned_here turn = record {
-    places = λ p s at. ap (λ t. (t + (256 - retired)) % 256) (kept_at entries slot entry (λ e. e.turn) inside turn s) ∙ turned.places p s at;
-    idle = λ s absent. ap (λ (e : Entry). is_waiting e.mark) (other_at entries slot entry s (λ same. not_absent slots place s (there ∙ ap Some (sym same)) absent)) ∙ turned.idle s absent;
+    places = λ p s at. ap (λ t. (t + (256 - retired)) % 256) (kept_at rows index row (λ e. e.turn) inside turn s) ∙ turned.places p s at;
+    idle = λ s absent. ap (λ (e : Row). is_waiting e.mark) (other_at rows index row s (λ same. not_absent indices place s (there ∙ ap Some (sym same)) absent)) ∙ turned.idle s absent;
   }
 
-  holds_here : (Q : Entry → Type 0) (mask mask' : Mask) → HoldsPlaces Q slots entries mask → ((p : ℕ) → p ≢ place → holds mask' p ≡ holds mask p) → (holds mask' place ≡ true) ↔ Q entry →
-      HoldsPlaces Q slots (slice_set entries slot entry) mask'
+  holds_here : (Q : Row → Type 0) (mask mask' : Mask) → HoldsPlaces Q indices rows mask → ((p : ℕ) → p ≢ place → holds mask' p ≡ holds mask p) → (holds mask' place ≡ true) ↔ Q row →
+      HoldsPlaces Q indices (slice_set rows index row) mask'
   holds_here Q mask mask' held others here = record {
-    each = λ p s at. elim (cases_eq s slot) [
+    each = λ p s at. elim (cases_eq s index) [
       | inl same ↦
-          let same_place : p ≡ place = sym (turned.places p slot (at ∙ ap Some same)) ∙ turned.places place slot there in
-          let its : entry_at (slice_set entries slot entry) s ≡ entry = ap (entry_at (slice_set entries slot entry)) same ∙ mine_at entries slot entry inside in
-          subst (λ (e : Entry). (holds mask' p ≡ true) ↔ Q e) (sym its) (subst (λ q. (holds mask' q ≡ true) ↔ Q entry) (sym same_place) here)
+          let same_place : p ≡ place = sym (turned.places p index (at ∙ ap Some same)) ∙ turned.places place index there in
+          let its : row_at (slice_set rows index row) s ≡ row = ap (row_at (slice_set rows index row)) same ∙ mine_at rows index row inside in
+          subst (λ (e : Row). (holds mask' p ≡ true) ↔ Q e) (sym its) (subst (λ q. (holds mask' q ≡ true) ↔ Q row) (sym same_place) here)
       | inr differ ↦
           let was = held.each p s at in
-          let same : holds mask' p ≡ holds mask p = others p (differs slots p place s slot at there differ) in
-          subst (λ (e : Entry). (holds mask' p ≡ true) ↔ Q e) (sym (other_at entries slot entry s differ)) (λ is. was.0 (sym same ∙ is), λ is. same ∙ was.1 is)
+          let same : holds mask' p ≡ holds mask p = others p (differs indices p place s index at there differ) in
+          subst (λ (e : Row). (holds mask' p ≡ true) ↔ Q e) (sym (other_at rows index row s differ)) (λ is. was.0 (sym same ∙ is), λ is. same ∙ was.1 is)
     ];
     within = λ p is. elim (cases_eq p place) [
-      | inl same ↦ let within_list = slice_get_within slots place slot there in omega (arith, same, within_list)
+      | inl same ↦ let within_list = slice_get_within indices place index there in omega (arith, same, within_list)
       | inr differ ↦ held.within p (sym (others p differ) ∙ is)
     ];
   }
@@ -192,137 +192,137 @@ neither : {A : Type 0} (b : Bool) → b ≡ false → (A → ⊥) → (b ≡ tru
 neither b none never = (λ is. absurd cc, λ a. absurd (never a))
 
 -- it begins to execute
-pub issued_placed : (retired : ℕ) (slots : List ℕ) (entries : List Entry) (ready executing ready' executing' : Mask) (slot place : ℕ) (entry : Entry) →
-    ArePlaced retired slots entries ready executing → slot < length entries → entry ≡ entry_at entries slot → is_waiting entry.mark ≡ true → place ≡ place_in retired entry →
+pub issued_placed : (retired : ℕ) (indices : List ℕ) (rows : List Row) (ready executing ready' executing' : Mask) (index place : ℕ) (row : Row) →
+    ArePlaced retired indices rows ready executing → index < length rows → row ≡ row_at rows index → is_waiting row.mark ≡ true → place ≡ place_in retired row →
     ((p : ℕ) → holds ready' p ≡ (holds ready p && not (p == place))) → ((p : ℕ) → holds executing' p ≡ (holds executing p || (p == place))) →
-    ArePlaced retired slots (slice_set entries slot (record entry { mark = Issued })) ready' executing'
-issued_placed retired slots entries ready executing ready' executing' slot place entry placed inside read waits at out put =
-    let found = waits_in retired slots entries placed.turned slot (ap (λ (e : Entry). is_waiting e.mark) (sym read) ∙ waits) in
-    let here : found.0 ≡ place = sym (placed.turned.places found.0 slot found.1) ∙ ap (place_in retired) (sym read) ∙ sym at in
-    let there : slice_get slots place ≡ Some slot = ap (slice_get slots) (sym here) ∙ found.1 in
-    let new : Entry = record entry { mark = Issued } in
+    ArePlaced retired indices (slice_set rows index (record row { mark = Issued })) ready' executing'
+issued_placed retired indices rows ready executing ready' executing' index place row placed inside read waits at out put =
+    let found = waits_in retired indices rows placed.turned index (ap (λ (e : Row). is_waiting e.mark) (sym read) ∙ waits) in
+    let here : found.0 ≡ place = sym (placed.turned.places found.0 index found.1) ∙ ap (place_in retired) (sym read) ∙ sym at in
+    let there : slice_get indices place ≡ Some index = ap (slice_get indices) (sym here) ∙ found.1 in
+    let new : Row = record row { mark = Issued } in
     let own = eq-eqb place place refl in
     record {
-      turned = turned_here retired slots entries placed.turned place slot there new inside (ap (λ (e : Entry). e.turn) read);
-      readies = holds_here retired slots entries placed.turned place slot there new inside IsReady ready ready' placed.readies
+      turned = turned_here retired indices rows placed.turned place index there new inside (ap (λ (e : Row). e.turn) read);
+      readies = holds_here retired indices rows placed.turned place index there new inside IsReady ready ready' placed.readies
           (λ p differ. left_out (holds ready p) (p == place) (holds ready' p) (out p) (ne_eqb p place differ))
           (neither (holds ready' place) (taken_out (holds ready place) (place == place) (holds ready' place) (out place) own) (λ is. let w = is.waits in cc));
-      executes = holds_here retired slots entries placed.turned place slot there new inside IsIssued executing executing' placed.executes
+      executes = holds_here retired indices rows placed.turned place index there new inside IsIssued executing executing' placed.executes
           (λ p differ. not_put (holds executing p) (p == place) (holds executing' p) (put p) (ne_eqb p place differ))
           (λ is. refl, λ is. put_in (holds executing place) (place == place) (holds executing' place) (put place) own);
     }
 
 -- it is done
-pub woken_placed : (retired : ℕ) (slots : List ℕ) (entries : List Entry) (ready executing executing' : Mask) (slot place found : ℕ) (entry : Entry) (next : Mark) →
-    ArePlaced retired slots entries ready executing → slice_get slots found ≡ Some slot → slot < length entries → entry ≡ entry_at entries slot → entry.mark ≡ Issued →
-    is_waiting next ≡ false → is_issued next ≡ false → place ≡ place_in retired entry → ((p : ℕ) → holds executing' p ≡ (holds executing p && not (p == place))) →
-    ArePlaced retired slots (slice_set entries slot (record entry { mark = next })) ready executing'
-woken_placed retired slots entries ready executing executing' slot place found entry next placed at_found inside read issued no_wait no_issue at out =
-    let here : found ≡ place = sym (placed.turned.places found slot at_found) ∙ ap (place_in retired) (sym read) ∙ sym at in
-    let there : slice_get slots place ≡ Some slot = ap (slice_get slots) (sym here) ∙ at_found in
-    let new : Entry = record entry { mark = next } in
-    let was = placed.readies.each place slot there in
+pub woken_placed : (retired : ℕ) (indices : List ℕ) (rows : List Row) (ready executing executing' : Mask) (index place found : ℕ) (row : Row) (next : Mark) →
+    ArePlaced retired indices rows ready executing → slice_get indices found ≡ Some index → index < length rows → row ≡ row_at rows index → row.mark ≡ Issued →
+    is_waiting next ≡ false → is_issued next ≡ false → place ≡ place_in retired row → ((p : ℕ) → holds executing' p ≡ (holds executing p && not (p == place))) →
+    ArePlaced retired indices (slice_set rows index (record row { mark = next })) ready executing'
+woken_placed retired indices rows ready executing executing' index place found row next placed at_found inside read issued no_wait no_issue at out =
+    let here : found ≡ place = sym (placed.turned.places found index at_found) ∙ ap (place_in retired) (sym read) ∙ sym at in
+    let there : slice_get indices place ≡ Some index = ap (slice_get indices) (sym here) ∙ at_found in
+    let new : Row = record row { mark = next } in
+    let was = placed.readies.each place index there in
     let not_ready : holds ready place ≡ false = not_true (holds ready place) (λ is.
-    let w : is_waiting (entry_at entries slot).mark ≡ true = (was.0 is).waits in
-    let m : is_waiting (entry_at entries slot).mark ≡ false = ap (λ (e : Entry). is_waiting e.mark) (sym read) ∙ ap is_waiting issued in cc) in
+    let w : is_waiting (row_at rows index).mark ≡ true = (was.0 is).waits in
+    let m : is_waiting (row_at rows index).mark ≡ false = ap (λ (e : Row). is_waiting e.mark) (sym read) ∙ ap is_waiting issued in cc) in
     record {
-      turned = turned_here retired slots entries placed.turned place slot there new inside (ap (λ (e : Entry). e.turn) read);
-      readies = holds_here retired slots entries placed.turned place slot there new inside IsReady ready ready placed.readies
+      turned = turned_here retired indices rows placed.turned place index there new inside (ap (λ (e : Row). e.turn) read);
+      readies = holds_here retired indices rows placed.turned place index there new inside IsReady ready ready placed.readies
           (λ p differ. refl)
           (neither (holds ready place) not_ready (λ is. let w : is_waiting next ≡ true = is.waits in cc));
-      executes = holds_here retired slots entries placed.turned place slot there new inside IsIssued executing executing' placed.executes
+      executes = holds_here retired indices rows placed.turned place index there new inside IsIssued executing executing' placed.executes
           (λ p differ. left_out (holds executing p) (p == place) (holds executing' p) (out p) (ne_eqb p place differ))
           (neither (holds executing' place) (taken_out (holds executing place) (place == place) (holds executing' place) (out place) (eq-eqb place place refl)) (λ is. let w : is_issued next ≡ true = is in cc));
     }
 
--- entries that wait for fewer, with the marks that they had
-pub executes_kept : (slots : List ℕ) (old new : List Entry) (mask : Mask) → ((s : ℕ) → (entry_at new s).mark ≡ (entry_at old s).mark) → HoldsPlaces IsIssued slots old mask → HoldsPlaces IsIssued slots new mask
-executes_kept slots old new mask same held = record {
+-- rows that wait for fewer, with the marks that they had
+pub executes_kept : (indices : List ℕ) (old new : List Row) (mask : Mask) → ((s : ℕ) → (row_at new s).mark ≡ (row_at old s).mark) → HoldsPlaces IsIssued indices old mask → HoldsPlaces IsIssued indices new mask
+executes_kept indices old new mask same held = record {
   each = λ p s there. subst (λ m. (holds mask p ≡ true) ↔ (is_issued m ≡ true)) (sym (same s)) (held.each p s there);
   within = held.within;
 }
 
-pub each_mark : (R : Entry → Entry → Type 0) → ((a b : Entry) → R a b → b.mark ≡ a.mark) → (old new : List Entry) → EachChanges R old new → (s : ℕ) → (entry_at new s).mark ≡ (entry_at old s).mark
+pub each_mark : (R : Row → Row → Type 0) → ((a b : Row) → R a b → b.mark ≡ a.mark) → (old new : List Row) → EachChanges R old new → (s : ℕ) → (row_at new s).mark ≡ (row_at old s).mark
 each_mark R kept old new each s = elim (cases_lt s (length old)) [
-  | inl inside ↦ kept (entry_at old s) (entry_at new s) (each.each_entry s inside)
-  | inr past ↦ ap (λ (e : Entry). e.mark) (get_or_past new s free_entry (omega (arith, past, each.every_slot)) ∙ sym (get_or_past old s free_entry past))
+  | inl inside ↦ kept (row_at old s) (row_at new s) (each.each_row s inside)
+  | inr past ↦ ap (λ (e : Row). e.mark) (get_or_past new s free_row (omega (arith, past, each.every_index)) ∙ sym (get_or_past old s free_row past))
 ]
 
-pub freed_placed : (R : Entry → Entry → Type 0) → ((a b : Entry) → R a b → b.mark ≡ a.mark) → (retired : ℕ) (slots : List ℕ) (old new : List Entry) (ready executing ready' : Mask) →
-    ArePlaced retired slots old ready executing → EachChanges R old new → KeepsReady retired old ready new ready' → ArePlaced retired slots new ready' executing
-freed_placed R kept retired slots old new ready executing ready' placed each keeps = record {
-  turned = keeps.turned slots placed.turned;
-  readies = keeps.readies slots placed.turned placed.readies;
-  executes = executes_kept slots old new executing (each_mark R kept old new each) placed.executes;
+pub freed_placed : (R : Row → Row → Type 0) → ((a b : Row) → R a b → b.mark ≡ a.mark) → (retired : ℕ) (indices : List ℕ) (old new : List Row) (ready executing ready' : Mask) →
+    ArePlaced retired indices old ready executing → EachChanges R old new → KeepsReady retired old ready new ready' → ArePlaced retired indices new ready' executing
+freed_placed R kept retired indices old new ready executing ready' placed each keeps = record {
+  turned = keeps.turned indices placed.turned;
+  readies = keeps.readies indices placed.turned placed.readies;
+  executes = executes_kept indices old new executing (each_mark R kept old new each) placed.executes;
 }
 
--- the oldest retires, and its entry waits no more
-pub retired_placed : (retired slot : ℕ) (rest : List ℕ) (entries : List Entry) (ready executing ready' executing' : Mask) (entry : Entry) →
-    ArePlaced retired (slot ∷ rest) entries ready executing → retired < 256 → Each (λ other. other ≢ slot) rest → slot < length entries → is_waiting entry.mark ≡ false →
+-- the oldest retires, and its row waits no more
+pub retired_placed : (retired index : ℕ) (rest : List ℕ) (rows : List Row) (ready executing ready' executing' : Mask) (row : Row) →
+    ArePlaced retired (index ∷ rest) rows ready executing → retired < 256 → Each (λ other. other ≢ index) rest → index < length rows → is_waiting row.mark ≡ false →
     ((p : ℕ) → holds ready' p ≡ holds ready (p + 1)) → ((p : ℕ) → holds executing' p ≡ holds executing (p + 1)) →
-    ArePlaced ((retired + 1) % 256) rest (slice_set entries slot entry) ready' executing'
-retired_placed retired slot rest entries ready executing ready' executing' entry placed small apart inside idle ready_is executing_is =
-    let other : (p s : ℕ) → slice_get rest p ≡ Some s → s ≢ slot = λ p s there same. not_absent rest p slot (there ∙ ap Some same) apart in
-    let same_entry : (p s : ℕ) → slice_get rest p ≡ Some s → entry_at (slice_set entries slot entry) s ≡ entry_at entries s = λ p s there. other_at entries slot entry s (other p s there) in
-    let holds_rest : (Q : Entry → Type 0) (mask mask' : Mask) → HoldsPlaces Q (slot ∷ rest) entries mask → ((p : ℕ) → holds mask' p ≡ holds mask (p + 1)) → HoldsPlaces Q rest (slice_set entries slot entry) mask' =
+    ArePlaced ((retired + 1) % 256) rest (slice_set rows index row) ready' executing'
+retired_placed retired index rest rows ready executing ready' executing' row placed small apart inside idle ready_is executing_is =
+    let other : (p s : ℕ) → slice_get rest p ≡ Some s → s ≢ index = λ p s there same. not_absent rest p index (there ∙ ap Some same) apart in
+    let same_row : (p s : ℕ) → slice_get rest p ≡ Some s → row_at (slice_set rows index row) s ≡ row_at rows s = λ p s there. other_at rows index row s (other p s there) in
+    let holds_rest : (Q : Row → Type 0) (mask mask' : Mask) → HoldsPlaces Q (index ∷ rest) rows mask → ((p : ℕ) → holds mask' p ≡ holds mask (p + 1)) → HoldsPlaces Q rest (slice_set rows index row) mask' =
     λ Q mask mask' held is. record {
       each = λ p s there.
           let e : p + 1 ≡ suc p = omega arith in
           let was = held.each (suc p) s there in
           let same : holds mask' p ≡ holds mask (suc p) = is p ∙ ap (holds mask) e in
-          subst (λ (x : Entry). (holds mask' p ≡ true) ↔ Q x) (sym (same_entry p s there)) (λ h. was.0 (sym same ∙ h), λ h. same ∙ was.1 h);
+          subst (λ (x : Row). (holds mask' p ≡ true) ↔ Q x) (sym (same_row p s there)) (λ h. was.0 (sym same ∙ h), λ h. same ∙ was.1 h);
       within = λ p h. let w = held.within (p + 1) (sym (is p) ∙ h) in omega (arith, w);
     } in
     record {
       turned = record {
         places = λ p s there.
             let was = placed.turned.places (suc p) s there in
-            let now : ((entry_at entries s).turn + (256 - (retired + 1) % 256)) % 256 ≡ p = omega (arith, was, small) in
-            ap (place_in ((retired + 1) % 256)) (same_entry p s there) ∙ now;
-        idle = λ s absent. elim (cases_eq s slot) [
-          | inl same ↦ ap (λ k. is_waiting (entry_at (slice_set entries slot entry) k).mark) same ∙ ap (λ (e : Entry). is_waiting e.mark) (mine_at entries slot entry inside) ∙ idle
-          | inr differ ↦ ap (λ (e : Entry). is_waiting e.mark) (other_at entries slot entry s differ) ∙ placed.turned.idle s (λ same. differ (sym same), absent)
+            let now : ((row_at rows s).turn + (256 - (retired + 1) % 256)) % 256 ≡ p = omega (arith, was, small) in
+            ap (place_in ((retired + 1) % 256)) (same_row p s there) ∙ now;
+        idle = λ s absent. elim (cases_eq s index) [
+          | inl same ↦ ap (λ k. is_waiting (row_at (slice_set rows index row) k).mark) same ∙ ap (λ (e : Row). is_waiting e.mark) (mine_at rows index row inside) ∙ idle
+          | inr differ ↦ ap (λ (e : Row). is_waiting e.mark) (other_at rows index row s differ) ∙ placed.turned.idle s (λ same. differ (sym same), absent)
         ];
       };
       readies = holds_rest IsReady ready ready' placed.readies ready_is;
       executes = holds_rest IsIssued executing executing' placed.executes executing_is;
     }
 
-front_at : (front : List ℕ) (slot p s : ℕ) → slice_get front p ≡ Some s → slice_get (front ++ slot ∷ []) p ≡ Some s
-front_at [] slot p s there = absurd cc
-front_at (other ∷ front) slot zero s there = there
-front_at (other ∷ front) slot (suc p) s there = front_at front slot p s there
+front_at : (front : List ℕ) (index p s : ℕ) → slice_get front p ≡ Some s → slice_get (front ++ index ∷ []) p ≡ Some s
+front_at [] index p s there = absurd cc
+front_at (other ∷ front) index zero s there = there
+front_at (other ∷ front) index (suc p) s there = front_at front index p s there
 
--- the youngest is cut, and its entry waits no more
-pub cut_placed : (retired slot place : ℕ) (front : List ℕ) (entries : List Entry) (ready executing ready' executing' : Mask) (entry : Entry) →
-    ArePlaced retired (front ++ slot ∷ []) entries ready executing → Each (λ other. other ≢ slot) front → slot < length entries → is_waiting entry.mark ≡ false → place ≡ length front →
+-- the youngest is cut, and its row waits no more
+pub cut_placed : (retired index place : ℕ) (front : List ℕ) (rows : List Row) (ready executing ready' executing' : Mask) (row : Row) →
+    ArePlaced retired (front ++ index ∷ []) rows ready executing → Each (λ other. other ≢ index) front → index < length rows → is_waiting row.mark ≡ false → place ≡ length front →
     ((p : ℕ) → holds ready' p ≡ (holds ready p && not (p == place))) → ((p : ℕ) → holds executing' p ≡ (holds executing p && not (p == place))) →
-    ArePlaced retired front (slice_set entries slot entry) ready' executing'
-cut_placed retired slot place front entries ready executing ready' executing' entry placed apart inside idle last ready_is executing_is =
-    let other : (p s : ℕ) → slice_get front p ≡ Some s → s ≢ slot = λ p s there same. not_absent front p slot (there ∙ ap Some same) apart in
-    let same_entry : (p s : ℕ) → slice_get front p ≡ Some s → entry_at (slice_set entries slot entry) s ≡ entry_at entries s = λ p s there. other_at entries slot entry s (other p s there) in
-    let holds_front : (Q : Entry → Type 0) (mask mask' : Mask) → HoldsPlaces Q (front ++ slot ∷ []) entries mask → ((p : ℕ) → holds mask' p ≡ (holds mask p && not (p == place))) → HoldsPlaces Q front (slice_set entries slot entry) mask' =
+    ArePlaced retired front (slice_set rows index row) ready' executing'
+cut_placed retired index place front rows ready executing ready' executing' row placed apart inside idle last ready_is executing_is =
+    let other : (p s : ℕ) → slice_get front p ≡ Some s → s ≢ index = λ p s there same. not_absent front p index (there ∙ ap Some same) apart in
+    let same_row : (p s : ℕ) → slice_get front p ≡ Some s → row_at (slice_set rows index row) s ≡ row_at rows s = λ p s there. other_at rows index row s (other p s there) in
+    let holds_front : (Q : Row → Type 0) (mask mask' : Mask) → HoldsPlaces Q (front ++ index ∷ []) rows mask → ((p : ℕ) → holds mask' p ≡ (holds mask p && not (p == place))) → HoldsPlaces Q front (slice_set rows index row) mask' =
     λ Q mask mask' held is. record {
       each = λ p s there.
           let before = slice_get_within front p s there in
-          let was = held.each p s (front_at front slot p s there) in
+          let was = held.each p s (front_at front index p s there) in
           let same : holds mask' p ≡ holds mask p = left_out (holds mask p) (p == place) (holds mask' p) (is p) (ne_eqb p place (λ e. omega (arith, e, last, before))) in
-          subst (λ (x : Entry). (holds mask' p ≡ true) ↔ Q x) (sym (same_entry p s there)) (λ h. was.0 (sym same ∙ h), λ h. same ∙ was.1 h);
+          subst (λ (x : Row). (holds mask' p ≡ true) ↔ Q x) (sym (same_row p s there)) (λ h. was.0 (sym same ∙ h), λ h. same ∙ was.1 h);
       within = λ p h.
           elim (cases_eq p place) [
             | inl same ↦ let gone = taken_out (holds mask p) (p == place) (holds mask' p) (is p) (eq-eqb p place same) in absurd cc
             | inr differ ↦
                 let w = held.within p (sym (left_out (holds mask p) (p == place) (holds mask' p) (is p) (ne_eqb p place differ)) ∙ h) in
-                omega (arith, w, length-append front (slot ∷ []), last, differ)
+                omega (arith, w, length-append front (index ∷ []), last, differ)
           ];
     } in
     record {
       turned = record {
-        places = λ p s there. ap (place_in retired) (same_entry p s there) ∙ placed.turned.places p s (front_at front slot p s there);
-        idle = λ s absent. elim (cases_eq s slot) [
-          | inl same ↦ ap (λ k. is_waiting (entry_at (slice_set entries slot entry) k).mark) same ∙ ap (λ (e : Entry). is_waiting e.mark) (mine_at entries slot entry inside) ∙ idle
-          | inr differ ↦ ap (λ (e : Entry). is_waiting e.mark) (other_at entries slot entry s differ)
-              ∙ placed.turned.idle s (Each-push (λ o. o ≢ s) front slot absent (λ same. differ (sym same)))
+        places = λ p s there. ap (place_in retired) (same_row p s there) ∙ placed.turned.places p s (front_at front index p s there);
+        idle = λ s absent. elim (cases_eq s index) [
+          | inl same ↦ ap (λ k. is_waiting (row_at (slice_set rows index row) k).mark) same ∙ ap (λ (e : Row). is_waiting e.mark) (mine_at rows index row inside) ∙ idle
+          | inr differ ↦ ap (λ (e : Row). is_waiting e.mark) (other_at rows index row s differ)
+              ∙ placed.turned.idle s (Each-push (λ o. o ≢ s) front index absent (λ same. differ (sym same)))
         ];
       };
       readies = holds_front IsReady ready ready' placed.readies ready_is;
@@ -330,43 +330,43 @@ cut_placed retired slot place front entries ready executing ready' executing' en
     }
 
 -- a record enters behind the others
-pushed_at : (slots : List ℕ) (slot p s : ℕ) → slice_get (slots ++ slot ∷ []) p ≡ Some s → (slice_get slots p ≡ Some s) ⊎ ((p ≡ length slots) × (s ≡ slot))
-pushed_at [] slot zero s there = inr (refl, sym (same_Some slot s there))
-pushed_at [] slot (suc p) s there = absurd cc
-pushed_at (other ∷ slots) slot zero s there = inl there
-pushed_at (other ∷ slots) slot (suc p) s there = elim (pushed_at slots slot p s there) [ inl was ↦ inl was | inr now ↦ inr (ap suc now.0, now.1) ]
+pushed_at : (indices : List ℕ) (index p s : ℕ) → slice_get (indices ++ index ∷ []) p ≡ Some s → (slice_get indices p ≡ Some s) ⊎ ((p ≡ length indices) × (s ≡ index))
+pushed_at [] index zero s there = inr (refl, sym (same_Some index s there))
+pushed_at [] index (suc p) s there = absurd cc
+pushed_at (other ∷ indices) index zero s there = inl there
+pushed_at (other ∷ indices) index (suc p) s there = elim (pushed_at indices index p s there) [ inl was ↦ inl was | inr now ↦ inr (ap suc now.0, now.1) ]
 
-pub entered_placed : (retired slot : ℕ) (slots : List ℕ) (entries : List Entry) (ready executing ready' : Mask) (entry : Entry) →
-    ArePlaced retired slots entries ready executing → retired < 256 → length slots < 256 → Each (λ other. other ≢ slot) slots → slot < length entries → entry.mark ≡ Waiting →
-    entry.turn ≡ (retired + length slots) % 256 → NotesReady retired entry ready ready' →
-    ArePlaced retired (slots ++ slot ∷ []) (slice_set entries slot entry) ready' executing
-entered_placed retired slot slots entries ready executing ready' entry placed small few apart inside waits turn notes =
-    let new = slice_set entries slot entry in
-    let other : (p s : ℕ) → slice_get slots p ≡ Some s → entry_at new s ≡ entry_at entries s = λ p s there. other_at entries slot entry s (λ same. not_absent slots p slot (there ∙ ap Some same) apart) in
-    let mine : (s : ℕ) → s ≡ slot → entry_at new s ≡ entry = λ s same. ap (entry_at new) same ∙ mine_at entries slot entry inside in
-    let its_place : place_in retired entry ≡ length slots = let sum = turn in omega (arith, sum, small, few) in
-    let long : length (slots ++ slot ∷ []) ≡ length slots + 1 = omega (arith, length-append slots (slot ∷ [])) in
+pub entered_placed : (retired index : ℕ) (indices : List ℕ) (rows : List Row) (ready executing ready' : Mask) (row : Row) →
+    ArePlaced retired indices rows ready executing → retired < 256 → length indices < 256 → Each (λ other. other ≢ index) indices → index < length rows → row.mark ≡ Waiting →
+    row.turn ≡ (retired + length indices) % 256 → NotesReady retired row ready ready' →
+    ArePlaced retired (indices ++ index ∷ []) (slice_set rows index row) ready' executing
+entered_placed retired index indices rows ready executing ready' row placed small few apart inside waits turn notes =
+    let new = slice_set rows index row in
+    let other : (p s : ℕ) → slice_get indices p ≡ Some s → row_at new s ≡ row_at rows s = λ p s there. other_at rows index row s (λ same. not_absent indices p index (there ∙ ap Some same) apart) in
+    let mine : (s : ℕ) → s ≡ index → row_at new s ≡ row = λ s same. ap (row_at new) same ∙ mine_at rows index row inside in
+    let its_place : place_in retired row ≡ length indices = let sum = turn in omega (arith, sum, small, few) in
+    let long : length (indices ++ index ∷ []) ≡ length indices + 1 = omega (arith, length-append indices (index ∷ [])) in
     record {
       turned = record {
-        places = λ p s there. elim (pushed_at slots slot p s there) [
+        places = λ p s there. elim (pushed_at indices index p s there) [
           | inl was ↦ ap (place_in retired) (other p s was) ∙ placed.turned.places p s was
           | inr now ↦ ap (place_in retired) (mine s now.1) ∙ its_place ∙ sym now.0
         ];
         idle = λ s absent.
-            let front = Each-front (λ o. o ≢ s) slots slot absent in
-            ap (λ (e : Entry). is_waiting e.mark) (other_at entries slot entry s (λ same. front.1 (sym same))) ∙ placed.turned.idle s front.0;
+            let front = Each-front (λ o. o ≢ s) indices index absent in
+            ap (λ (e : Row). is_waiting e.mark) (other_at rows index row s (λ same. front.1 (sym same))) ∙ placed.turned.idle s front.0;
       };
       readies = record {
-        each = λ p s there. elim (pushed_at slots slot p s there) [
+        each = λ p s there. elim (pushed_at indices index p s there) [
           | inl was ↦
-              let before = slice_get_within slots p s was in
+              let before = slice_get_within indices p s was in
               let held = placed.readies.each p s was in
-              subst (λ (e : Entry). (holds ready' p ≡ true) ↔ IsReady e) (sym (other p s was)) (
+              subst (λ (e : Row). (holds ready' p ≡ true) ↔ IsReady e) (sym (other p s was)) (
                 λ is. elim ((notes p).0 is) [ inl old ↦ held.0 old | inr now ↦ absurd (omega (arith, now.1, its_place, before)) ],
                 λ is. (notes p).1 (inl (held.1 is)),
               )
           | inr now ↦
-              subst (λ (e : Entry). (holds ready' p ≡ true) ↔ IsReady e) (sym (mine s now.1)) (
+              subst (λ (e : Row). (holds ready' p ≡ true) ↔ IsReady e) (sym (mine s now.1)) (
                 λ is. elim ((notes p).0 is) [ inl old ↦ absurd (let w = placed.readies.within p old in omega (arith, w, now.0)) | inr noted ↦ noted.0 ],
                 λ is. (notes p).1 (inr (is, now.0 ∙ sym its_place)),
               )
@@ -377,10 +377,10 @@ entered_placed retired slot slots entries ready executing ready' entry placed sm
         ];
       };
       executes = record {
-        each = λ p s there. elim (pushed_at slots slot p s there) [
-          | inl was ↦ subst (λ (e : Entry). (holds executing p ≡ true) ↔ IsIssued e) (sym (other p s was)) (placed.executes.each p s was)
+        each = λ p s there. elim (pushed_at indices index p s there) [
+          | inl was ↦ subst (λ (e : Row). (holds executing p ≡ true) ↔ IsIssued e) (sym (other p s was)) (placed.executes.each p s was)
           | inr now ↦
-              subst (λ (e : Entry). (holds executing p ≡ true) ↔ IsIssued e) (sym (mine s now.1)) (
+              subst (λ (e : Row). (holds executing p ≡ true) ↔ IsIssued e) (sym (mine s now.1)) (
                 λ is. absurd (let w = placed.executes.within p is in omega (arith, w, now.0)),
                 λ is. absurd (let w : is_issued Waiting ≡ true = ap is_issued (sym waits) ∙ is in cc),
               )
@@ -390,63 +390,63 @@ entered_placed retired slot slots entries ready executing ready' entry placed sm
     }
 
 -- at the start there is none
-pub none_placed : (entries : List Entry) (ready executing : Mask) → ((slot : ℕ) → is_waiting (entry_at entries slot).mark ≡ false) →
-    ((p : ℕ) → holds ready p ≡ false) → ((p : ℕ) → holds executing p ≡ false) → ArePlaced 0 [] entries ready executing
-none_placed entries ready executing idle no_ready no_executing = record {
+pub none_placed : (rows : List Row) (ready executing : Mask) → ((index : ℕ) → is_waiting (row_at rows index).mark ≡ false) →
+    ((p : ℕ) → holds ready p ≡ false) → ((p : ℕ) → holds executing p ≡ false) → ArePlaced 0 [] rows ready executing
+none_placed rows ready executing idle no_ready no_executing = record {
   turned = record { places = λ p s there. absurd cc; idle = λ s absent. idle s };
   readies = record { each = λ p s there. absurd cc; within = λ p is. absurd (let off = no_ready p in cc) };
   executes = record { each = λ p s there. absurd cc; within = λ p is. absurd (let off = no_executing p in cc) };
 }
 
-pub free_idle : (n : ℕ) (entry : Entry) → entry.mark ≡ Done → (slot : ℕ) → is_waiting (entry_at (replicate n entry) slot).mark ≡ false
-free_idle n entry done slot = elim (cases_lt slot n) [
-  | inl inside ↦ ap (λ (e : Entry). is_waiting e.mark) (get_or-replicate n slot entry free_entry inside) ∙ ap is_waiting done
-  | inr past ↦ ap (λ (e : Entry). is_waiting e.mark) (get_or_past (replicate n entry) slot free_entry (omega (arith, past, length-replicate n entry)))
+pub free_idle : (n : ℕ) (row : Row) → row.mark ≡ Done → (index : ℕ) → is_waiting (row_at (replicate n row) index).mark ≡ false
+free_idle n row done index = elim (cases_lt index n) [
+  | inl inside ↦ ap (λ (e : Row). is_waiting e.mark) (get_or-replicate n index row free_row inside) ∙ ap is_waiting done
+  | inr past ↦ ap (λ (e : Row). is_waiting e.mark) (get_or_past (replicate n row) index free_row (omega (arith, past, length-replicate n row)))
 ]
 
 -- behind the list there is none
-pub none_on : (Q : Entry → Type 0) (slots : List ℕ) (entries : List Entry) (mask : Mask) → HoldsPlaces Q slots entries mask → (o : Option ℕ) (from upto : ℕ) → upto ≡ length slots →
+pub none_on : (Q : Row → Type 0) (indices : List ℕ) (rows : List Row) (mask : Mask) → HoldsPlaces Q indices rows mask → (o : Option ℕ) (from upto : ℕ) → upto ≡ length indices →
     IfNone o ((k : ℕ) → from ≤ k → k < upto → holds mask k ≡ false) → IfNone o ((k : ℕ) → from ≤ k → holds mask k ≡ false)
-none_on Q slots entries mask held (Some found) from upto all none = tt
-none_on Q slots entries mask held None from upto all none = λ k behind. elim (cases_lt k upto) [
+none_on Q indices rows mask held (Some found) from upto all none = tt
+none_on Q indices rows mask held None from upto all none = λ k behind. elim (cases_lt k upto) [
   | inl inside ↦ none k behind inside
   | inr past ↦ not_true (holds mask k) (λ is. let w = held.within k is in omega (arith, w, past, all))
 ]
 
 -- what stands for no record
-pub Keeps_none : (window : ℕ) (entry : Entry) → window ≤ 256 → Keeps window [] (replicate window entry) (replicate 256 None) 0
-Keeps_none window entry limit = record {
+pub Keeps_none : (capacity : ℕ) (row : Row) → capacity ≤ 256 → AreTables capacity [] (replicate capacity row) (replicate 256 None) 0
+Keeps_none capacity row limit = record {
   limit = limit;
   within = tt;
   distinct = tt;
-  every_slot = length-replicate window entry;
-  each_entry = tt;
+  every_index = length-replicate capacity row;
+  each_row = tt;
   every_register = length-replicate {A = Option ℕ} 256 None;
   each_producer = λ register within. get_or-replicate {A = Option ℕ} 256 register None None within;
   count = refl;
 }
 
-mask_of : (n slot : ℕ) (mask : Mask) → (dependents_of (replicate n mask) slot ≡ mask) ⊎ (dependents_of (replicate n mask) slot ≡ no_slots)
-mask_of n slot mask = elim (cases_lt slot n) [
-  | inl inside ↦ inl (get_or-replicate n slot mask no_slots inside)
-  | inr past ↦ inr (get_or_past (replicate n mask) slot no_slots (omega (arith, past, length-replicate n mask)))
+mask_of : (n index : ℕ) (mask : Mask) → (dependents_of (replicate n mask) index ≡ mask) ⊎ (dependents_of (replicate n mask) index ≡ no_indices)
+mask_of n index mask = elim (cases_lt index n) [
+  | inl inside ↦ inl (get_or-replicate n index mask no_indices inside)
+  | inr past ↦ inr (get_or_past (replicate n mask) index no_indices (omega (arith, past, length-replicate n mask)))
 ]
 
-depends_none : (n other slot : ℕ) (mask : Mask) → ((k : ℕ) → holds mask k ≡ false) → depends (replicate n mask) other slot ≡ false
-depends_none n other slot mask empty = elim (mask_of n other mask) [
-  | inl is ↦ ap (λ (m : Mask). holds m slot) is ∙ empty slot
-  | inr is ↦ ap (λ (m : Mask). holds m slot) is ∙ none_from_zeros no_slots.words (λ k within. get_or-replicate 4 k 0 0 within) refl slot
+depends_none : (n other index : ℕ) (mask : Mask) → ((k : ℕ) → holds mask k ≡ false) → depends (replicate n mask) other index ≡ false
+depends_none n other index mask empty = elim (mask_of n other mask) [
+  | inl is ↦ ap (λ (m : Mask). holds m index) is ∙ empty index
+  | inr is ↦ ap (λ (m : Mask). holds m index) is ∙ none_from_zeros no_indices.words (λ k within. get_or-replicate 4 k 0 0 within) refl index
 ]
 
-pub covers_none : (window : ℕ) (entry : Entry) (mask : Mask) → entry.displaced ≡ None → ((k : ℕ) → holds entry.waits k ≡ false) → ((k : ℕ) → holds mask k ≡ false) →
-    AreCovered (replicate window entry) (replicate window mask)
-covers_none window entry mask displaced waits empty = record {
-  every_slot = length-replicate window mask ∙ sym (length-replicate window entry);
-  within = λ other slot is. absurd (let off = depends_none window other slot mask empty in cc);
-  waits = λ slot other inside is. absurd (
-      let its : entry_at (replicate window entry) slot ≡ entry = get_or-replicate window slot entry free_entry (omega (arith, inside, length-replicate window entry)) in
-      let off = ap (λ (e : Entry). holds e.waits other) its ∙ waits other in cc);
-  displaced = λ slot other inside is. absurd (
-      let its : entry_at (replicate window entry) slot ≡ entry = get_or-replicate window slot entry free_entry (omega (arith, inside, length-replicate window entry)) in
-      let off = ap (λ (e : Entry). e.displaced) its ∙ displaced in cc);
+pub covers_none : (capacity : ℕ) (row : Row) (mask : Mask) → row.displaced ≡ None → ((k : ℕ) → holds row.waits k ≡ false) → ((k : ℕ) → holds mask k ≡ false) →
+    AreCovered (replicate capacity row) (replicate capacity mask)
+covers_none capacity row mask displaced waits empty = record {
+  every_index = length-replicate capacity mask ∙ sym (length-replicate capacity row);
+  within = λ other index is. absurd (let off = depends_none capacity other index mask empty in cc);
+  waits = λ index other inside is. absurd (
+      let its : row_at (replicate capacity row) index ≡ row = get_or-replicate capacity index row free_row (omega (arith, inside, length-replicate capacity row)) in
+      let off = ap (λ (e : Row). holds e.waits other) its ∙ waits other in cc);
+  displaced = λ index other inside is. absurd (
+      let its : row_at (replicate capacity row) index ≡ row = get_or-replicate capacity index row free_row (omega (arith, inside, length-replicate capacity row)) in
+      let off = ap (λ (e : Row). e.displaced) its ∙ displaced in cc);
 }

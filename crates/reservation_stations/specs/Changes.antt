@@ -1,34 +1,34 @@
--- How single entries and the table of producers change.
+-- How single rows and the table of producers change.
 use Rattle.std.specs.Prelude.{◌≡◌, ℕ, ◌<◌, ◌&&◌, ◌==◌, not, if◌then◌else◌, Option, Some, None, List, length, slice_set, get_or}
-use Rattle.reservation_stations.specs.declared.entry.Entry.{Entry}
+use Rattle.reservation_stations.specs.declared.row.Row.{Row}
 use Rattle.reservation_stations.specs.Mask.{holds}
-use Rattle.reservation_stations.specs.Keeps.{entry_at}
+use Rattle.reservation_stations.specs.AreTables.{row_at}
 
--- the slot, where it isn't this one
+-- the index, where it isn't this one
 abbrev pub without : ℕ → Option ℕ → Option ℕ
-without slot None = None
-without slot (Some other) = if other == slot then None else Some other
+without index None = None
+without index (Some other) = if other == index then None else Some other
 
--- the entry no longer waits for a slot
-pub record Releases (slot : ℕ) (old new : Entry) : Type 0 where
+-- the row no longer waits for an index
+pub record Releases (index : ℕ) (old new : Row) : Type 0 where
   pub kept : record new { waits = old.waits } ≡ old
-  pub waits : (other : ℕ) → holds new.waits other ≡ (holds old.waits other && not (other == slot))
+  pub waits : (other : ℕ) → holds new.waits other ≡ (holds old.waits other && not (other == index))
 
 -- nor does it know it as the one that it displaced
-pub record Forgets (slot : ℕ) (old new : Entry) : Type 0 where
+pub record Forgets (index : ℕ) (old new : Row) : Type 0 where
   pub kept : record new { waits = old.waits; displaced = old.displaced } ≡ old
-  pub waits : (other : ℕ) → holds new.waits other ≡ (holds old.waits other && not (other == slot))
-  pub displaced : new.displaced ≡ without slot old.displaced
+  pub waits : (other : ℕ) → holds new.waits other ≡ (holds old.waits other && not (other == index))
+  pub displaced : new.displaced ≡ without index old.displaced
 
--- each entry changes so
-pub record EachChanges (R : Entry → Entry → Type 0) (old new : List Entry) : Type 0 where
-  pub every_slot : length new ≡ length old
-  pub each_entry : (slot : ℕ) → slot < length old → R (entry_at old slot) (entry_at new slot)
+-- each row changes so
+pub record EachChanges (R : Row → Row → Type 0) (old new : List Row) : Type 0 where
+  pub every_index : length new ≡ length old
+  pub each_row : (index : ℕ) → index < length old → R (row_at old index) (row_at new index)
 
 -- the producers with another one of a register, if one is given
 abbrev pub with_producer : Option ℕ → Option ℕ → List (Option ℕ) → List (Option ℕ)
-with_producer None slot producers = producers
-with_producer (Some register) slot producers = slice_set producers register slot
+with_producer None index producers = producers
+with_producer (Some register) index producers = slice_set producers register index
 
 -- the producer of a register, if one is given
 abbrev pub producer_at : List (Option ℕ) → Option ℕ → Option ℕ

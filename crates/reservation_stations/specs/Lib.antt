@@ -1,6 +1,6 @@
 pub mod Readiness
 pub mod Mask
-pub mod Keeps
+pub mod AreTables
 pub mod Changes
 pub mod Covers
 pub mod Places

@@ -5,9 +5,9 @@ use Rattle.reservation_stations.specs.declared.station.Mark.{Mark}
 use Rattle.reservation_stations.specs.declared.station.Mark.TheVariants.{Waiting, Issued, Done, Faulted}
 use Rattle.reservation_stations.specs.declared.station.Station.{Station}
 
--- how many slots there are, and the records of the instructions under way, the oldest first
+-- how many indices there are, and the records of the instructions under way, the oldest first
 pub record Window : Type 0 where
-  pub window : ℕ
+  pub capacity : ℕ
   pub stations : List Station
 
 -- whether a record waits, and whether its destination has a value
@@ -70,30 +70,30 @@ executes (Some station) = is_issued station.mark
 abbrev pub executes_at : List Station → ℕ → Bool
 executes_at stations place = executes (slice_get stations place)
 
--- the record that holds a slot, and its mark
+-- the record that holds an index, and its mark
 abbrev pub station_of : ℕ → List Station → Option Station
-station_of slot stations = find (λ station. station.slot == slot) stations
+station_of index stations = find (λ station. station.index == index) stations
 
 abbrev pub mark_of : ℕ → List Station → Option Mark
-mark_of slot stations = option_map (λ (station : Station). station.mark) (station_of slot stations)
+mark_of index stations = option_map (λ (station : Station). station.mark) (station_of index stations)
 
--- the slots of the oldest and of the youngest record
-abbrev pub oldest_slot : List Station → Option ℕ
-oldest_slot stations = option_map (λ (station : Station). station.slot) (slice_get stations 0)
+-- the indices of the oldest and of the youngest record
+abbrev pub oldest_index : List Station → Option ℕ
+oldest_index stations = option_map (λ (station : Station). station.index) (slice_get stations 0)
 
-abbrev pub youngest_slot : List Station → Option ℕ
-youngest_slot stations = option_map (λ (station : Station). station.slot) (slice_get stations (length stations - 1))
+abbrev pub youngest_index : List Station → Option ℕ
+youngest_index stations = option_map (λ (station : Station). station.index) (slice_get stations (length stations - 1))
 
--- a record, and all of them, with another mark on the one that holds a slot
+-- a record, and all of them, with another mark on the one that holds an index
 abbrev pub marked_if : ℕ → Mark → Station → Station
-marked_if slot mark station = if station.slot == slot then record station { mark = mark } else station
+marked_if index mark station = if station.index == index then record station { mark = mark } else station
 
 abbrev pub marked : ℕ → Mark → List Station → List Station
-marked slot mark stations = map (marked_if slot mark) stations
+marked index mark stations = map (marked_if index mark) stations
 
 -- a record as it enters
 abbrev pub entered : ℕ → Option ℕ → Option ℕ → Option ℕ → Station
-entered slot first second destination = record { slot = slot; first = first; second = second; destination = destination; mark = Waiting }
+entered index first second destination = record { index = index; first = first; second = second; destination = destination; mark = Waiting }
 
 -- how many records wait
 abbrev pub waiting_count : List Station → ℕ

@@ -1,8 +1,8 @@
 //! The reservation stations of the timing side: which instructions of the window wait for an operand, and which can begin.
 #![tactic(auto)]
 
-mod entry;
 mod mask;
+mod row;
 mod station;
 mod stations;
 mod tables;

@@ -1,45 +1,45 @@
-//! A set of slots, or of places, in four words.
+//! A set of indices, or of places, in four words.
 ghost use Rattle.std.specs.Prelude.{◌≡◌, ◌↔◌, ◌+◌, ◌/◌, ◌%◌, ◌*◌, ◌^◌, ◌<◌, ◌≤◌, ◌==◌, ◌&&◌, ◌||◌, not, ℕ, IsTrue, false};
 ghost use Rattle.std.specs.Prelude.{IfSome, IfNone};
 ghost use Rattle.std.specs.Int.{bit_at};
 ghost use Rattle.std.specs.Option.{ForSome};
-ghost use Rattle.reservation_stations.specs.Mask.{holds, is_slot};
+ghost use Rattle.reservation_stations.specs.Mask.{holds, is_index};
 
-/// A set of slots or of places, each below 256: bit `slot % 64` of word `slot / 64`.
+/// A set of indices or of places, each below 256: bit `index % 64` of word `index / 64`.
 #[derive(Clone, Copy, Debug, PartialEq, Eq)]
 pub struct Mask {
     words: [u64; 4],
 }
 
 impl Mask {
-    /// No slot.
+    /// No index.
     pub fn none() -> Mask
-        ensures none { (slot : ℕ) → holds result slot ≡ false }
+        ensures none { (index : ℕ) → holds result index ≡ false }
     {
         Mask { words: [0; 4] }
     }
 
-    /// The set with one slot more, if one is given.
-    pub fn with(self, slot: Option<u32>) -> Mask
-        requires within { ForSome slot (λ s. s < 256) }
-        ensures with { (other : ℕ) → holds result other ≡ (holds self other || is_slot other slot) }
+    /// The set with one index more, if one is given.
+    pub fn with(self, index: Option<u32>) -> Mask
+        requires within { ForSome index (λ s. s < 256) }
+        ensures with { (other : ℕ) → holds result other ≡ (holds self other || is_index other index) }
     {
-        match slot {
+        match index {
             None => self,
-            Some(slot) => {
+            Some(index) => {
                 let mut words = self.words;
-                words[(slot / 64) as usize] |= 1 << (slot % 64);
+                words[(index / 64) as usize] |= 1 << (index % 64);
                 Mask { words }
             }
         }
     }
 
-    /// Takes a slot out of the set.
-    pub fn remove(&mut self, slot: u32)
-        requires within { slot < 256 }
-        ensures removed { (other : ℕ) → holds self.new other ≡ (holds self.old other && not (other == slot)) }
+    /// Takes an index out of the set.
+    pub fn remove(&mut self, index: u32)
+        requires within { index < 256 }
+        ensures removed { (other : ℕ) → holds self.new other ≡ (holds self.old other && not (other == index)) }
     {
-        self.words[(slot / 64) as usize] &= !(1 << (slot % 64));
+        self.words[(index / 64) as usize] &= !(1 << (index % 64));
     }
 
     /// Takes the lowest place out of the set, and lets all others be one lower.
@@ -55,12 +55,12 @@ impl Mask {
         ];
     }
 
-    /// The first slot in the set from one on, looked for up to another one.
+    /// The first index in the set from one on, looked for up to another one.
     pub fn next(&self, from: u32, upto: u32) -> Option<u32>
         requires few { upto ≤ 256 }
-        ensures behind { IfSome result (λ slot. (from ≤ slot) × (slot < 256)) }
-        ensures found { IfSome result (λ slot. IsTrue (holds self.now slot)) }
-        ensures first { IfSome result (λ slot. (k : ℕ) → from ≤ k → k < slot →
+        ensures behind { IfSome result (λ index. (from ≤ index) × (index < 256)) }
+        ensures found { IfSome result (λ index. IsTrue (holds self.now index)) }
+        ensures first { IfSome result (λ index. (k : ℕ) → from ≤ k → k < index →
             holds self.now k ≡ false) }
         ensures none { IfNone result ((k : ℕ) → from ≤ k → k < upto → holds self.now k ≡ false) }
     {
@@ -75,9 +75,9 @@ impl Mask {
         None
     }
 
-    /// Whether no slot is in the set.
+    /// Whether no index is in the set.
     pub fn is_empty(&self) -> bool
-        ensures empty { IsTrue result ↔ ((slot : ℕ) → holds self.now slot ≡ false) }
+        ensures empty { IsTrue result ↔ ((index : ℕ) → holds self.now index ≡ false) }
     {
         let [first, second, third, fourth] = self.words;
         first | second | third | fourth == 0

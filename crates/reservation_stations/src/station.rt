@@ -30,11 +30,11 @@ impl Mark {
     }
 }
 
-/// What the window knows of one instruction in it: the slot that it holds, its registers by number, and its mark.
+/// What the window knows of one instruction in it: the index that it holds, its registers by number, and its mark.
 #[derive(Clone, Copy, Debug, PartialEq, Eq)]
 pub struct Station {
     /// Its place in the tables of the window, from its entering to its leaving.
-    pub slot: u32,
+    pub index: u32,
     /// The register of its first operand, if it reads one.
     pub first: Option<u8>,
     /// The register of its second operand, if it reads one.

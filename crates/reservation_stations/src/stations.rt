@@ -1,5 +1,5 @@
-use crate::entry::Entry;
 use crate::mask::Mask;
+use crate::row::Row;
 use crate::station::Mark;
 use crate::tables::{drop_producer, forget, note, note_ready, release, set_producer, uncounted};
 use circular_buffer::HeapCircularBuffer;
@@ -13,13 +13,13 @@ use std::marker::Model;
 /// producers of its sources that weren't done when it entered, until they wake it or leave the window.
 #[derive(Debug, Drop)]
 pub struct Stations {
-    /// The slots of the records, the oldest first.
+    /// The indices of the records, the oldest first.
     order: HeapCircularBuffer<u32>,
-    /// What each slot keeps of the record that holds it.
-    entries: Vec<Entry>,
-    /// For each slot, at least those whose records wait for its record or displaced it.
+    /// What each index keeps of the record that holds it.
+    rows: Vec<Row>,
+    /// For each index, at least those whose records wait for its record or displaced it.
     dependents: Vec<Mask>,
-    /// The slot of each register's producer, where it has one.
+    /// The index of each register's producer, where it has one.
     producers: Vec<Option<u32>>,
     /// How many records wait.
     waiting: u32,
@@ -33,38 +33,38 @@ pub struct Stations {
 
 impl Model for Stations {
     ghost use Rattle.reservation_stations.specs.Readiness.{Window};
-    ghost use Rattle.reservation_stations.specs.Keeps.{Keeps, stations_at, entry_at};
+    ghost use Rattle.reservation_stations.specs.AreTables.{AreTables, stations_at, row_at};
     ghost use Rattle.reservation_stations.specs.Covers.{AreCovered};
     ghost use Rattle.reservation_stations.specs.Places.{ArePlaced};
 
     ghost Value = { Window };
 
-    ghost view = { λ s. record { window = s.order.capacity; stations = stations_at (entry_at s.entries.items) s.order.items } };
+    ghost view = { λ s. record { capacity = s.order.capacity; stations = stations_at (row_at s.rows.items) s.order.items } };
 
     ghost invariant = { λ s.
-        Keeps s.order.capacity s.order.items s.entries.items s.producers.items s.waiting
-        × AreCovered s.entries.items s.dependents.items
-        × ArePlaced s.retired s.order.items s.entries.items s.ready s.executing };
+        AreTables s.order.capacity s.order.items s.rows.items s.producers.items s.waiting
+        × AreCovered s.rows.items s.dependents.items
+        × ArePlaced s.retired s.order.items s.rows.items s.ready s.executing };
 }
 
 impl Stations {
     ghost use Rattle.std.specs.Prelude.{◌≡◌, ◌≢◌, ◌↔◌, ◌<◌, ◌≤◌, ◌-◌, ◌++◌, ◌∷◌, [], ℕ, false, length, reverse, take, drop, slice_get, All, AllPairs, IsTrue, IsSome, IsNone, IfSome, IfNone, IfOk, if◌then◌else◌};
-    ghost use Rattle.reservation_stations.specs.Readiness.{Window, station_of, mark_of, oldest_slot, youngest_slot, older_than, has_operands, can_begin_at, executes_at, marked, entered, waiting_count};
-    ghost use Rattle.reservation_stations.specs.Keeps.{producer_of, awaited};
+    ghost use Rattle.reservation_stations.specs.Readiness.{Window, station_of, mark_of, oldest_index, youngest_index, older_than, has_operands, can_begin_at, executes_at, marked, entered, waiting_count};
+    ghost use Rattle.reservation_stations.specs.AreTables.{producer_of, awaited};
     ghost use Rattle.reservation_stations.specs.declared.station.Station.{Station};
 
-    /// Stations of a window of so many slots, which no record holds. They take their memory here and none later.
-    pub fn new(alloc: Global, window: u32) -> Result<Stations, NoMemory>
-        requires limit { window ≤ 256 }
-        ensures empty { IfOk result (λ it. it ≡ record { window = window; stations = [] }) }
+    /// Stations of a window of so many indices, which no record holds. They take their memory here and none later.
+    pub fn new(alloc: Global, capacity: u32) -> Result<Stations, NoMemory>
+        requires limit { capacity ≤ 256 }
+        ensures empty { IfOk result (λ it. it ≡ record { capacity = capacity; stations = [] }) }
     {
-        let Ok(order) = HeapCircularBuffer::with_capacity(alloc, window as usize) else {
+        let Ok(order) = HeapCircularBuffer::with_capacity(alloc, capacity as usize) else {
             return Err(NoMemory);
         };
-        let Ok(entries) = vec![in alloc; Entry::free(); window as usize] else {
+        let Ok(rows) = vec![in alloc; Row::free(); capacity as usize] else {
             return Err(NoMemory);
         };
-        let Ok(dependents) = vec![in alloc; Mask::none(); window as usize] else {
+        let Ok(dependents) = vec![in alloc; Mask::none(); capacity as usize] else {
             return Err(NoMemory);
         };
         let Ok(producers) = vec![in alloc; None; 256] else {
@@ -72,7 +72,7 @@ impl Stations {
         };
         Ok(Stations {
             order,
-            entries,
+            rows,
             dependents,
             producers,
             waiting: 0,
@@ -85,10 +85,10 @@ impl Stations {
     /// How many records there are.
     pub fn len(&self) -> u32
         ensures count { result ≡ length self.now.stations }
-        ensures room { length self.now.stations ≤ self.now.window }
-        ensures limit { self.now.window ≤ 256 }
-        ensures within { All (λ station. station.slot < self.now.window) self.now.stations }
-        ensures distinct { AllPairs (λ older younger. older.slot ≢ younger.slot) self.now.stations }
+        ensures room { length self.now.stations ≤ self.now.capacity }
+        ensures limit { self.now.capacity ≤ 256 }
+        ensures within { All (λ station. station.index < self.now.capacity) self.now.stations }
+        ensures distinct { AllPairs (λ older younger. older.index ≢ younger.index) self.now.stations }
     {
         self.order.len() as u32
     }
@@ -100,44 +100,44 @@ impl Stations {
         self.waiting
     }
 
-    /// The slot of the youngest record that writes a register, if one is given.
+    /// The index of the youngest record that writes a register, if one is given.
     fn producer(&self, register: Option<u8>) -> Option<u32>
         ensures producer { result ≡ producer_of (reverse self.now.stations) register }
-        ensures within { IfSome result (λ slot. slot < self.now.window) }
+        ensures within { IfSome result (λ index. index < self.now.capacity) }
     {
         let register = register?;
         self.producers[register as usize]
     }
 
-    /// The slot whose record has yet to give the value of a source.
+    /// The index whose record has yet to give the value of a source.
     fn awaited(&self, source: Option<u8>) -> Option<u32>
         ensures awaited { result ≡ awaited (reverse self.now.stations) source }
-        ensures within { IfSome result (λ slot. slot < self.now.window) }
+        ensures within { IfSome result (λ index. index < self.now.capacity) }
     {
-        let slot = self.producer(source)?;
-        if self.entries[slot as usize].mark.is_done() {
+        let index = self.producer(source)?;
+        if self.rows[index as usize].mark.is_done() {
             None
         } else {
-            Some(slot)
+            Some(index)
         }
     }
 
-    /// Appends the record of an instruction, which waits, in a slot that no record holds.
-    pub fn enter(&mut self, slot: u32, sources: (Option<u8>, Option<u8>), destination: Option<u8>)
-        requires within { slot < self.old.window }
-        requires free { IsNone (station_of slot self.old.stations) }
+    /// Appends the record of an instruction, which waits, in an index that no record holds.
+    pub fn enter(&mut self, index: u32, sources: (Option<u8>, Option<u8>), destination: Option<u8>)
+        requires within { index < self.old.capacity }
+        requires free { IsNone (station_of index self.old.stations) }
         ensures entered { self.new ≡ record self.old {
-          stations = self.old.stations ++ entered slot sources.0 sources.1 destination ∷ [];
+          stations = self.old.stations ++ entered index sources.0 sources.1 destination ∷ [];
         } }
     {
         let first = self.awaited(sources.0);
         let second = self.awaited(sources.1);
         let displaced = self.producer(destination);
-        note(&mut self.dependents, first, slot);
-        note(&mut self.dependents, second, slot);
-        note(&mut self.dependents, displaced, slot);
+        note(&mut self.dependents, first, index);
+        note(&mut self.dependents, second, index);
+        note(&mut self.dependents, displaced, index);
         let place = self.order.len() as u8;
-        let entry = Entry {
+        let row = Row {
             first: sources.0,
             second: sources.1,
             destination,
@@ -146,107 +146,107 @@ impl Stations {
             displaced,
             turn: self.retired.wrapping_add(place),
         };
-        note_ready(&mut self.ready, &entry, self.retired);
-        self.entries[slot as usize] = entry;
-        set_producer(&mut self.producers, destination, Some(slot));
+        note_ready(&mut self.ready, &row, self.retired);
+        self.rows[index as usize] = row;
+        set_producer(&mut self.producers, destination, Some(index));
         // There is room, so this is Ok.
-        let _ = self.order.try_push_back(slot);
+        let _ = self.order.try_push_back(index);
         self.waiting += 1;
     }
 
-    /// Whether both operands of the record that holds a slot have a value.
-    pub fn ready(&self, slot: u32) -> bool
-        requires held { IsSome (station_of slot self.now.stations) }
+    /// Whether both operands of the record that holds an index have a value.
+    pub fn ready(&self, index: u32) -> bool
+        requires held { IsSome (station_of index self.now.stations) }
         ensures ready { (place : ℕ) (station : Station) →
-            slice_get self.now.stations place ≡ Some station → station.slot ≡ slot →
+            slice_get self.now.stations place ≡ Some station → station.index ≡ index →
             result ≡ has_operands (older_than place self.now.stations) station }
     {
-        let held = &self.entries[slot as usize];
+        let held = &self.rows[index as usize];
         held.waits.is_empty()
     }
 
     /// Lets a record that waits execute.
-    pub fn issue(&mut self, slot: u32)
-        requires waiting { mark_of slot self.old.stations ≡ Some Mark.Waiting }
+    pub fn issue(&mut self, index: u32)
+        requires waiting { mark_of index self.old.stations ≡ Some Mark.Waiting }
         ensures issued { self.new ≡ record self.old {
-          stations = marked slot Mark.Issued self.old.stations;
+          stations = marked index Mark.Issued self.old.stations;
         } }
     {
-        let place = self.entries[slot as usize].place(self.retired);
+        let place = self.rows[index as usize].place(self.retired);
         self.ready.remove(place);
         self.executing = self.executing.with(Some(place));
-        self.entries[slot as usize].mark = Mark::Issued;
+        self.rows[index as usize].mark = Mark::Issued;
         self.waiting -= 1;
     }
 
     /// Ends the execution of a record, with a fault or without. Without one, its destination has a value from now on.
-    pub fn wake(&mut self, slot: u32, faulted: bool)
-        requires issued { mark_of slot self.old.stations ≡ Some Mark.Issued }
+    pub fn wake(&mut self, index: u32, faulted: bool)
+        requires issued { mark_of index self.old.stations ≡ Some Mark.Issued }
         ensures woken { self.new ≡ record self.old {
-          stations = marked slot (if faulted then Mark.Faulted else Mark.Done) self.old.stations;
+          stations = marked index (if faulted then Mark.Faulted else Mark.Done) self.old.stations;
         } }
     {
-        let place = self.entries[slot as usize].place(self.retired);
+        let place = self.rows[index as usize].place(self.retired);
         self.executing.remove(place);
         if faulted {
-            self.entries[slot as usize].mark = Mark::Faulted;
+            self.rows[index as usize].mark = Mark::Faulted;
         } else {
-            self.entries[slot as usize].mark = Mark::Done;
+            self.rows[index as usize].mark = Mark::Done;
             release(
-                &mut self.entries,
+                &mut self.rows,
                 &mut self.ready,
                 &self.dependents,
-                slot,
+                index,
                 self.retired,
             );
         }
     }
 
-    /// Removes the oldest record, whose slot is given. Those that waited for it take the committed register.
-    pub fn retire(&mut self, slot: u32)
-        requires oldest { oldest_slot self.old.stations ≡ Some slot }
+    /// Removes the oldest record, whose index is given. Those that waited for it take the committed register.
+    pub fn retire(&mut self, index: u32)
+        requires oldest { oldest_index self.old.stations ≡ Some index }
         ensures retired { self.new ≡ record self.old { stations = drop 1 self.old.stations } }
     {
-        let Entry {
+        let Row {
             destination,
             mark,
             ..
-        } = self.entries[slot as usize];
+        } = self.rows[index as usize];
         let _ = self.order.pop_front();
         forget(
-            &mut self.entries,
+            &mut self.rows,
             &mut self.ready,
             &self.dependents,
-            slot,
+            index,
             self.retired,
         );
-        self.entries[slot as usize].mark = Mark::Done;
-        self.dependents[slot as usize] = Mask::none();
-        drop_producer(&mut self.producers, destination, slot);
+        self.rows[index as usize].mark = Mark::Done;
+        self.dependents[index as usize] = Mask::none();
+        drop_producer(&mut self.producers, destination, index);
         self.waiting = uncounted(self.waiting, mark);
         self.ready.shift();
         self.executing.shift();
         self.retired = self.retired.wrapping_add(1);
     }
 
-    /// Removes the youngest record, whose slot is given.
-    pub fn cut(&mut self, slot: u32)
-        requires youngest { youngest_slot self.old.stations ≡ Some slot }
+    /// Removes the youngest record, whose index is given.
+    pub fn cut(&mut self, index: u32)
+        requires youngest { youngest_index self.old.stations ≡ Some index }
         ensures cut { self.new ≡ record self.old {
           stations = take (length self.old.stations - 1) self.old.stations;
         } }
     {
-        let Entry {
+        let Row {
             destination,
             mark,
             displaced,
             ..
-        } = self.entries[slot as usize];
+        } = self.rows[index as usize];
         let _ = self.order.pop_back();
         let place = self.order.len() as u32;
         self.ready.remove(place);
         self.executing.remove(place);
-        self.entries[slot as usize].mark = Mark::Done;
+        self.rows[index as usize].mark = Mark::Done;
         set_producer(&mut self.producers, destination, displaced);
         self.waiting = uncounted(self.waiting, mark);
     }

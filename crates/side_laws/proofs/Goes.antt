@@ -16,12 +16,12 @@ use Rattle.machine_laws.proofs.LastOrder.{all_orders}
 use Rattle.machine_laws.proofs.NextOrder.{may_obey_next}
 use Rattle.machine_laws.proofs.OrderSteps.{none_told}
 use Rattle.func_model.specs.declared.walk.Walk.{Walk}
-use Rattle.func_model.specs.Contents.{StandsFor}
-use Rattle.func_model.specs.Walk.{Stands, IsFresh, IsForward, IsAtRest, IsObeyed, committed_by, position_by}
+use Rattle.func_model.specs.Contents.{ContentsStandFor}
+use Rattle.func_model.specs.Walk.{WalkStandsFor, IsFresh, IsForward, IsAtRest, IsObeyed, committed_by, position_by}
 use Rattle.side_laws.specs.Along.{IsAlong}
 use Rattle.side_laws.proofs.Obeying.{along_committed}
 
-pub along_start : {D : Type 0} (s : Setup) (side : Walk D) → Stands s [] side → IsFresh side → IsAlong s [] side
+pub along_start : {D : Type 0} (s : Setup) (side : Walk D) → WalkStandsFor s [] side → IsFresh side → IsAlong s [] side
 along_start s side stands fresh = record {
   stands = stands;
   told = none_told s;
@@ -29,7 +29,7 @@ along_start s side stands fresh = record {
   stopped = λ stopped. fresh.position ∙ sym fresh.committed;
 }
 
-pub along_produced : {D : Type 0} (s : Setup) (os : List Order) (old new : Walk D) → IsAlong s os old → Stands s os new → IsForward old new → (IsAtRest old → ⊥) → IsAlong s os new
+pub along_produced : {D : Type 0} (s : Setup) (os : List Order) (old new : Walk D) → IsAlong s os old → WalkStandsFor s os new → IsForward old new → (IsAtRest old → ⊥) → IsAlong s os new
 along_produced s os old new along stands moved going = record {
   stands = stands;
   told = along.told;
@@ -68,7 +68,7 @@ or_first false b off is = absurd (other b off is)
     other false off on = cc
 
 pub along_obeyed : {D : Type 0} (s : Setup) (os : List Order) (o : Order) (old new : Walk D) → 1 ≤ s.cycles → IsAlong s os old → order s (length os) ≡ Some o →
-    Stands s (o ∷ os) new → IsObeyed o old new → IsAlong s (o ∷ os) new
+    WalkStandsFor s (o ∷ os) new → IsObeyed o old new → IsAlong s (o ∷ os) new
 along_obeyed s os o old new limited along is stands moved =
     let next : MayObeyNext s os o = may_obey_next s os o limited along.told is in
     let made : AreAlong s (position_by o old.position) (committed_by o old.committed) (stops o) =
@@ -81,9 +81,9 @@ along_obeyed s os o old new limited along is stands moved =
       stopped = λ stopped. moved.position ∙ made.stopped (or_first (stops o) old.is_stopped running (sym moved.stopped ∙ stopped)) ∙ sym moved.committed;
     }
 
-pub along_end : {D : Type 0} (s : Setup) (os : List Order) (side : Walk D) → 1 ≤ s.cycles → IsAlong s os side → side.is_stopped ≡ true → StandsFor s (mono s s.cycles).arch side.contents
+pub along_end : {D : Type 0} (s : Setup) (os : List Order) (side : Walk D) → 1 ≤ s.cycles → IsAlong s os side → side.is_stopped ≡ true → ContentsStandFor s (mono s s.cycles).arch side.contents
 along_end {D} s os side limited along stopped =
     let all : AreAll s os = all_orders s os limited along.told (sym along.stands.stopped ∙ stopped) in
     let here : side.position ≡ last_commit os = along.stopped stopped ∙ along_committed s os side along in
-    let P : Arch → Type 0 = λ a. StandsFor {D = D} s a side.contents in
+    let P : Arch → Type 0 = λ a. ContentsStandFor {D = D} s a side.contents in
     subst P (ap (path s os) here ∙ all.state) along.stands.holds.contents

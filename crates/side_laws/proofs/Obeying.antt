@@ -13,12 +13,12 @@ use Rattle.machine_laws.proofs.NextOrder.{may_obey_next}
 use Rattle.machine_laws.proofs.OrderSteps.{told_at_commit, told_small}
 use Rattle.mono_model.proofs.Sound.{setup_facts}
 use Rattle.func_model.specs.declared.walk.Walk.{Walk}
-use Rattle.func_model.specs.Walk.{Stands, HasRoom, bytes_before}
+use Rattle.func_model.specs.Walk.{WalkStandsFor, HasRoom, bytes_before}
 use Rattle.func_model.proofs.Outputs.{bytes_before_is}
 use Rattle.side_laws.specs.Along.{IsAlong, MayObey, MayProduce}
 use Rattle.side_laws.proofs.Committed.{committed_is}
 
-module _ {D : Type 0} (s : Setup) (os : List Order) (side : Walk D) (stands : Stands s os side) where
+module _ {D : Type 0} (s : Setup) (os : List Order) (side : Walk D) (stands : WalkStandsFor s os side) where
   fits : (n : ℕ) → (side.position < n → side.is_stopped ≡ false) → side.committed ≤ n → length (path s os n).output ≤ s.output → bytes_before side n ≤ side.limit
   fits n running from within = omega (arith, bytes_before_is s os side stands n running from, stands.holds.limit, within)
 

@@ -8,7 +8,7 @@ use Rattle.mono_model.specs.Final.{final_of}
 use Rattle.mono_model.specs.Machine.{Machine, machine_final, stats_of}
 use Rattle.func_model.specs.declared.walk.Walk.{Walk}
 use Rattle.func_model.specs.Hart.{arch_of}
-use Rattle.func_model.specs.Contents.{StandsFor}
+use Rattle.func_model.specs.Contents.{ContentsStandFor}
 use Rattle.func_model.specs.Side.{arch_in}
 use Rattle.func_model.proofs.Reported.{registers_are}
 
@@ -26,7 +26,7 @@ registers_reported end stats side whole = λ i. record {
   cmp = (arch_in side).cmp;
 }
 
-pub reports : {D : Type 0} (s : Setup) (m : Machine) (side : Walk D) (end : End) (stats : Stats) → StandsFor s m.arch side.contents → length side.contents.hart.regs ≡ 32 →
+pub reports : {D : Type 0} (s : Setup) (m : Machine) (side : Walk D) (end : End) (stats : Stats) → ContentsStandFor s m.arch side.contents → length side.contents.hart.regs ≡ 32 →
     end ≡ m.end → stats ≡ stats_of s m →
     (let it : Final = record { end = end; stats = stats; pc = (arch_in side).pc; regs = (arch_in side).regs; csrs = (arch_in side).csrs; cmp = (arch_in side).cmp } in it)
     ≡ machine_final s m

@@ -6,12 +6,12 @@ use Rattle.mono_model.specs.Demand.{number_of}
 use Rattle.mono_model.specs.Split.{room}
 use Rattle.machine_laws.specs.Told.{AreTold}
 use Rattle.func_model.specs.declared.walk.Walk.{Walk}
-use Rattle.func_model.specs.Walk.{Stands, HasRoom}
+use Rattle.func_model.specs.Walk.{WalkStandsFor, HasRoom}
 
 -- The side has obeyed the first orders of the run, and is no further ahead of what is committed
 -- than its journal has room.
 pub record IsAlong {D : Type 0} (s : Setup) (os : List Order) (side : Walk D) : Type 0 where
-  pub stands : Stands s os side
+  pub stands : WalkStandsFor s os side
   pub told : AreTold s os
   pub most : side.position ≤ side.committed + room s
   -- once it is stopped it is at what is committed

@@ -9,8 +9,8 @@ ghost use Rattle.mono_model.specs.Setup.{is_setup};
 ghost use Rattle.mono_model.specs.Cycle.{mono};
 ghost use Rattle.mono_model.specs.Demand.{order};
 ghost use Rattle.func_model.specs.declared.walk.Walk.{Walk};
-ghost use Rattle.func_model.specs.Contents.{StandsFor};
-ghost use Rattle.func_model.specs.Walk.{Stands, IsFresh, IsForward, IsAtRest, IsProduced, IsObeyed};
+ghost use Rattle.func_model.specs.Contents.{ContentsStandFor};
+ghost use Rattle.func_model.specs.Walk.{WalkStandsFor, IsFresh, IsForward, IsAtRest, IsProduced, IsObeyed};
 ghost use Rattle.side_laws.specs.Along.{IsAlong, MayObey, MayProduce};
 
 use device_bus::Device;
@@ -26,12 +26,12 @@ pub fn functional_side_may_obey_what_comes_next<D: Device>()
 
 /// From its start on, with each entry that it produces and each order that it obeys.
 pub fn functional_side_goes_along<D: Device>()
-    ensures start { (s : Setup) (side : Walk D) → Stands s [] side → IsFresh side
+    ensures start { (s : Setup) (side : Walk D) → WalkStandsFor s [] side → IsFresh side
         → IsAlong s [] side }
     ensures produced { (s : Setup) (os : List Order) (old new : Walk D) → IsAlong s os old
-        → Stands s os new → IsForward old new → (IsAtRest old → ⊥) → IsAlong s os new }
+        → WalkStandsFor s os new → IsForward old new → (IsAtRest old → ⊥) → IsAlong s os new }
     ensures obeyed { (s : Setup) (os : List Order) (o : Order) (old new : Walk D) → 1 ≤ s.cycles
-        → IsAlong s os old → order s (length os) ≡ Some o → Stands s (o ∷ os) new
+        → IsAlong s os old → order s (length os) ≡ Some o → WalkStandsFor s (o ∷ os) new
         → IsObeyed o old new → IsAlong s (o ∷ os) new }
 {}
 
@@ -40,5 +40,5 @@ pub fn functional_side_goes_along<D: Device>()
 pub fn functional_side_holds_the_end<D: Device>()
     ensures contents { (s : Setup) (os : List Order) (side : Walk D) → 1 ≤ s.cycles
         → IsAlong s os side → side.is_stopped ≡ true
-        → StandsFor s (mono s s.cycles).arch side.contents }
+        → ContentsStandFor s (mono s s.cycles).arch side.contents }
 {}

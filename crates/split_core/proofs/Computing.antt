@@ -11,9 +11,9 @@ use Rattle.machine_laws.specs.Reached.{IsReached}
 use Rattle.machine_laws.specs.SplitLaw.{IsRun}
 use Rattle.machine_laws.proofs.SplitReached.{reached_run}
 use Rattle.func_model.specs.declared.walk.Walk.{Walk}
-use Rattle.func_model.specs.Walk.{Stands, IsAtRest, IsForward, IsProduced}
+use Rattle.func_model.specs.Walk.{WalkStandsFor, IsAtRest, IsForward, IsProduced}
 use Rattle.split_core.specs.declared.state.SplitState.{SplitState}
-use Rattle.split_core.specs.Stands.{StandsFor}
+use Rattle.split_core.specs.Standing.{SplitStandsFor}
 use Rattle.split_core.proofs.Standing.{Agrees, agrees, still_stands, none_is}
 
 computes_not : (s : Setup) (x : Split) → may_compute s x ≡ false → event_at s compute x ≡ x
@@ -28,8 +28,8 @@ computes s x may = cond-true (may_compute s x) _ _ may
 full_hand : (s : Setup) (x : Split) → is_none x.computed ≡ false → may_compute s x ≡ false
 full_hand s x full = grind (arith, common_steps)
 
-module _ {D : Type 0} (s : Setup) (x : Split) (state : SplitState D) (reached : IsReached s x) (h : StandsFor s x state) where
-  pub keeps_computed : is_none state.computed ≡ false → StandsFor s (event_at s compute x) state
+module _ {D : Type 0} (s : Setup) (x : Split) (state : SplitState D) (reached : IsReached s x) (h : SplitStandsFor s x state) where
+  pub keeps_computed : is_none state.computed ≡ false → SplitStandsFor s (event_at s compute x) state
   keeps_computed full = still_stands s x (event_at s compute x) state (computes_not s x (full_hand s x (ap is_none (sym h.computed) ∙ full))) h
 
   rests : IsAtRest state.func → may_compute s x ≡ false
@@ -62,12 +62,12 @@ module _ {D : Type 0} (s : Setup) (x : Split) (state : SplitState D) (reached : 
       not_stopped false none = refl
 
   module _ (func : Walk D) (empty : is_none state.computed ≡ true) where
-    pub computed_stands : (result : Option Entry) → ((s : Setup) (os : List Order) → Stands s os state.func → IsProduced s os state.func func result) →
+    pub computed_stands : (result : Option Entry) → ((s : Setup) (os : List Order) → WalkStandsFor s os state.func → IsProduced s os state.func func result) →
         IfSome result (λ e. IsForward state.func func) → (IsNone result ↔ IsAtRest state.func) → IfNone result (func ≡ state.func) →
-        StandsFor s (event_at s compute x) (record state { func = func; computed = result })
+        SplitStandsFor s (event_at s compute x) (record state { func = func; computed = result })
     computed_stands None produced moved none same =
-        let P : Walk D → Type 0 = λ f. StandsFor s x (record state { func = f; computed = None }) in
-        let Q : Option Entry → Type 0 = λ o. StandsFor s x (record state { computed = o }) in
+        let P : Walk D → Type 0 = λ f. SplitStandsFor s x (record state { func = f; computed = None }) in
+        let Q : Option Entry → Type 0 = λ o. SplitStandsFor s x (record state { computed = o }) in
         still_stands s x (event_at s compute x) (record state { func = func; computed = None }) (computes_not s x (rests (none.0 refl)))
         (subst P (sym same) (subst Q (none_is state.computed empty) h))
     computed_stands (Some e) produced moved none same =
@@ -84,7 +84,7 @@ module _ {D : Type 0} (s : Setup) (x : Split) (state : SplitState D) (reached : 
           computed = ap Some (made.entry_is ∙ ap (entry s x.obeyed) h.position);
           hand = h.hand;
           entries = h.entries;
-          listed = h.listed;
+          listed_orders = h.listed_orders;
           rounds = h.rounds;
           steps = h.steps;
           going = h.going;

@@ -17,7 +17,7 @@ use Rattle.machine_laws.proofs.SplitReached.{event_reached, boundary_reached, re
 use Rattle.machine_laws.proofs.SplitArriving.{comes_to_boundary}
 use Rattle.machine_laws.proofs.Stopping.{stop_told, halted_last}
 use Rattle.split_core.specs.declared.state.SplitState.{SplitState}
-use Rattle.split_core.specs.Stands.{StandsFor, Leads, IsStanding, IsEnded}
+use Rattle.split_core.specs.Standing.{SplitStandsFor, Leads, IsStanding, IsEnded}
 use Rattle.split_core.proofs.Standing.{Agrees, agrees, after_event, none_is}
 use Rattle.mono_model.proofs.Sound.{setup_facts}
 use Rattle.split_core.proofs.Playing.{after_rounds}
@@ -33,7 +33,7 @@ obeys_place (Sync n) x = refl
 
 obey_place : (os : List Order) (x : Split) → (on_obey os x).place ≡ x.place
 obey_place [] x = refl
-obey_place (o ∷ os) x = obeys_place o (record x { listed = os })
+obey_place (o ∷ os) x = obeys_place o (record x { listed_orders = os })
 
 push_place : (s : Setup) (o : Option Entry) (x : Split) → (pushed s o x).place ≡ x.place
 push_place s None x = refl
@@ -45,7 +45,7 @@ take_place (e ∷ rest) x = cond_both (may_take x) _ x (λ y. y.place ≡ x.plac
 
 send_place : (o : Option Order) (x : Split) → (sent o x).place ≡ x.place
 send_place None x = refl
-send_place (Some o) x = cond_both (nat_lt (length x.listed) 64) _ x (λ y. y.place ≡ x.place) (λ e. refl) (λ e. refl)
+send_place (Some o) x = cond_both (nat_lt (length x.listed_orders) 64) _ x (λ y. y.place ≡ x.place) (λ e. refl) (λ e. refl)
 
 abbrev GoesOn : Setup → Split → Split → Type 0
 GoesOn s x y = (y.place ≡ x.place) ⊎ (y.place ≡ step s x.place)
@@ -54,7 +54,7 @@ event_goes : (s : Setup) (e : Event) (x : Split) → GoesOn s x (event_at s e x)
 unfolding event_at
 event_goes s compute x = inl (cond_both (may_compute s x) _ x (λ y. y.place ≡ x.place) (λ e. refl) (λ e. refl))
 event_goes s push x = inl (push_place s x.computed x)
-event_goes s obey x = inl (obey_place x.listed x)
+event_goes s obey x = inl (obey_place x.listed_orders x)
 event_goes s tick x = cond_both (may_tick x) (ticked_to (step s x.place) x) x (GoesOn s x) (λ e. inr refl) (λ e. inl refl)
 event_goes s take x = inl (take_place x.entries x)
 event_goes s send x = inl (send_place x.hand x)
@@ -101,7 +101,7 @@ boundary_is : (s : Setup) (x : Split) → IsReached s x → is_boundary x ≡ tr
 boundary_is s x reached at =
     let run : IsRun s x = reached_run s x reached in
     let level : IsLevel s x = run.level at in
-    let both = and_parts (is_place_boundary x.place && is_none x.hand) (length x.listed == 0) at in
+    let both = and_parts (is_place_boundary x.place && is_none x.hand) (length x.listed_orders == 0) at in
     let sides = and_parts (is_place_boundary x.place) (is_none x.hand) both.0 in
     let parts = and_parts (x.place.owed == 0) (is_cycle_start x.place.run.at) sides.0 in
     record {
@@ -115,7 +115,7 @@ boundary_is s x reached at =
 stop_at : (s : Setup) (k : ℕ) (p : Place) → p ≡ place s k → has_stop (told p) ≡ is_halted p.run.at
 stop_at s k p is = subst (λ (q : Place). has_stop (told q) ≡ is_halted q.run.at) (sym is) (stop_told s k)
 
-ended_at : {D : Type 0} (s : Setup) (x : Split) (state : SplitState D) → 1 ≤ s.cycles → IsReached s x → StandsFor s x state → is_boundary x ≡ true → is_halted x.place.run.at ≡ true → IsEnded s state
+ended_at : {D : Type 0} (s : Setup) (x : Split) (state : SplitState D) → 1 ≤ s.cycles → IsReached s x → SplitStandsFor s x state → is_boundary x ≡ true → is_halted x.place.run.at ≡ true → IsEnded s state
 ended_at s x state limited reached h at over =
     let here : AtBoundary s x = boundary_is s x reached at in
     let last : x.place ≡ place s (step_bound s) =
@@ -161,12 +161,12 @@ ticks_on s x here off =
 pub record Gone {D : Type 0} (s : Setup) (passed : ℕ) (state : SplitState D) : Type 0 where
   split : Split
   reached : IsReached s split
-  stands : StandsFor s split state
+  stands : SplitStandsFor s split state
   from : IsFrom s passed split.place
 
 pub record Going {D : Type 0} (passed : ℕ) (old new : SplitState D) : Type 0 where
   pub standing : IsStanding new
-  pub on : (s : Setup) (x : Split) → is_setup s ≡ true → IsReached s x → StandsFor s x old → Gone s passed new
+  pub on : (s : Setup) (x : Split) → is_setup s ≡ true → IsReached s x → SplitStandsFor s x old → Gone s passed new
 
 pub going_start : {D : Type 0} (old : SplitState D) → IsStanding old → Going 0 old old
 going_start old standing = record {
@@ -176,7 +176,7 @@ going_start old standing = record {
 
 module _ {D : Type 0} (passed : ℕ) (old state there : SplitState D) (is : Going passed old state) (rounds : Leads to_boundary state there) where
   -- at the next boundary
-  arrived : (s : Setup) (x : Split) → is_setup s ≡ true → IsReached s x → StandsFor s x old → Gone s passed there
+  arrived : (s : Setup) (x : Split) → is_setup s ≡ true → IsReached s x → SplitStandsFor s x old → Gone s passed there
   arrived s x sound reached h =
       let gone : Gone s passed state = is.on s x sound reached h in
       record {
@@ -186,11 +186,11 @@ module _ {D : Type 0} (passed : ℕ) (old state there : SplitState D) (is : Goin
         from = rounds_from s passed (boundary_rounds s) gone.split gone.from;
       }
 
-  at_boundary : (s : Setup) (x : Split) (sound : is_setup s ≡ true) (reached : IsReached s x) (h : StandsFor s x old) → is_boundary (arrived s x sound reached h).split ≡ true
+  at_boundary : (s : Setup) (x : Split) (sound : is_setup s ≡ true) (reached : IsReached s x) (h : SplitStandsFor s x old) → is_boundary (arrived s x sound reached h).split ≡ true
   unfolding arrived
   at_boundary s x sound reached h = let gone : Gone s passed state = is.on s x sound reached h in comes_to_boundary s gone.split (setup_facts s sound).some_ring gone.reached
 
-  pub stopped_ends : there.func.is_stopped ≡ true → (s : Setup) (x : Split) → is_setup s ≡ true → IsReached s x → StandsFor s x old → IsEnded s there
+  pub stopped_ends : there.func.is_stopped ≡ true → (s : Setup) (x : Split) → is_setup s ≡ true → IsReached s x → SplitStandsFor s x old → IsEnded s there
   stopped_ends stopped = λ s x sound reached h.
       let gone : Gone s passed there = arrived s x sound reached h in
       let at : is_boundary gone.split ≡ true = at_boundary s x sound reached h in
@@ -200,8 +200,8 @@ module _ {D : Type 0} (passed : ℕ) (old state there : SplitState D) (is : Goin
       (sym (stop_at s gone.stands.behind gone.split.place gone.stands.place) ∙ sym here.stopped ∙ sym same.stopped ∙ stopped)
 
   pub going_on : (new : SplitState D) → there.func.is_stopped ≡ false → Leads (λ s x. event_at s tick x) there new → Going (passed + 1) old new
-  going_on new running ticked = record {
-    standing = after_event tick there new (after_rounds state there is.standing rounds) ticked;
+  going_on new running end_of_cycle = record {
+    standing = after_event tick there new (after_rounds state there is.standing rounds) end_of_cycle;
     on = λ s x sound reached h.
         let gone : Gone s passed there = arrived s x sound reached h in
         let at : is_boundary gone.split ≡ true = at_boundary s x sound reached h in
@@ -212,7 +212,7 @@ module _ {D : Type 0} (passed : ℕ) (old state there : SplitState D) (is : Goin
         record {
           split = event_at s tick gone.split;
           reached = event_reached s tick gone.split gone.reached;
-          stands = ticked s gone.split sound gone.reached gone.stands;
+          stands = end_of_cycle s gone.split sound gone.reached gone.stands;
           from = record {
             steps = suc gone.from.steps;
             least = omega arith;
@@ -221,7 +221,7 @@ module _ {D : Type 0} (passed : ℕ) (old state there : SplitState D) (is : Goin
         };
   }
 
-  pub all_passed_ends : ((s : Setup) (x : Split) → StandsFor s x old → step_bound s ≤ passed) → (s : Setup) (x : Split) → is_setup s ≡ true → IsReached s x → StandsFor s x old → IsEnded s there
+  pub all_passed_ends : ((s : Setup) (x : Split) → SplitStandsFor s x old → step_bound s ≤ passed) → (s : Setup) (x : Split) → is_setup s ≡ true → IsReached s x → SplitStandsFor s x old → IsEnded s there
   all_passed_ends all = λ s x sound reached h.
       let gone : Gone s passed there = arrived s x sound reached h in
       let limited : 1 ≤ s.cycles = (setup_facts s sound).some_cycle in

@@ -8,7 +8,7 @@ use Rattle.trace_entry.specs.declared.Entry.{Entry}
 use Rattle.mono_model.specs.declared.setup.Setup.{Setup}
 use Rattle.mono_model.specs.Split.{Split, push, send, pushed, sent, event_at}
 use Rattle.split_core.specs.declared.state.SplitState.{SplitState}
-use Rattle.split_core.specs.Stands.{StandsFor}
+use Rattle.split_core.specs.Standing.{SplitStandsFor}
 use Rattle.split_core.proofs.Standing.{still_stands}
 
 push_is : (s : Setup) (x : Split) → event_at s push x ≡ pushed s x.computed x
@@ -44,19 +44,19 @@ is_refused r n m full variant = elim (cases_lt n m) [
   | inr least ↦ least
 ]
 
-module _ {D : Type 0} (s : Setup) (x : Split) (state : SplitState D) (h : StandsFor s x state) where
-  pub nothing_pushed : state.computed ≡ None → StandsFor s (event_at s push x) state
+module _ {D : Type 0} (s : Setup) (x : Split) (state : SplitState D) (h : SplitStandsFor s x state) where
+  pub nothing_pushed : state.computed ≡ None → SplitStandsFor s (event_at s push x) state
   nothing_pushed none = still_stands s x (event_at s push x) state (push_is s x ∙ ap (λ (o : Option Entry). pushed s o x) (sym h.computed ∙ none)) h
 
   nothing_sent_is : x.hand ≡ None → event_at s send x ≡ x
   nothing_sent_is none = send_is s x ∙ ap (λ (o : Option Order). sent o x) none
 
-  pub nothing_sent : state.hand ≡ None → StandsFor s (event_at s send x) state
+  pub nothing_sent : state.hand ≡ None → SplitStandsFor s (event_at s send x) state
   nothing_sent none = still_stands s x (event_at s send x) state (nothing_sent_is (sym h.hand ∙ none)) h
 
   module _ (e : Entry) (some : state.computed ≡ Some e) (entries : Buffer Entry) where
     pub entry_pushed : length state.entries.items < state.entries.capacity → entries ≡ buffer (state.entries.items ++ e ∷ []) state.entries.capacity →
-        StandsFor s (event_at s push x) (record state { computed = None; entries = entries })
+        SplitStandsFor s (event_at s push x) (record state { computed = None; entries = entries })
     entry_pushed room is =
         let less : length x.entries < s.ring = subst (λ (b : Buffer Entry). length b.items < b.capacity) h.entries room in
         still_stands s (record x { computed = None; entries = x.entries ++ e ∷ [] }) (event_at s push x) (record state { computed = None; entries = entries })
@@ -71,27 +71,27 @@ module _ {D : Type 0} (s : Setup) (x : Split) (state : SplitState D) (h : Stands
           computed = refl;
           hand = h.hand;
           entries = is ∙ ap (λ (b : Buffer Entry). buffer (b.items ++ e ∷ []) b.capacity) h.entries;
-          listed = h.listed;
+          listed_orders = h.listed_orders;
           rounds = h.rounds;
           steps = h.steps;
           going = h.going;
         })
 
-    pub entry_kept : state.entries.capacity ≤ length state.entries.items → entries ≡ state.entries → StandsFor s (event_at s push x) (record state { entries = entries })
+    pub entry_kept : state.entries.capacity ≤ length state.entries.items → entries ≡ state.entries → SplitStandsFor s (event_at s push x) (record state { entries = entries })
     entry_kept full same =
         let most : s.ring ≤ length x.entries = subst (λ (b : Buffer Entry). b.capacity ≤ length b.items) h.entries full in
-        let P : Buffer Entry → Type 0 = λ b. StandsFor s x (record state { entries = b }) in
+        let P : Buffer Entry → Type 0 = λ b. SplitStandsFor s x (record state { entries = b }) in
         still_stands s x (event_at s push x) (record state { entries = entries })
         (push_is s x ∙ ap (λ (o : Option Entry). pushed s o x) (sym h.computed ∙ some) ∙ cond-false (nat_lt (length x.entries) s.ring) _ _ (not_below (length x.entries) s.ring most))
         (subst P (sym same) h)
 
   module _ (o : Order) (some : state.hand ≡ Some o) (listed : Buffer Order) where
-    pub order_sent : length state.listed.items < state.listed.capacity → listed ≡ buffer (state.listed.items ++ o ∷ []) state.listed.capacity →
-        StandsFor s (event_at s send x) (record state { hand = None; listed = listed })
+    pub order_sent : length state.listed_orders.items < state.listed_orders.capacity → listed ≡ buffer (state.listed_orders.items ++ o ∷ []) state.listed_orders.capacity →
+        SplitStandsFor s (event_at s send x) (record state { hand = None; listed_orders = listed })
     order_sent room is =
-        let less : length x.listed < 64 = subst (λ (b : Buffer Order). length b.items < b.capacity) h.listed room in
-        still_stands s (record x { hand = None; listed = x.listed ++ o ∷ [] }) (event_at s send x) (record state { hand = None; listed = listed })
-        (send_is s x ∙ ap (λ (it : Option Order). sent it x) (sym h.hand ∙ some) ∙ cond-true (nat_lt (length x.listed) 64) _ _ (below (length x.listed) 64 less))
+        let less : length x.listed_orders < 64 = subst (λ (b : Buffer Order). length b.items < b.capacity) h.listed_orders room in
+        still_stands s (record x { hand = None; listed_orders = x.listed_orders ++ o ∷ [] }) (event_at s send x) (record state { hand = None; listed_orders = listed })
+        (send_is s x ∙ ap (λ (it : Option Order). sent it x) (sym h.hand ∙ some) ∙ cond-true (nat_lt (length x.listed_orders) 64) _ _ (below (length x.listed_orders) 64 less))
         (record {
           func = h.func;
           position = h.position;
@@ -102,16 +102,16 @@ module _ {D : Type 0} (s : Setup) (x : Split) (state : SplitState D) (h : Stands
           computed = h.computed;
           hand = refl;
           entries = h.entries;
-          listed = is ∙ ap (λ (b : Buffer Order). buffer (b.items ++ o ∷ []) b.capacity) h.listed;
+          listed_orders = is ∙ ap (λ (b : Buffer Order). buffer (b.items ++ o ∷ []) b.capacity) h.listed_orders;
           rounds = h.rounds;
           steps = h.steps;
           going = h.going;
         })
 
-    pub order_kept : state.listed.capacity ≤ length state.listed.items → listed ≡ state.listed → StandsFor s (event_at s send x) (record state { listed = listed })
+    pub order_kept : state.listed_orders.capacity ≤ length state.listed_orders.items → listed ≡ state.listed_orders → SplitStandsFor s (event_at s send x) (record state { listed_orders = listed })
     order_kept full same =
-        let most : 64 ≤ length x.listed = subst (λ (b : Buffer Order). b.capacity ≤ length b.items) h.listed full in
-        let P : Buffer Order → Type 0 = λ b. StandsFor s x (record state { listed = b }) in
-        still_stands s x (event_at s send x) (record state { listed = listed })
-        (send_is s x ∙ ap (λ (it : Option Order). sent it x) (sym h.hand ∙ some) ∙ cond-false (nat_lt (length x.listed) 64) _ _ (not_below (length x.listed) 64 most))
+        let most : 64 ≤ length x.listed_orders = subst (λ (b : Buffer Order). b.capacity ≤ length b.items) h.listed_orders full in
+        let P : Buffer Order → Type 0 = λ b. SplitStandsFor s x (record state { listed_orders = b }) in
+        still_stands s x (event_at s send x) (record state { listed_orders = listed })
+        (send_is s x ∙ ap (λ (it : Option Order). sent it x) (sym h.hand ∙ some) ∙ cond-false (nat_lt (length x.listed_orders) 64) _ _ (not_below (length x.listed_orders) 64 most))
         (subst P (sym same) h)

@@ -11,23 +11,23 @@ use Rattle.mono_model.specs.Split.{Split, obey, obeys, on_obey, event_at}
 use Rattle.machine_laws.specs.SplitLaw.{IsRun, IsRanged, MayObey as MayObeyListed}
 use Rattle.machine_laws.proofs.SplitReached.{reached_run}
 use Rattle.func_model.specs.declared.walk.Walk.{Walk}
-use Rattle.func_model.specs.Walk.{Stands, IsObeyed, position_by}
+use Rattle.func_model.specs.Walk.{WalkStandsFor, IsObeyed, position_by}
 use Rattle.side_laws.specs.Along.{MayObey}
 use Rattle.side_laws.proofs.Obeying.{has_room}
 use Rattle.split_core.specs.declared.state.SplitState.{SplitState}
-use Rattle.split_core.specs.Stands.{StandsFor, IsStanding}
+use Rattle.split_core.specs.Standing.{SplitStandsFor, IsStanding}
 use Rattle.split_core.proofs.Standing.{Agrees, agrees, ranged, position_small, epoch_small, still_stands, front_is, no_front}
 
 -- the oldest order that is listed may be obeyed
-pub can_obey : {D : Type 0} (state : SplitState D) (order : Order) → IsStanding state → slice_get state.listed.items 0 ≡ Some order → MayObey order state.func
+pub can_obey : {D : Type 0} (state : SplitState D) (order : Order) → IsStanding state → slice_get state.listed_orders.items 0 ≡ Some order → MayObey order state.func
 can_obey state order st front =
     let s = st.setup in
     let x = st.split in
-    let h : StandsFor s x state = st.stands in
+    let h : SplitStandsFor s x state = st.stands in
     let run : IsRun s x = reached_run s x st.reached in
     let same : Agrees x state = agrees s x state st.reached h in
-    let items : state.listed.items ≡ x.listed = ap (λ (b : Buffer Order). b.items) h.listed in
-    let may : MayObeyListed s x order = run.obeys order (drop 1 x.listed) (front_is x.listed order (ap (λ (os : List Order). slice_get os 0) (sym items) ∙ front)) in
+    let items : state.listed_orders.items ≡ x.listed_orders = ap (λ (b : Buffer Order). b.items) h.listed_orders in
+    let may : MayObeyListed s x order = run.obeys order (drop 1 x.listed_orders) (front_is x.listed_orders order (ap (λ (os : List Order). slice_get os 0) (sym items) ∙ front)) in
     let small : IsRanged x = ranged s x st.sound st.reached in
     let from : state.func.committed ≤ number_of order = omega (arith, same.committed, may.least) in
     let most : number_of order ≤ state.func.position = omega (arith, h.position, may.most) in
@@ -50,46 +50,46 @@ record IsBehind (x : Split) (o : Order) (os : List Order) (y : Split) : Type 0 w
   held : y.held ≡ x.held
   hand : y.hand ≡ x.hand
   entries : y.entries ≡ x.entries
-  listed : y.listed ≡ os
+  listed_orders : y.listed_orders ≡ os
 
-obeys_behind : (x : Split) (o : Order) (os : List Order) → IsBehind x o os (obeys o (record x { listed = os }))
-obeys_behind x (Set m addr) os = record { obeyed = refl; position = refl; computed = refl; place = refl; held = refl; hand = refl; entries = refl; listed = refl }
-obeys_behind x (Commit m) os = record { obeyed = refl; position = refl; computed = refl; place = refl; held = refl; hand = refl; entries = refl; listed = refl }
-obeys_behind x (Interrupt m) os = record { obeyed = refl; position = refl; computed = refl; place = refl; held = refl; hand = refl; entries = refl; listed = refl }
-obeys_behind x (Time m v) os = record { obeyed = refl; position = refl; computed = refl; place = refl; held = refl; hand = refl; entries = refl; listed = refl }
-obeys_behind x (Stop m) os = record { obeyed = refl; position = refl; computed = refl; place = refl; held = refl; hand = refl; entries = refl; listed = refl }
-obeys_behind x (Sync m) os = record { obeyed = refl; position = refl; computed = refl; place = refl; held = refl; hand = refl; entries = refl; listed = refl }
+obeys_behind : (x : Split) (o : Order) (os : List Order) → IsBehind x o os (obeys o (record x { listed_orders = os }))
+obeys_behind x (Set m addr) os = record { obeyed = refl; position = refl; computed = refl; place = refl; held = refl; hand = refl; entries = refl; listed_orders = refl }
+obeys_behind x (Commit m) os = record { obeyed = refl; position = refl; computed = refl; place = refl; held = refl; hand = refl; entries = refl; listed_orders = refl }
+obeys_behind x (Interrupt m) os = record { obeyed = refl; position = refl; computed = refl; place = refl; held = refl; hand = refl; entries = refl; listed_orders = refl }
+obeys_behind x (Time m v) os = record { obeyed = refl; position = refl; computed = refl; place = refl; held = refl; hand = refl; entries = refl; listed_orders = refl }
+obeys_behind x (Stop m) os = record { obeyed = refl; position = refl; computed = refl; place = refl; held = refl; hand = refl; entries = refl; listed_orders = refl }
+obeys_behind x (Sync m) os = record { obeyed = refl; position = refl; computed = refl; place = refl; held = refl; hand = refl; entries = refl; listed_orders = refl }
 
-obey_is : (s : Setup) (x : Split) → event_at s obey x ≡ on_obey x.listed x
+obey_is : (s : Setup) (x : Split) → event_at s obey x ≡ on_obey x.listed_orders x
 unfolding event_at
 obey_is s x = refl
 
 dropped : (listed : Buffer Order) → listed.items ≡ [] → buffer (drop 1 listed.items) listed.capacity ≡ listed
 dropped listed none = ap (λ (os : List Order). buffer (drop 1 os) listed.capacity) none ∙ ap (λ (os : List Order). buffer os listed.capacity) (sym none)
 
-module _ {D : Type 0} (s : Setup) (x : Split) (state : SplitState D) (h : StandsFor s x state) (listed : Buffer Order) (popped : listed ≡ buffer (drop 1 state.listed.items) state.listed.capacity) where
-  items_are : state.listed.items ≡ x.listed
-  items_are = ap (λ (b : Buffer Order). b.items) h.listed
+module _ {D : Type 0} (s : Setup) (x : Split) (state : SplitState D) (h : SplitStandsFor s x state) (listed : Buffer Order) (popped : listed ≡ buffer (drop 1 state.listed_orders.items) state.listed_orders.capacity) where
+  items_are : state.listed_orders.items ≡ x.listed_orders
+  items_are = ap (λ (b : Buffer Order). b.items) h.listed_orders
 
-  pub nothing_obeyed : slice_get state.listed.items 0 ≡ None → StandsFor s (event_at s obey x) (record state { listed = listed })
+  pub nothing_obeyed : slice_get state.listed_orders.items 0 ≡ None → SplitStandsFor s (event_at s obey x) (record state { listed_orders = listed })
   nothing_obeyed front =
-      let none : state.listed.items ≡ [] = no_front state.listed.items front in
-      let P : Buffer Order → Type 0 = λ b. StandsFor s x (record state { listed = b }) in
-      still_stands s x (event_at s obey x) (record state { listed = listed })
+      let none : state.listed_orders.items ≡ [] = no_front state.listed_orders.items front in
+      let P : Buffer Order → Type 0 = λ b. SplitStandsFor s x (record state { listed_orders = b }) in
+      still_stands s x (event_at s obey x) (record state { listed_orders = listed })
       (obey_is s x ∙ ap (λ (os : List Order). on_obey os x) (sym items_are ∙ none))
-      (subst P (sym (popped ∙ dropped state.listed none)) h)
+      (subst P (sym (popped ∙ dropped state.listed_orders none)) h)
 
-  pub order_obeyed : (order : Order) (func : Walk D) (computed : Option Entry) → slice_get state.listed.items 0 ≡ Some order →
-      ((s : Setup) (os : List Order) → Stands s os state.func → Stands s (order ∷ os) func) → IsObeyed order state.func func →
+  pub order_obeyed : (order : Order) (func : Walk D) (computed : Option Entry) → slice_get state.listed_orders.items 0 ≡ Some order →
+      ((s : Setup) (os : List Order) → WalkStandsFor s os state.func → WalkStandsFor s (order ∷ os) func) → IsObeyed order state.func func →
       computed ≡ (if opens_epoch_of order then None else state.computed) →
-      StandsFor s (event_at s obey x) (record state { func = func; listed = listed; computed = computed })
+      SplitStandsFor s (event_at s obey x) (record state { func = func; listed_orders = listed; computed = computed })
   order_obeyed order func computed front stands moved kept =
-      let os = drop 1 x.listed in
-      let y = obeys order (record x { listed = os }) in
+      let os = drop 1 x.listed_orders in
+      let y = obeys order (record x { listed_orders = os }) in
       let is : IsBehind x order os y = obeys_behind x order os in
-      let P : List Order → Type 0 = λ obeyed. Stands {D = D} s obeyed func in
-      still_stands s y (event_at s obey x) (record state { func = func; listed = listed; computed = computed })
-      (obey_is s x ∙ ap (λ (l : List Order). on_obey l x) (front_is x.listed order (ap (λ (l : List Order). slice_get l 0) (sym items_are) ∙ front)))
+      let P : List Order → Type 0 = λ obeyed. WalkStandsFor {D = D} s obeyed func in
+      still_stands s y (event_at s obey x) (record state { func = func; listed_orders = listed; computed = computed })
+      (obey_is s x ∙ ap (λ (l : List Order). on_obey l x) (front_is x.listed_orders order (ap (λ (l : List Order). slice_get l 0) (sym items_are) ∙ front)))
       (record {
         func = subst P (sym is.obeyed) (stands s x.obeyed h.func);
         position = moved.position ∙ ap (position_by order) h.position ∙ sym is.position;
@@ -100,7 +100,7 @@ module _ {D : Type 0} (s : Setup) (x : Split) (state : SplitState D) (h : Stands
         computed = kept ∙ ap (λ (o : Option Entry). if opens_epoch_of order then None else o) h.computed ∙ sym is.computed;
         hand = h.hand ∙ sym is.hand;
         entries = h.entries ∙ ap (λ (es : List Entry). buffer es s.ring) (sym is.entries);
-        listed = popped ∙ ap (λ (b : Buffer Order). buffer (drop 1 b.items) b.capacity) h.listed ∙ ap (λ (l : List Order). buffer l 64) (sym is.listed);
+        listed_orders = popped ∙ ap (λ (b : Buffer Order). buffer (drop 1 b.items) b.capacity) h.listed_orders ∙ ap (λ (l : List Order). buffer l 64) (sym is.listed_orders);
         rounds = h.rounds;
         steps = h.steps;
         going = h.going;

@@ -6,7 +6,7 @@ use Rattle.mono_model.specs.Split.{Split, Event, event_at, played}
 use Rattle.machine_laws.specs.Reached.{IsReached}
 use Rattle.machine_laws.proofs.SplitReached.{event_reached}
 use Rattle.split_core.specs.declared.state.SplitState.{SplitState}
-use Rattle.split_core.specs.Stands.{StandsFor, Leads, IsStanding, IsEnded}
+use Rattle.split_core.specs.Standing.{SplitStandsFor, Leads, IsStanding, IsEnded}
 use Rattle.split_core.specs.Plays.{IsPlayed, Plays}
 use Rattle.split_core.proofs.Playing.{played_reached}
 
@@ -27,7 +27,7 @@ pub plays_on : {D : Type 0} (old mid new : SplitState D) → Plays old mid → P
 plays_on {D} old mid new first then = λ s x sound reached h.
     let front : IsPlayed s x mid = first s x sound reached h in
     let rest : IsPlayed s (played s front.events x) new = then s (played s front.events x) sound (played_reached s front.events x reached) front.stands in
-    let P : Split → Type 0 = λ y. StandsFor {D = D} s y new in
+    let P : Split → Type 0 = λ y. SplitStandsFor {D = D} s y new in
     record {
       events = front.events ++ rest.events;
       stands = subst P (sym (played_behind s front.events rest.events x)) rest.stands;
@@ -60,8 +60,8 @@ demand_more old mid new is plays = record {
 
 -- where the run ends behind what was played, it ends
 pub ends_behind : {D : Type 0} (old mid new : SplitState D) → Plays old mid →
-    ((s : Setup) (x : Split) → is_setup s ≡ true → IsReached s x → StandsFor s x mid → IsEnded s new) →
-    (s : Setup) (x : Split) → is_setup s ≡ true → IsReached s x → StandsFor s x old → IsEnded s new
+    ((s : Setup) (x : Split) → is_setup s ≡ true → IsReached s x → SplitStandsFor s x mid → IsEnded s new) →
+    (s : Setup) (x : Split) → is_setup s ≡ true → IsReached s x → SplitStandsFor s x old → IsEnded s new
 ends_behind old mid new plays ends = λ s x sound reached h.
     let is : IsPlayed s x mid = plays s x sound reached h in
     ends s (played s is.events x) sound (played_reached s is.events x reached) is.stands

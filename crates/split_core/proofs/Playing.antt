@@ -12,7 +12,7 @@ use Rattle.mono_model.proofs.Sound.{setup_facts}
 use Rattle.split_core.specs.declared.event.Event.{Event}
 use Rattle.split_core.specs.declared.state.SplitState.{SplitState}
 use Rattle.split_core.specs.Events.{event_in}
-use Rattle.split_core.specs.Stands.{StandsFor, Leads, IsStanding, IsAtBoundary, IsEnded}
+use Rattle.split_core.specs.Standing.{SplitStandsFor, Leads, IsStanding, IsAtBoundary, IsEnded}
 
 -- after some of the events
 pub record Played {D : Type 0} (events : List Event) (old new : SplitState D) : Type 0 where
@@ -40,7 +40,7 @@ played_more {D} events e old mid new is made = record {
     stands = made is.standing.setup is.standing.split is.standing.sound is.standing.reached is.standing.stands;
   };
   leads = λ s x sound reached h.
-      let P : Split → Type 0 = λ y. StandsFor {D = D} s y new in
+      let P : Split → Type 0 = λ y. SplitStandsFor {D = D} s y new in
       subst P (sym (played_last s events e x))
       (made s (played s (map event_in events) x) sound (played_reached s (map event_in events) x reached) (is.leads s x sound reached h));
 }
@@ -49,7 +49,7 @@ played_more {D} events e old mid new is made = record {
 pub record OnTheWay {D : Type 0} (s : Setup) (x : Split) (made : ℕ) (state : SplitState D) : Type 0 where
   pub split : Split
   pub reached : IsReached s split
-  pub stands : StandsFor s split state
+  pub stands : SplitStandsFor s split state
   pub left : ℕ
   pub count : made + left ≡ boundary_rounds s
   pub leads : rounds_to_boundary s left split ≡ to_boundary s x
@@ -57,7 +57,7 @@ pub record OnTheWay {D : Type 0} (s : Setup) (x : Split) (made : ℕ) (state : S
 -- after so many rounds
 pub record Rounded {D : Type 0} (made : ℕ) (old new : SplitState D) : Type 0 where
   pub standing : IsStanding new
-  pub on : (s : Setup) (x : Split) → is_setup s ≡ true → IsReached s x → StandsFor s x old → OnTheWay s x made new
+  pub on : (s : Setup) (x : Split) → is_setup s ≡ true → IsReached s x → SplitStandsFor s x old → OnTheWay s x made new
 
 pub rounded_start : {D : Type 0} (old : SplitState D) → IsStanding old → Rounded 0 old old
 rounded_start old standing = record {
@@ -84,20 +84,20 @@ rounds_at s zero x at = rounds_none s x
 rounds_at s (suc n) x at = rounds_to_boundary-suc s n x ∙ cond-true (is_boundary x) x (rounds_to_boundary s n (round s x)) at
 
 module _ {D : Type 0} (made : ℕ) (old state : SplitState D) (is : Rounded made old state) where
-  pub at_boundary_stands : ((s : Setup) (x : Split) → StandsFor s x state → true ≡ is_boundary x) → Leads to_boundary old state
+  pub at_boundary_stands : ((s : Setup) (x : Split) → SplitStandsFor s x state → true ≡ is_boundary x) → Leads to_boundary old state
   at_boundary_stands boundary = λ s x sound reached h.
       let way : OnTheWay s x made state = is.on s x sound reached h in
-      let P : Split → Type 0 = λ y. StandsFor {D = D} s y state in
+      let P : Split → Type 0 = λ y. SplitStandsFor {D = D} s y state in
       subst P (sym (rounds_at s way.left way.split (sym (boundary s way.split way.stands))) ∙ way.leads) way.stands
 
-  pub all_rounds_stand : ((s : Setup) (x : Split) → StandsFor s x old → boundary_rounds s ≤ made) → Leads to_boundary old state
+  pub all_rounds_stand : ((s : Setup) (x : Split) → SplitStandsFor s x old → boundary_rounds s ≤ made) → Leads to_boundary old state
   all_rounds_stand all = λ s x sound reached h.
       let way : OnTheWay s x made state = is.on s x sound reached h in
       let none : way.left ≡ 0 = omega (arith, way.count, all s x h) in
-      let P : Split → Type 0 = λ y. StandsFor {D = D} s y state in
+      let P : Split → Type 0 = λ y. SplitStandsFor {D = D} s y state in
       subst P (sym (rounds_none s way.split) ∙ ap (λ (n : ℕ). rounds_to_boundary s n way.split) (sym none) ∙ way.leads) way.stands
 
-  pub rounded_more : (new : SplitState D) → ((s : Setup) (x : Split) → StandsFor s x state → false ≡ is_boundary x) → ((s : Setup) (x : Split) → StandsFor s x old → made < boundary_rounds s) →
+  pub rounded_more : (new : SplitState D) → ((s : Setup) (x : Split) → SplitStandsFor s x state → false ≡ is_boundary x) → ((s : Setup) (x : Split) → SplitStandsFor s x old → made < boundary_rounds s) →
       Leads round state new → Rounded (made + 1) old new
   rounded_more new away more on = record {
     standing = after_round state new is.standing on;
@@ -119,11 +119,11 @@ module _ {D : Type 0} (made : ℕ) (old state : SplitState D) (is : Rounded made
   }
 
 -- the parts of a round, one after the other
-pub round_stands : {D : Type 0} (old obeyed computed pushed taken ticked new : SplitState D) →
+pub round_stands : {D : Type 0} (old obeyed computed pushed taken end_of_cycle new : SplitState D) →
     Leads (λ s x. event_at s split.obey x) old obeyed → Leads (λ s x. event_at s split.compute x) obeyed computed → Leads (λ s x. event_at s split.push x) computed pushed →
-    Leads (λ s x. event_at s split.take x) pushed taken → Leads (λ s x. if is_place_boundary x.place then x else event_at s split.tick x) taken ticked →
-    Leads (λ s x. event_at s split.send x) ticked new → Leads round old new
-round_stands old obeyed computed pushed taken ticked new to_obeyed to_computed to_pushed to_taken to_ticked to_new = λ s x sound reached h.
+    Leads (λ s x. event_at s split.take x) pushed taken → Leads (λ s x. if is_place_boundary x.place then x else event_at s split.tick x) taken end_of_cycle →
+    Leads (λ s x. event_at s split.send x) end_of_cycle new → Leads round old new
+round_stands old obeyed computed pushed taken end_of_cycle new to_obeyed to_computed to_pushed to_taken to_ticked to_new = λ s x sound reached h.
     let o = event_at s split.obey x in
     let c = event_at s split.compute o in
     let a = event_at s split.push c in
@@ -166,7 +166,7 @@ at_next_boundary old new st made = record {
   boundary = comes_to_boundary st.setup st.split (setup_facts st.setup st.sound).some_ring st.reached;
 }
 
-pub at_the_end : {D : Type 0} (old new : SplitState D) → IsStanding old → ((s : Setup) (x : Split) → is_setup s ≡ true → IsReached s x → StandsFor s x old → IsEnded s new) → IsAtBoundary new
+pub at_the_end : {D : Type 0} (old new : SplitState D) → IsStanding old → ((s : Setup) (x : Split) → is_setup s ≡ true → IsReached s x → SplitStandsFor s x old → IsEnded s new) → IsAtBoundary new
 at_the_end old new st made =
     let ended : IsEnded st.setup new = made st.setup st.split st.sound st.reached st.stands in
     record {
@@ -175,5 +175,5 @@ at_the_end old new st made =
     }
 
 -- inside the core
-pub stands_inside : {D : Type 0} (inside value : SplitState D) → inside ≡ value → (s : Setup) (x : Split) → StandsFor s x value → StandsFor s x inside
-stands_inside {D} inside value is s x h = let P : SplitState D → Type 0 = λ state. StandsFor s x state in subst P (sym is) h
+pub stands_inside : {D : Type 0} (inside value : SplitState D) → inside ≡ value → (s : Setup) (x : Split) → SplitStandsFor s x value → SplitStandsFor s x inside
+stands_inside {D} inside value is s x h = let P : SplitState D → Type 0 = λ state. SplitStandsFor s x state in subst P (sym is) h

@@ -16,13 +16,13 @@ use Rattle.machine_laws.specs.Reached.{IsReached}
 use Rattle.machine_laws.specs.SplitLaw.{IsRun, IsLevel, IsRanged}
 use Rattle.machine_laws.proofs.SplitReached.{reached_run}
 use Rattle.func_model.specs.declared.walk.Walk.{Walk}
-use Rattle.func_model.specs.Contents.{StandsFor as HoldsArch}
+use Rattle.func_model.specs.Contents.{ContentsStandFor}
 use Rattle.func_model.specs.Side.{arch_in}
-use Rattle.func_model.specs.Walk.{Stands, IsObeyed}
+use Rattle.func_model.specs.Walk.{WalkStandsFor, IsObeyed}
 use Rattle.side_laws.specs.Along.{MayObey}
 use Rattle.side_laws.proofs.Reporting.{reports as machine_reported}
 use Rattle.split_core.specs.declared.state.SplitState.{SplitState}
-use Rattle.split_core.specs.Stands.{StandsFor, IsStanding}
+use Rattle.split_core.specs.Standing.{SplitStandsFor, IsStanding}
 use Rattle.split_core.proofs.Standing.{Agrees, agrees, ranged, position_small, epoch_small}
 
 -- the functional side may be stopped at what is committed
@@ -42,25 +42,25 @@ can_stop state st =
       within = tt;
     }
 
-pub holds_committed : {D : Type 0} (s : Setup) (x : Split) (state : SplitState D) (func : Walk D) (n : ℕ) → IsReached s x → StandsFor s x state → is_boundary x ≡ true → n ≡ state.func.committed →
-    ((s : Setup) (os : List Order) → Stands s os state.func → Stands s (Stop n ∷ os) func) → IsObeyed (Stop n) state.func func →
-    HoldsArch s (mono s x.place.run.demand.machine.cycle).arch func.contents
+pub holds_committed : {D : Type 0} (s : Setup) (x : Split) (state : SplitState D) (func : Walk D) (n : ℕ) → IsReached s x → SplitStandsFor s x state → is_boundary x ≡ true → n ≡ state.func.committed →
+    ((s : Setup) (os : List Order) → WalkStandsFor s os state.func → WalkStandsFor s (Stop n ∷ os) func) → IsObeyed (Stop n) state.func func →
+    ContentsStandFor s (mono s x.place.run.demand.machine.cycle).arch func.contents
 holds_committed {D} s x state func n reached h at is stands moved =
     let level : IsLevel s x = (reached_run s x reached).level at in
     let same : Agrees x state = agrees s x state reached h in
     let there : path s (Stop n ∷ x.obeyed) func.position ≡ (mono s x.place.run.demand.machine.cycle).arch =
     path-stop s n x.obeyed func.position ∙ ap (path s x.obeyed) (moved.position ∙ is ∙ same.committed) ∙ level.state in
-    let P : Arch → Type 0 = λ a. HoldsArch {D = D} s a func.contents in
+    let P : Arch → Type 0 = λ a. ContentsStandFor {D = D} s a func.contents in
     subst P there (stands s x.obeyed h.func).holds.contents
 
 pub reports : {D : Type 0} (s : Setup) (x : Split) (walk : Walk D) (end : End) (stats : Stats) → IsReached s x → is_boundary x ≡ true →
-    HoldsArch s (mono s x.place.run.demand.machine.cycle).arch walk.contents → length walk.contents.hart.regs ≡ 32 →
+    ContentsStandFor s (mono s x.place.run.demand.machine.cycle).arch walk.contents → length walk.contents.hart.regs ≡ 32 →
     end ≡ x.place.run.demand.machine.end → stats ≡ stats_of s x.place.run.demand.machine →
     (let it : Final = record { end = end; stats = stats; pc = (arch_in walk).pc; regs = (arch_in walk).regs; csrs = (arch_in walk).csrs; cmp = (arch_in walk).cmp } in it)
     ≡ final s x.place.run.demand.machine.cycle
 reports s x walk end stats reached at holds whole end_is stats_is =
     let run : IsRun s x = reached_run s x reached in
-    let both = and_parts (is_place_boundary x.place && is_none x.hand) (length x.listed == 0) at in
+    let both = and_parts (is_place_boundary x.place && is_none x.hand) (length x.listed_orders == 0) at in
     let sides = and_parts (is_place_boundary x.place) (is_none x.hand) both.0 in
     let same : x.place.run.demand.machine ≡ mono s x.place.run.demand.machine.cycle = (run.machine sides.0).machine in
     machine_reported s (mono s x.place.run.demand.machine.cycle) walk end stats holds whole

@@ -9,14 +9,14 @@ use Rattle.machine_laws.proofs.SplitReached.{reached_run, event_reached}
 use Rattle.machine_laws.proofs.SplitRanges.{run_ranged}
 use Rattle.side_laws.proofs.Committed.{committed_is}
 use Rattle.split_core.specs.declared.state.SplitState.{SplitState}
-use Rattle.split_core.specs.Stands.{StandsFor, IsStanding}
+use Rattle.split_core.specs.Standing.{SplitStandsFor, IsStanding}
 
 -- the functional side's numbers are those of the split state
 pub record Agrees {D : Type 0} (x : Split) (state : SplitState D) : Type 0 where
   pub committed : state.func.committed ≡ x.committed_number
   pub stopped : state.func.is_stopped ≡ x.is_stopped
 
-pub agrees : {D : Type 0} (s : Setup) (x : Split) (state : SplitState D) → IsReached s x → StandsFor s x state → Agrees x state
+pub agrees : {D : Type 0} (s : Setup) (x : Split) (state : SplitState D) → IsReached s x → SplitStandsFor s x state → Agrees x state
 agrees s x state reached h =
     let run : IsRun s x = reached_run s x reached in
     record {
@@ -39,7 +39,7 @@ epoch_small state st =
 
 -- an event leads on
 pub after_event : {D : Type 0} (e : Event) (old new : SplitState D) → IsStanding old →
-    ((s : Setup) (x : Split) → is_setup s ≡ true → IsReached s x → StandsFor s x old → StandsFor s (event_at s e x) new) → IsStanding new
+    ((s : Setup) (x : Split) → is_setup s ≡ true → IsReached s x → SplitStandsFor s x old → SplitStandsFor s (event_at s e x) new) → IsStanding new
 after_event e old new st made = record {
   setup = st.setup;
   sound = st.sound;
@@ -49,8 +49,8 @@ after_event e old new st made = record {
 }
 
 -- what changes nothing leaves the core as it is
-pub still_stands : {D : Type 0} (s : Setup) (x y : Split) (state : SplitState D) → y ≡ x → StandsFor s x state → StandsFor s y state
-still_stands {D} s x y state same h = let P : Split → Type 0 = λ z. StandsFor {D = D} s z state in subst P (sym same) h
+pub still_stands : {D : Type 0} (s : Setup) (x y : Split) (state : SplitState D) → y ≡ x → SplitStandsFor s x state → SplitStandsFor s y state
+still_stands {D} s x y state same h = let P : Split → Type 0 = λ z. SplitStandsFor {D = D} s z state in subst P (sym same) h
 
 pub none_is : {A : Type 0} (o : Option A) → is_none o ≡ true → o ≡ None
 none_is None is = refl

@@ -14,9 +14,9 @@ use Rattle.machine_laws.proofs.SplitReached.{reached_run}
 use Rattle.time_model.specs.declared.state.TimeState.{TimeState}
 use Rattle.time_model.specs.declared.side.Taken.{Taken}
 use Rattle.time_model.specs.declared.side.Taken.TheVariants.{Used, Dropped}
-use Rattle.time_model.specs.Stands.{StandsAt, IsRight}
+use Rattle.time_model.specs.Standing.{TimeSideStandsFor, IsRight}
 use Rattle.split_core.specs.declared.state.SplitState.{SplitState}
-use Rattle.split_core.specs.Stands.{StandsFor, IsStanding}
+use Rattle.split_core.specs.Standing.{SplitStandsFor, IsStanding}
 use Rattle.split_core.proofs.Standing.{still_stands, none_is, front_is, no_front}
 
 take_is : (s : Setup) (x : Split) → event_at s take x ≡ on_take x.entries x
@@ -30,30 +30,30 @@ take_by x (e ∷ rest) may = cond-false (may_take x) _ _ may
 not_equal : (m n : ℕ) → (m ≡ n → ⊥) → (m == n) ≡ false
 not_equal m n apart = grind (arith, common_steps)
 
-module _ {D : Type 0} (s : Setup) (x : Split) (state : SplitState D) (h : StandsFor s x state) where
+module _ {D : Type 0} (s : Setup) (x : Split) (state : SplitState D) (h : SplitStandsFor s x state) where
   items_are : state.entries.items ≡ x.entries
   items_are = ap (λ (b : Buffer Entry). b.items) h.entries
 
   -- whether the timing side wants an entry is whether the event may happen
-  may_is : (wants : Bool) → ((s : Setup) (k : ℕ) → StandsAt s k state.time → wants ≡ (needs_entry (place s k) && is_none state.time.held)) → may_take x ≡ wants
+  may_is : (wants : Bool) → ((s : Setup) (k : ℕ) → TimeSideStandsFor s k state.time → wants ≡ (needs_entry (place s k) && is_none state.time.held)) → may_take x ≡ wants
   may_is wants is =
       ap (λ (p : Place). needs_entry p && is_none x.held) h.place ∙ ap (λ (o : Option Entry). needs_entry (place s h.behind) && is_none o) (sym h.held) ∙ sym (is s h.behind h.time)
 
-  pub wants_none : ((s : Setup) (k : ℕ) → StandsAt s k state.time → false ≡ (needs_entry (place s k) && is_none state.time.held)) → StandsFor s (event_at s take x) state
+  pub wants_none : ((s : Setup) (k : ℕ) → TimeSideStandsFor s k state.time → false ≡ (needs_entry (place s k) && is_none state.time.held)) → SplitStandsFor s (event_at s take x) state
   wants_none is = still_stands s x (event_at s take x) state (take_is s x ∙ take_by x x.entries (may_is false is)) h
 
   module _ (entries : Buffer Entry) (popped : entries ≡ buffer (drop 1 state.entries.items) state.entries.capacity) where
-    pub nothing_taken : slice_get state.entries.items 0 ≡ None → StandsFor s (event_at s take x) (record state { entries = entries })
+    pub nothing_taken : slice_get state.entries.items 0 ≡ None → SplitStandsFor s (event_at s take x) (record state { entries = entries })
     nothing_taken front =
         let none : state.entries.items ≡ [] = no_front state.entries.items front in
         let same : entries ≡ state.entries = popped ∙ ap (λ (es : List Entry). buffer (drop 1 es) state.entries.capacity) none ∙ ap (λ (es : List Entry). buffer es state.entries.capacity) (sym none) in
-        let P : Buffer Entry → Type 0 = λ b. StandsFor s x (record state { entries = b }) in
+        let P : Buffer Entry → Type 0 = λ b. SplitStandsFor s x (record state { entries = b }) in
         still_stands s x (event_at s take x) (record state { entries = entries })
         (take_is s x ∙ ap (λ (es : List Entry). on_take es x) (sym items_are ∙ none))
         (subst P (sym same) h)
 
     module _ (reached : IsReached s x) (e : Entry) (front : slice_get state.entries.items 0 ≡ Some e)
-        (wants : (s : Setup) (k : ℕ) → StandsAt s k state.time → true ≡ (needs_entry (place s k) && is_none state.time.held)) where
+        (wants : (s : Setup) (k : ℕ) → TimeSideStandsFor s k state.time → true ≡ (needs_entry (place s k) && is_none state.time.held)) where
       listed_is : x.entries ≡ e ∷ drop 1 x.entries
       listed_is = front_is x.entries e (ap (λ (es : List Entry). slice_get es 0) (sym items_are) ∙ front)
 
@@ -66,9 +66,9 @@ module _ {D : Type 0} (s : Setup) (x : Split) (state : SplitState D) (h : Stands
           run.next e (drop 1 x.entries) parts.0 (none_is x.held parts.1) listed_is epoch ∙ ap (needed_entry s) h.place
 
       pub entry_taken : (time : TimeState) (answer : Taken) →
-          ((s : Setup) (k : ℕ) → StandsAt s k state.time → (e.epoch ≡ state.time.epoch → e ≡ needed_entry s (place s k)) → StandsAt s k time) →
+          ((s : Setup) (k : ℕ) → TimeSideStandsFor s k state.time → (e.epoch ≡ state.time.epoch → e ≡ needed_entry s (place s k)) → TimeSideStandsFor s k time) →
           (answer ≡ Used → time ≡ record state.time { held = Some e }) → (answer ≡ Dropped → time ≡ state.time) →
-          ((answer ≡ Used) ↔ (e.epoch ≡ state.time.epoch)) → StandsFor s (event_at s take x) (record state { entries = entries; time = time })
+          ((answer ≡ Used) ↔ (e.epoch ≡ state.time.epoch)) → SplitStandsFor s (event_at s take x) (record state { entries = entries; time = time })
       entry_taken time answer stands used dropped by_epoch = still_stands s (taken e (drop 1 x.entries) x) (event_at s take x) (record state { entries = entries; time = time })
           (take_is s x ∙ ap (λ (es : List Entry). on_take es x) listed_is ∙ cond-true (may_take x) _ _ (may_is true wants))
           (record {
@@ -81,7 +81,7 @@ module _ {D : Type 0} (s : Setup) (x : Split) (state : SplitState D) (h : Stands
             computed = h.computed;
             hand = h.hand;
             entries = popped ∙ ap (λ (b : Buffer Entry). buffer (drop 1 b.items) b.capacity) h.entries;
-            listed = h.listed;
+            listed_orders = h.listed_orders;
             rounds = h.rounds;
             steps = h.steps;
             going = h.going;
@@ -102,7 +102,7 @@ module _ {D : Type 0} (s : Setup) (x : Split) (state : SplitState D) (h : Stands
               other is = cc
 
 pub is_right : {D : Type 0} (state : SplitState D) (e : Entry) → IsStanding state → slice_get state.entries.items 0 ≡ Some e →
-    ((s : Setup) (k : ℕ) → StandsAt s k state.time → true ≡ (needs_entry (place s k) && is_none state.time.held)) → IsRight e state.time
+    ((s : Setup) (k : ℕ) → TimeSideStandsFor s k state.time → true ≡ (needs_entry (place s k) && is_none state.time.held)) → IsRight e state.time
 is_right state e st front wants = record {
   setup = st.setup;
   sound = st.sound;

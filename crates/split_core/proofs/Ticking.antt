@@ -8,11 +8,11 @@ use Rattle.mono_model.specs.Demand.{At, interrupting, committing, completing, is
 use Rattle.mono_model.specs.Split.{Split, tick, event_at, may_tick, is_halted, ticked_to, told_by, held_after}
 use Rattle.time_model.specs.declared.state.TimeState.{TimeState}
 use Rattle.time_model.specs.declared.turn.Turn.{Turn}
-use Rattle.time_model.specs.Stands.{IsStep, IsMade, is_over}
+use Rattle.time_model.specs.Standing.{IsStep, IsMade, is_over}
 use Rattle.time_model.specs.Turns.{turn_told}
 use Rattle.split_core.specs.Events.{order_told}
 use Rattle.split_core.specs.declared.state.SplitState.{SplitState}
-use Rattle.split_core.specs.Stands.{StandsFor}
+use Rattle.split_core.specs.Standing.{SplitStandsFor}
 use Rattle.split_core.proofs.Standing.{still_stands, none_is}
 
 tick_not : (s : Setup) (x : Split) → may_tick x ≡ false → event_at s tick x ≡ x
@@ -56,8 +56,8 @@ told_turn None ending = refl
 told_turn None stopping = refl
 told_turn None halted = refl
 
-module _ {D : Type 0} (s : Setup) (x : Split) (state : SplitState D) (h : StandsFor s x state) where
-  pub order_in_hand : is_none state.hand ≡ false → StandsFor s (event_at s tick x) state
+module _ {D : Type 0} (s : Setup) (x : Split) (state : SplitState D) (h : SplitStandsFor s x state) where
+  pub order_in_hand : is_none state.hand ≡ false → SplitStandsFor s (event_at s tick x) state
   order_in_hand some = still_stands s x (event_at s tick x) state
       (tick_not s x (may_not_hand (is_none x.hand) (is_halted x.place.run.at && x.place.owed == 0) (needs_entry x.place && is_none x.held) (ap is_none (sym h.hand) ∙ some))) h
 
@@ -69,13 +69,13 @@ module _ {D : Type 0} (s : Setup) (x : Split) (state : SplitState D) (h : Stands
     hand_none = sym h.hand ∙ none_is state.hand none
 
     abbrev Stepped : Type 0
-    Stepped = StandsFor s (event_at s tick x) (record state { time = time; hand = order_told turn })
+    Stepped = SplitStandsFor s (event_at s tick x) (record state { time = time; hand = order_told turn })
 
     -- where no step is made the hand stays empty
     stays : may_tick x ≡ false → order_told turn ≡ None → time ≡ state.time → Stepped
     stays may told same =
-        let P : TimeState → Type 0 = λ t. StandsFor s x (record state { time = t; hand = order_told turn }) in
-        let Q : Option Order → Type 0 = λ o. StandsFor s x (record state { hand = o }) in
+        let P : TimeState → Type 0 = λ t. SplitStandsFor s x (record state { time = t; hand = order_told turn }) in
+        let Q : Option Order → Type 0 = λ o. SplitStandsFor s x (record state { hand = o }) in
         still_stands s x (event_at s tick x) (record state { time = time; hand = order_told turn }) (tick_not s x may)
         (subst P (sym same) (subst Q (none_is state.hand none ∙ sym told) h))
 
@@ -113,7 +113,7 @@ module _ {D : Type 0} (s : Setup) (x : Split) (state : SplitState D) (h : Stands
           computed = h.computed;
           hand = ap order_told is.turn_is ∙ told_turn (told_by there (place s (suc h.behind))) there.run.at ∙ told;
           entries = h.entries;
-          listed = h.listed;
+          listed_orders = h.listed_orders;
           rounds = h.rounds;
           steps = h.steps;
           going = h.going;
@@ -127,9 +127,9 @@ module _ {D : Type 0} (s : Setup) (x : Split) (state : SplitState D) (h : Stands
             ∙ ap (λ (p : Place). held_after (told_by x.place (step s x.place)) x.place p state.time.held) next
             ∙ ap (held_after (told_by x.place (step s x.place)) x.place (step s x.place)) h.held
 
-    pub ticked : (hand : Option Order) → hand ≡ order_told turn → StandsFor s (event_at s tick x) (record state { time = time; hand = hand })
-    ticked hand told =
-        let P : Option Order → Type 0 = λ o. StandsFor s (event_at s tick x) (record state { time = time; hand = o }) in
+    pub end_of_cycle : (hand : Option Order) → hand ≡ order_told turn → SplitStandsFor s (event_at s tick x) (record state { time = time; hand = hand })
+    end_of_cycle hand told =
+        let P : Option Order → Type 0 = λ o. SplitStandsFor s (event_at s tick x) (record state { time = time; hand = o }) in
         subst P (sym told) (by_lack (needs_entry there && is_none state.time.held) refl)
       where
         by_over : (lacks : (needs_entry there && is_none state.time.held) ≡ false) (b : Bool) → is_over there ≡ b → Stepped

@@ -1,3 +1,3 @@
 pub mod Events
-pub mod Stands
+pub mod Standing
 pub mod Plays

@@ -6,7 +6,7 @@ ghost use Rattle.mono_model.specs.Split.{boundary_rounds};
 use mono_model::Setup;
 
 /// A boundary is never further than so many rounds.
-pub fn rounds_to_boundary(setup: &Setup) -> u32
+pub fn most_rounds(setup: &Setup) -> u32
     requires sound { is_setup setup.now ≡ true }
     ensures rounds { result ≡ boundary_rounds setup.now }
 {

@@ -1,6 +1,6 @@
 ghost use Rattle.std.specs.Prelude.{◌≡◌, [], is_none, true};
 ghost use Rattle.split_core.specs.Plays.{Plays};
-ghost use Rattle.split_core.specs.Stands.{IsStanding};
+ghost use Rattle.split_core.specs.Standing.{IsStanding};
 
 use crate::state::SplitState;
 use device_bus::Device;

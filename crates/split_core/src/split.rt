@@ -23,7 +23,7 @@ pub struct SplitCore<D: Device> {
 impl<D: Device> Model for SplitCore<D> {
     ghost use Rattle.std.specs.Prelude.{◌≡◌, false};
     ghost use Rattle.split_core.specs.declared.state.SplitState.{SplitState};
-    ghost use Rattle.split_core.specs.Stands.{IsStanding};
+    ghost use Rattle.split_core.specs.Standing.{IsStanding};
 
     ghost Value = { SplitState D };
 
@@ -39,15 +39,15 @@ impl<D: Device> SplitCore<D> {
     ghost use Rattle.mono_model.specs.Split.{Split, split_start, played, to_boundary};
     ghost use Rattle.func_model.specs.Contents.{output_in};
     ghost use Rattle.split_core.specs.Events.{event_in};
-    ghost use Rattle.split_core.specs.Stands.{StandsFor, Leads, LeadsToEnd, TellsBoundary};
-    ghost use Rattle.split_core.specs.Stands.{IsAtBoundary, Reports, GoesBack};
+    ghost use Rattle.split_core.specs.Standing.{SplitStandsFor, Leads, LeadsToEnd, TellsBoundary};
+    ghost use Rattle.split_core.specs.Standing.{IsAtBoundary, Reports, GoesBack};
 
     /// The core at the start of a run: nothing was computed, and nothing is under way. All memory
     /// of the run is taken here; a refusal drops what it was given.
     pub fn new(alloc: Global, setup: &Setup, devices: Vec<D>) -> Result<SplitCore<D>, NoMemory>
         requires sound { is_setup setup.now ≡ true }
         requires order { map D.kind devices.items ≡ device_order }
-        ensures stands { IfOk result (λ core. StandsFor setup.now (split_start setup.now) core) }
+        ensures stands { IfOk result (λ core. SplitStandsFor setup.now (split_start setup.now) core) }
     {
         let state = SplitState::new(alloc, setup, devices)?;
         Ok(SplitCore { state })
@@ -115,7 +115,7 @@ impl<D: Device> SplitCore<D> {
 
     /// The number of the cycle that the timing side is in, counted from 0.
     pub fn cycle(&self) -> u64
-        ensures cycle { (s : RunSetup) (x : Split) → StandsFor s x self.now
+        ensures cycle { (s : RunSetup) (x : Split) → SplitStandsFor s x self.now
             → result ≡ x.place.run.demand.machine.cycle }
     {
         self.state.time.cycle()

@@ -1,7 +1,7 @@
 ghost use Rattle.std.specs.Prelude.{◌≡◌, ℕ, true, false, map, IfOk};
 ghost use Rattle.split_core.specs.Events.{order_told};
 
-use crate::bounds::{most_steps, rounds_to_boundary};
+use crate::bounds::{most_rounds, most_steps};
 use crate::event::Event;
 use circular_buffer::HeapCircularBuffer;
 use device_bus::Device;
@@ -21,7 +21,7 @@ pub struct SplitState<D: Device> {
     /// Entries on their way to the timing side, the oldest first.
     pub entries: HeapCircularBuffer<Entry>,
     /// Orders on their way to the functional side, the oldest first.
-    pub listed: HeapCircularBuffer<Order>,
+    pub listed_orders: HeapCircularBuffer<Order>,
     /// The entry that was computed and not pushed yet.
     pub computed: Option<Entry>,
     /// The order that was told and not sent yet.
@@ -42,32 +42,32 @@ impl<D: Device> SplitState<D> {
     ghost use Rattle.mono_model.specs.Split.{send, event_at, played, round, to_boundary};
     ghost use Rattle.mono_model.specs.Split.{is_place_boundary};
     ghost use Rattle.split_core.specs.Events.{event_in};
-    ghost use Rattle.split_core.specs.Stands.{StandsFor, Leads, LeadsToEnd, TellsBoundary};
-    ghost use Rattle.split_core.specs.Stands.{IsStanding, IsAtBoundary, Reports, GoesBack};
+    ghost use Rattle.split_core.specs.Standing.{SplitStandsFor, Leads, LeadsToEnd, TellsBoundary};
+    ghost use Rattle.split_core.specs.Standing.{IsStanding, IsAtBoundary, Reports, GoesBack};
 
     /// Both sides at the start of a run, with nothing under way. All memory of the run is taken
     /// here.
     pub fn new(alloc: Global, setup: &Setup, devices: Vec<D>) -> Result<SplitState<D>, NoMemory>
         requires sound { is_setup setup.now ≡ true }
         requires order { map D.kind devices.items ≡ device_order }
-        ensures stands { IfOk result (λ state. StandsFor setup.now (split_start setup.now) state) }
+        ensures stands { IfOk result (λ state. SplitStandsFor setup.now (split_start setup.now) state) }
     {
         let func = FuncSide::new(alloc, setup, devices)?;
         let time = TimeSide::new(alloc, setup)?;
         let Ok(entries) = HeapCircularBuffer::with_capacity(alloc, setup.ring as usize) else {
             return Err(NoMemory);
         };
-        let Ok(listed) = HeapCircularBuffer::with_capacity(alloc, ORDER_ROOM) else {
+        let Ok(listed_orders) = HeapCircularBuffer::with_capacity(alloc, ORDER_ROOM) else {
             return Err(NoMemory);
         };
         Ok(SplitState {
             func,
             time,
             entries,
-            listed,
+            listed_orders,
             computed: None,
             hand: None,
-            rounds: rounds_to_boundary(setup),
+            rounds: most_rounds(setup),
             steps: most_steps(setup),
             is_over: false,
         })
@@ -101,7 +101,7 @@ impl<D: Device> SplitState<D> {
         requires standing { IsStanding self.old }
         ensures obeyed { Leads (λ s. event_at s obey) self.old self.new }
     {
-        if let Some(order) = self.listed.pop_front() {
+        if let Some(order) = self.listed_orders.pop_front() {
             self.func.obey(order);
             if order.opens_epoch() {
                 self.computed = None;
@@ -111,7 +111,7 @@ impl<D: Device> SplitState<D> {
 
     /// The timing side makes a step, if no order is in hand.
     pub fn tick(&mut self)
-        ensures ticked { Leads (λ s. event_at s tick) self.old self.new }
+        ensures end_of_cycle { Leads (λ s. event_at s tick) self.old self.new }
     {
         if self.hand.is_none() {
             self.hand = order_told(self.time.step());
@@ -135,7 +135,7 @@ impl<D: Device> SplitState<D> {
         ensures sent { Leads (λ s. event_at s send) self.old self.new }
     {
         if let Some(order) = self.hand {
-            if self.listed.try_push_back(order).is_ok() {
+            if self.listed_orders.try_push_back(order).is_ok() {
                 self.hand = None;
             }
         }
@@ -170,7 +170,7 @@ impl<D: Device> SplitState<D> {
     pub fn at_boundary(&self) -> bool
         ensures boundary { TellsBoundary self.now result }
     {
-        self.time.at_boundary() && self.hand.is_none() && self.listed.is_empty()
+        self.time.at_boundary() && self.hand.is_none() && self.listed_orders.is_empty()
     }
 
     /// A round of events, which leaves out the step of the timing side where that stands at a
@@ -189,7 +189,7 @@ impl<D: Device> SplitState<D> {
 
     /// The timing side makes a step, if it isn't at a boundary.
     fn tick_within_cycle(&mut self)
-        ensures ticked { Leads (λ s x. if is_place_boundary x.place then x else event_at s tick x)
+        ensures end_of_cycle { Leads (λ s x. if is_place_boundary x.place then x else event_at s tick x)
             self.old self.new }
     {
         if !self.time.at_boundary() {

@@ -4,7 +4,7 @@
 ghost use Rattle.std.specs.Prelude.{◌≡◌, false, map, true, IfOk};
 ghost use Rattle.device_bus.specs.Bus.{device_order};
 ghost use Rattle.mono_model.specs.Setup.{is_setup};
-ghost use Rattle.split_core.specs.Stands.{IsAtBoundary};
+ghost use Rattle.split_core.specs.Standing.{IsAtBoundary};
 
 /// The three devices in order.
 macro_rules! devices {

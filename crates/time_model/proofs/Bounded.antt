@@ -21,26 +21,26 @@ use Rattle.mono_model.specs.Setup.{caches_params}
 use Rattle.mono_model.specs.Sound.{IsSetup}
 use Rattle.mono_model.specs.Found.{is_fence_i}
 use Rattle.mono_model.specs.Demand.{At, interrupting, committing, completing, issuing, trying, ending, stopping, halted, place, needed_entry}
-use Rattle.timing_laws.specs.Slots.{found_in}
-use Rattle.timing_laws.specs.Timing.{Timing, timing_start, cut_to, quiet, ordering}
-use Rattle.timing_laws.specs.Interrupt.{is_pending, take_interrupt, timing_interrupt}
-use Rattle.timing_laws.specs.Commit.{Leaving, stays, full, leaves, faults, syncs, ends, committed, leaving_by, has_no_room, leaving_done, leaving_state, leaving_first, leaving, Committed, after_leaving, commits, timing_commit}
-use Rattle.timing_laws.specs.Complete.{completes, completed_by, timing_complete}
-use Rattle.timing_laws.specs.Issue.{wants_time, replayed, issued, timing_issue}
-use Rattle.timing_laws.specs.Fetch.{is_fetchable, cache_read, missed, appended, path_orders, predicted_next, Tried, tried, timing_try}
-use Rattle.timing_laws.specs.Turn.{timing_turn, timing_tick}
-use Rattle.timing_laws.specs.Step.{TimingPlace, Stepped, timing_place_start, step_by, telling, timing_step}
+use Rattle.timing_side.specs.Slots.{found_in}
+use Rattle.timing_side.specs.Timing.{Timing, timing_start, cut_to, quiet, ordering}
+use Rattle.timing_side.specs.Interrupt.{is_pending, take_interrupt, timing_interrupt}
+use Rattle.timing_side.specs.Commit.{Leaving, stays, full, leaves, faults, syncs, ends, committed, leaving_by, has_no_room, leaving_done, leaving_state, leaving_first, leaving, Committed, after_leaving, commits, timing_commit}
+use Rattle.timing_side.specs.Complete.{completes, completed_by, timing_complete}
+use Rattle.timing_side.specs.Issue.{wants_time, replayed, issued, timing_issue}
+use Rattle.timing_side.specs.Fetch.{is_fetchable, cache_read, missed, appended, path_orders, predicted_next, Tried, tried, timing_try}
+use Rattle.timing_side.specs.Turn.{timing_turn, timing_end_of_cycle}
+use Rattle.timing_side.specs.Step.{TimingPlace, Stepped, timing_place_start, step_by, telling, timing_step}
 use Rattle.timing_laws.specs.Seen.{seen_at}
 use Rattle.timing_laws.proofs.Stepping.{starts, place_step}
 
 pub record IsBounded (t : Timing) : Type 0 where
-  pub retired : t.retired ≤ t.done
+  pub retired : t.retired ≤ t.to_commit
   pub resume : t.resume ≤ t.cycle + 1000
 
 interrupt_bounded : (t : Timing) → IsBounded t → IsBounded (timing_interrupt t).timing
 unfolding timing_interrupt cut_to
 interrupt_bounded t is =
-    cond_both (is_pending t) (ordering (Interrupt t.done) (take_interrupt t)) (quiet t) (λ p. IsBounded p.timing)
+    cond_both (is_pending t) (ordering (Interrupt t.to_commit) (take_interrupt t)) (quiet t) (λ p. IsBounded p.timing)
     (λ e. record { retired = is.retired; resume = omega arith }) (λ e. is)
 
 -- the slots that leave
@@ -110,7 +110,7 @@ complete_bounded t is = let c = completes t.cycle t.slots in completed_bounded c
 issue_bounded : (s : Setup) (t : Timing) → IsBounded t → IsBounded (timing_issue s t).timing
 unfolding timing_issue cut_to
 issue_bounded s t is =
-    cond_both (wants_time s t) (ordering (Time t.done t.cycle) (replayed t)) (quiet (issued s t)) (λ p. IsBounded p.timing)
+    cond_both (wants_time s t) (ordering (Time t.to_commit t.cycle) (replayed t)) (quiet (issued s t)) (λ p. IsBounded p.timing)
     (λ e. record { retired = is.retired; resume = omega arith }) (λ e. record { retired = is.retired; resume = is.resume })
 
 -- the cycles of a miss
@@ -150,7 +150,7 @@ module _ (s : Setup) (facts : IsSetup s) where
           (λ none. record { retired = is.retired; resume = is.resume })
 
   turn_bounded : (e : Entry) (at : At) (t : Timing) → IsBounded t → IsBounded (timing_turn s e at t).timing
-  unfolding timing_turn timing_tick
+  unfolding timing_turn timing_end_of_cycle
   turn_bounded e interrupting t is = interrupt_bounded t is
   turn_bounded e committing t is = commit_bounded s t is
   turn_bounded e completing t is = complete_bounded t is

@@ -27,7 +27,7 @@ pub seen_room : (s : Setup) (k : ℕ) → is_try (place s k).run.at ≡ true →
 unfolding seen_at seen
 seen_room s k is =
     let d = (place s k).run.demand in
-    omega (arith, slots_length s d.orders d.done d.machine.window, try_room s (place s k).run.at d.machine is (place_within s k).room)
+    omega (arith, slots_length s d.orders d.to_commit d.machine.window, try_room s (place s k).run.at d.machine is (place_within s k).room)
 
 -- the slot behind the youngest one of a window has the number behind all of them
 abbrev pub IsBehind : ℕ → List Slot → Type 0
@@ -50,4 +50,4 @@ pub seen_behind : (s : Setup) (k : ℕ) → IsBehind (needed_entry s (place s k)
 unfolding seen_at seen
 seen_behind s k =
     let d = (place s k).run.demand in
-    subst (λ (n : ℕ). IsBehind n (slots_of (entry s d.orders) d.done d.machine.window)) (sym (entry_number s d.orders (next d))) (slots_behind s d.orders d.done d.machine.window)
+    subst (λ (n : ℕ). IsBehind n (slots_of (entry s d.orders) d.to_commit d.machine.window)) (sym (entry_number s d.orders (next d))) (slots_behind s d.orders d.to_commit d.machine.window)

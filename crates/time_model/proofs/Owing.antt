@@ -10,7 +10,7 @@ use Rattle.machine_laws.proofs.Owing.{place_owes}
 use Rattle.timing_laws.specs.Seen.{seen_at}
 use Rattle.time_model.specs.declared.state.TimeState.{TimeState}
 use Rattle.time_model.specs.At.{at_in}
-use Rattle.time_model.specs.Stands.{StandsAt, owed_in, wants_in, is_over}
+use Rattle.time_model.specs.Standing.{TimeSideStandsFor, owed_in, wants_in, is_over}
 use Rattle.time_model.specs.Turning.{over_in}
 use Rattle.time_model.proofs.Bool.{and_if, and_swap}
 
@@ -22,18 +22,18 @@ owed_none p (owes_one is m q os orders opens on) None e =
 owed_none p (owes_one is m q os orders opens on) (Some o) e = sym (ne_eqb p.owed 0 (λ none. omega arith))
 
 -- what a side owes, wants and has over is what the place has
-pub stands_owed : (s : Setup) (k : ℕ) (side : TimeState) → StandsAt s k side → is_none side.owed ≡ ((place s k).owed == 0)
+pub stands_owed : (s : Setup) (k : ℕ) (side : TimeState) → TimeSideStandsFor s k side → is_none side.owed ≡ ((place s k).owed == 0)
 unfolding seen_at
 stands_owed s k side h = owed_none (place s k) (place_owes s k) side.owed h.owed
 
-pub stands_wants : (s : Setup) (k : ℕ) (side : TimeState) → StandsAt s k side → wants_in side ≡ (needs_entry (place s k) && is_none side.held)
+pub stands_wants : (s : Setup) (k : ℕ) (side : TimeState) → TimeSideStandsFor s k side → wants_in side ≡ (needs_entry (place s k) && is_none side.held)
 unfolding wants_in
 stands_wants s k side h =
     ap (λ (b : Bool). b && is_try (at_in side.at) && is_none side.held) (stands_owed s k side h)
     ∙ ap (λ (at : At). ((place s k).owed == 0) && is_try at && is_none side.held) h.at
     ∙ ap (λ (b : Bool). b && is_none side.held) (and_if ((place s k).owed == 0) (is_try (place s k).run.at))
 
-pub stands_over : (s : Setup) (k : ℕ) (side : TimeState) → StandsAt s k side → over_in side ≡ is_over (place s k)
+pub stands_over : (s : Setup) (k : ℕ) (side : TimeState) → TimeSideStandsFor s k side → over_in side ≡ is_over (place s k)
 stands_over s k side h =
     ap (λ (b : Bool). b && is_halted (at_in side.at)) (stands_owed s k side h)
     ∙ ap (λ (at : At). ((place s k).owed == 0) && is_halted at) h.at

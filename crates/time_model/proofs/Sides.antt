@@ -9,33 +9,33 @@ use Rattle.mono_model.specs.Setup.{is_setup}
 use Rattle.mono_model.specs.Demand.{At, is_try, Place, place, needs_entry, needed_entry}
 use Rattle.mono_model.specs.Split.{has_appended, is_cycle_start, is_place_boundary}
 use Rattle.machine_laws.proofs.SplitEntries.{needs_on}
-use Rattle.timing_laws.specs.Timing.{Timing, timing_start}
-use Rattle.timing_laws.specs.Turn.{timing_turn}
-use Rattle.timing_laws.specs.Step.{TimingPlace, timing_place_start}
+use Rattle.timing_side.specs.Timing.{Timing, timing_start}
+use Rattle.timing_side.specs.Turn.{timing_turn}
+use Rattle.timing_side.specs.Step.{TimingPlace, timing_place_start}
 use Rattle.timing_laws.specs.Seen.{seen, seen_at}
 use Rattle.timing_laws.proofs.Stepping.{starts}
 use Rattle.timing_core.specs.declared.orders.Orders.{Orders}
 use Rattle.timing_core.specs.declared.state.TimingCore.{TimingCore}
 use Rattle.timing_core.specs.Orders.{orders_in}
-use Rattle.timing_core.specs.Keeps.{Keeps}
+use Rattle.timing_core.specs.CoreStandsFor.{CoreStandsFor}
 use Rattle.time_model.specs.declared.at.At.TheVariants as code
 use Rattle.time_model.specs.declared.state.TimeState.{TimeState}
 use Rattle.time_model.specs.declared.turn.Turn.{Turn}
 use Rattle.time_model.specs.declared.turn.Turn.TheVariants as turn
 use Rattle.time_model.specs.At.{at_in}
-use Rattle.time_model.specs.Stands.{StandsAt, IsStanding, owed_in, wants_in, is_over, IsMade, IsStep}
-use Rattle.time_model.specs.Turning.{MayTry, IsTurned, IsDue, over_in, held_by, due_by}
+use Rattle.time_model.specs.Standing.{TimeSideStandsFor, IsStanding, owed_in, wants_in, is_over, IsMade, IsStep}
+use Rattle.time_model.specs.Turning.{MayTry, IsTurned, IsTold, over_in, held_by, turned_by}
 use Rattle.time_model.proofs.Bool.{if_not}
 use Rattle.time_model.proofs.Owing.{stands_owed, stands_wants, stands_over}
 use Rattle.time_model.proofs.Numbers.{IsBehind, seen_room, seen_behind}
 use Rattle.time_model.proofs.Steps.{none_appended, due_timing}
 
 -- the start of a run
-pub start_stands : (s : Setup) (core : TimingCore) → Keeps s timing_start core →
-    StandsAt s 0 (record { core = core; at = code.Interrupting; owed = None; epoch = 0; held = None })
+pub start_stands : (s : Setup) (core : TimingCore) → CoreStandsFor s timing_start core →
+    TimeSideStandsFor s 0 (record { core = core; at = code.Interrupting; owed = None; epoch = 0; held = None })
 unfolding place seen_at timing_place_start
 start_stands s core is = record {
-  core = subst (λ (p : TimingPlace). Keeps s p.timing core) (sym (starts s)) is;
+  core = subst (λ (p : TimingPlace). CoreStandsFor s p.timing core) (sym (starts s)) is;
   at = refl;
   owed = refl;
   epoch = refl;
@@ -43,12 +43,12 @@ start_stands s core is = record {
 }
 
 -- the boundaries
-pub stands_boundary : (s : Setup) (k : ℕ) (side : TimeState) → StandsAt s k side → (is_none side.owed && is_cycle_start (at_in side.at)) ≡ is_place_boundary (place s k)
+pub stands_boundary : (s : Setup) (k : ℕ) (side : TimeState) → TimeSideStandsFor s k side → (is_none side.owed && is_cycle_start (at_in side.at)) ≡ is_place_boundary (place s k)
 stands_boundary s k side h =
     ap (λ (b : Bool). b && is_cycle_start (at_in side.at)) (stands_owed s k side h) ∙ ap (λ (at : At). ((place s k).owed == 0) && is_cycle_start at) h.at
 
 -- What a step says and leaves, where it waits, rests and goes on.
-module _ (s : Setup) (k : ℕ) (side : TimeState) (h : StandsAt s k side) where
+module _ (s : Setup) (k : ℕ) (side : TimeState) (h : TimeSideStandsFor s k side) where
   needs_of : wants_in side ≡ true → needs_entry (place s k) ≡ true
   needs_of wants = (and_parts (needs_entry (place s k)) (is_none side.held) (sym (stands_wants s k side h) ∙ wants)).0
 
@@ -81,7 +81,7 @@ module _ (s : Setup) (k : ℕ) (side : TimeState) (h : StandsAt s k side) where
           let both : (needs_entry (place s k) && is_none side.held) ≡ true = (λ i. needs i && absent i) in cc
 
 -- a side stands behind each step
-pub stands_after : (old new : TimeState) (what : Turn) → IsStanding old → ((s : Setup) (k : ℕ) → is_setup s ≡ true → StandsAt s k old → IsStep s k old new what) → IsStanding new
+pub stands_after : (old new : TimeState) (what : Turn) → IsStanding old → ((s : Setup) (k : ℕ) → is_setup s ≡ true → TimeSideStandsFor s k old → IsStep s k old new what) → IsStanding new
 stands_after old new what is step = by_tests (needs_entry p) refl (is_none old.held) refl (is_over p) refl
   where
     s : Setup
@@ -111,7 +111,7 @@ holds_by : (needed : Entry) (held : Option Entry) → IfSome held (λ e. e ≡ n
 holds_by needed None right some = cc
 holds_by needed (Some e) right some = ap Some right
 
-pub try_holds : (s : Setup) (k : ℕ) (side : TimeState) → StandsAt s k side → side.owed ≡ None → wants_in side ≡ false → is_try (at_in side.at) ≡ true →
+pub try_holds : (s : Setup) (k : ℕ) (side : TimeState) → TimeSideStandsFor s k side → side.owed ≡ None → wants_in side ≡ false → is_try (at_in side.at) ≡ true →
     side.held ≡ Some (needed_entry s (place s k))
 unfolding wants_in
 try_holds s k side h none free try =
@@ -132,8 +132,8 @@ may_try side is none free try =
     }
 
 -- The orders that stand to be told: the owed one.
-pub owed_due : (s : Setup) (k : ℕ) (old : TimeState) (o : Order) (behind : Option Order) (told : Orders) → StandsAt s k old → over_in old ≡ false → old.owed ≡ Some o → orders_in told ≡ o ∷ [] →
-    IsDue s k old (record old { owed = behind }) told
+pub owed_due : (s : Setup) (k : ℕ) (old : TimeState) (o : Order) (behind : Option Order) (told : Orders) → TimeSideStandsFor s k old → over_in old ≡ false → old.owed ≡ Some o → orders_in told ≡ o ∷ [] →
+    IsTold s k old (record old { owed = behind }) told
 unfolding seen_at
 owed_due s k old o behind told h on some one =
     let p = seen_at s (place s k) in
@@ -143,24 +143,24 @@ owed_due s k old o behind told h on some one =
     let free : needs_entry (place s k) ≡ false = ap (λ (b : Bool). if b then is_try (place s k).run.at else false) owes in
     let still = none_appended s k (sym (stands_over s k old h) ∙ on) free in
     record {
-      made = subst (λ (os : List Order). IsTurned s (due_by s e p os) (record old { owed = behind }) told) (sym is)
+      made = subst (λ (os : List Order). IsTurned s (turned_by s e p os) (record old { owed = behind }) told) (sym is)
           (record { core = h.core; at = h.at; orders = one });
       held = ap (λ (b : Bool). if b then None else old.held) (sym still);
     }
 
 -- or those of the turn that is made
-pub turned_due : (s : Setup) (k : ℕ) (old new : TimeState) (told : Orders) → StandsAt s k old → wants_in old ≡ false → over_in old ≡ false → old.owed ≡ None →
+pub turned_due : (s : Setup) (k : ℕ) (old new : TimeState) (told : Orders) → TimeSideStandsFor s k old → wants_in old ≡ false → over_in old ≡ false → old.owed ≡ None →
     IsTurned s (timing_turn s (needed_entry s (place s k)) (at_in old.at) (seen_at s (place s k)).timing) new told →
     (is_try (at_in old.at) ≡ true → new.held ≡ held_by (timing_turn s (needed_entry s (place s k)) (at_in old.at) (seen_at s (place s k)).timing).timing (seen_at s (place s k)).timing old.held) →
     (is_try (at_in old.at) ≡ false → new.held ≡ old.held) →
-    IsDue s k old new told
+    IsTold s k old new told
 unfolding seen_at seen
 turned_due s k old new told h free on none turned tried keeps =
     let p = seen_at s (place s k) in
     let e = needed_entry s (place s k) in
     let is : p.owed ≡ [] = sym h.owed ∙ ap owed_in none in
     record {
-      made = subst (λ (os : List Order). IsTurned s (due_by s e p os) new told) (sym is)
+      made = subst (λ (os : List Order). IsTurned s (turned_by s e p os) new told) (sym is)
           (subst (λ (at : At). IsTurned s (timing_turn s e at p.timing) new told) h.at turned);
       held = by_try (is_try (at_in old.at)) refl;
     }
@@ -179,6 +179,6 @@ turned_due s k old new told h free on none turned tried keeps =
         let e = needed_entry s (place s k) in
         let is : p.owed ≡ [] = sym h.owed ∙ ap owed_in none in
         let behind : (timing_turn s e (at_in old.at) p.timing).timing ≡ (seen_at s (place s (suc k))).timing =
-        ap (λ (at : At). (timing_turn s e at p.timing).timing) h.at ∙ ap (λ (os : List Order). (due_by s e p os).timing) (sym is) ∙ due_timing s k in
+        ap (λ (at : At). (timing_turn s e at p.timing).timing) h.at ∙ ap (λ (os : List Order). (turned_by s e p os).timing) (sym is) ∙ due_timing s k in
         tried try ∙ ap (λ (t : Timing). held_by t p.timing old.held) behind
         ∙ if_not ((place s (suc k)).run.demand.machine.counts.fetched == (place s k).run.demand.machine.counts.fetched) old.held None

@@ -32,11 +32,11 @@ within_small s k sound within =
     let bounded = run_bounded s k r.some_cycle in
     let shown : IsBounded (seen s (place s k).run.demand) = seen_bounded s r k in
     let commits : s.params.core_commit * s.cycles ≤ 8 * 1099511627776 = mul-le-mul r.commit r.cycles in
-    let done : (place s k).run.demand.done ≤ 8 * 1099511627776 = omega (arith, bounded.done, commits) in
+    let done : (place s k).run.demand.to_commit ≤ 8 * 1099511627776 = omega (arith, bounded.to_commit, commits) in
     let cycle : (place s k).run.demand.machine.cycle ≤ 1099511627776 = omega (arith, bounded.cycle, r.cycles) in
     record {
       cycle = omega (arith, cycle);
-      done = omega (arith, done);
+      to_commit = omega (arith, done);
       resume = omega (arith, cycle, shown.resume);
       exceptions = omega (arith, done, counted.exceptions);
       interrupts = omega (arith, steps, counted.interrupts);

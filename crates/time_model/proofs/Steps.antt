@@ -15,21 +15,21 @@ use Rattle.machine_laws.proofs.SplitTurns.{one}
 use Rattle.machine_laws.proofs.SplitEntries.{no_opening}
 use Rattle.machine_laws.proofs.SplitAhead.{dropped_by}
 use Rattle.machine_laws.proofs.Telling.{by_one}
-use Rattle.timing_laws.specs.Timing.{Timing}
-use Rattle.timing_laws.specs.Turn.{Turned}
-use Rattle.timing_laws.specs.Step as timing
-use Rattle.timing_laws.specs.Step.{TimingPlace, telling, timing_step}
+use Rattle.timing_side.specs.Timing.{Timing}
+use Rattle.timing_side.specs.Turn.{Turned}
+use Rattle.timing_side.specs.Step as timing
+use Rattle.timing_side.specs.Step.{TimingPlace, telling, timing_step}
 use Rattle.timing_laws.specs.Seen.{seen_at}
 use Rattle.timing_laws.proofs.Stepping.{place_step}
 use Rattle.timing_core.specs.declared.orders.Orders.{Orders}
 use Rattle.timing_core.specs.Orders.{newest_first}
-use Rattle.timing_core.specs.Keeps.{Keeps}
+use Rattle.timing_core.specs.CoreStandsFor.{CoreStandsFor}
 use Rattle.time_model.specs.declared.state.TimeState.{TimeState}
 use Rattle.time_model.specs.declared.turn.Turn.{Turn}
 use Rattle.time_model.specs.At.{at_in}
 use Rattle.time_model.specs.Turns.{turn_told}
-use Rattle.time_model.specs.Stands.{StandsAt, owed_in, is_over, IsMade}
-use Rattle.time_model.specs.Turning.{IsTurned, IsDue, due_by, due_at, behind_first, owed_by, epoch_by, kept_by}
+use Rattle.time_model.specs.Standing.{TimeSideStandsFor, owed_in, is_over, IsMade}
+use Rattle.time_model.specs.Turning.{IsTurned, IsTold, turned_by, turned_at, behind_first, owed_by, epoch_by, kept_by}
 use Rattle.machine_laws.proofs.Owing.{place_owes}
 use Rattle.time_model.proofs.Small.{epoch_small}
 
@@ -111,12 +111,12 @@ module _ (s : Setup) (p q : Place) (x : Stepped p q) (h : Option Entry) (right :
 abbrev tell_of : Turned → ℕ → timing.Stepped
 tell_of d epoch = telling d.timing d.at epoch d.orders
 
-step_is : (s : Setup) (e : Entry) (p : TimingPlace) (owed : List Order) → timing.step_by s e p owed ≡ tell_of (due_by s e p owed) p.epoch
+step_is : (s : Setup) (e : Entry) (p : TimingPlace) (owed : List Order) → timing.step_by s e p owed ≡ tell_of (turned_by s e p owed) p.epoch
 step_is s e p [] = refl
 step_is s e p (o ∷ os) = refl
 
 due_step : (s : Setup) (k : ℕ) →
-    tell_of (due_at s k) (seen_at s (place s k)).epoch ≡ record { place = seen_at s (place s (suc k)); told = told_by (place s k) (place s (suc k)) }
+    tell_of (turned_at s k) (seen_at s (place s k)).epoch ≡ record { place = seen_at s (place s (suc k)); told = told_by (place s k) (place s (suc k)) }
 unfolding timing_step
 due_step s k =
     let p = seen_at s (place s k) in
@@ -146,18 +146,18 @@ tell_is t at epoch (Some o) (Some p) = ap (λ (e : ℕ). first_told_at e) (raise
     first_told_at : ℕ → timing.Stepped
     first_told_at e = record { place = record { timing = t; at = at; owed = p ∷ []; epoch = e }; told = Some o }
 
-told_step : (s : Setup) (k : ℕ) (mid : TimeState) (orders : Orders) → IsTurned s (due_at s k) mid orders →
-    first_told (due_at s k).timing (due_at s k).at (seen_at s (place s k)).epoch orders.first orders.second
+told_step : (s : Setup) (k : ℕ) (mid : TimeState) (orders : Orders) → IsTurned s (turned_at s k) mid orders →
+    first_told (turned_at s k).timing (turned_at s k).at (seen_at s (place s k)).epoch orders.first orders.second
     ≡ record { place = seen_at s (place s (suc k)); told = told_by (place s k) (place s (suc k)) }
 told_step s k mid orders is =
-    sym (tell_is (due_at s k).timing (due_at s k).at (seen_at s (place s k)).epoch orders.first orders.second)
-    ∙ ap (λ (os : List Order). telling (due_at s k).timing (due_at s k).at (seen_at s (place s k)).epoch os) is.orders
+    sym (tell_is (turned_at s k).timing (turned_at s k).at (seen_at s (place s k)).epoch orders.first orders.second)
+    ∙ ap (λ (os : List Order). telling (turned_at s k).timing (turned_at s k).at (seen_at s (place s k)).epoch os) is.orders
     ∙ due_step s k
 
-pub due_timing : (s : Setup) (k : ℕ) → (due_at s k).timing ≡ (seen_at s (place s (suc k))).timing
-due_timing s k = sym (tell_timing (due_at s k).orders) ∙ ap (λ (x : timing.Stepped). x.place.timing) (due_step s k)
+pub due_timing : (s : Setup) (k : ℕ) → (turned_at s k).timing ≡ (seen_at s (place s (suc k))).timing
+due_timing s k = sym (tell_timing (turned_at s k).orders) ∙ ap (λ (x : timing.Stepped). x.place.timing) (due_step s k)
   where
-    tell_timing : (os : List Order) → (telling (due_at s k).timing (due_at s k).at (seen_at s (place s k)).epoch os).place.timing ≡ (due_at s k).timing
+    tell_timing : (os : List Order) → (telling (turned_at s k).timing (turned_at s k).at (seen_at s (place s k)).epoch os).place.timing ≡ (turned_at s k).timing
     tell_timing [] = refl
     tell_timing (o ∷ os) = refl
 
@@ -171,7 +171,7 @@ kept_is false true h = refl
 kept_is false false h = refl
 
 -- a step that is made
-pub step_made : (s : Setup) (k : ℕ) (old mid : TimeState) (orders : Orders) (turn : Turn) → is_setup s ≡ true → StandsAt s k old → is_over (place s k) ≡ false → IsDue s k old mid orders →
+pub step_made : (s : Setup) (k : ℕ) (old mid : TimeState) (orders : Orders) (turn : Turn) → is_setup s ≡ true → TimeSideStandsFor s k old → is_over (place s k) ≡ false → IsTold s k old mid orders →
     mid.epoch ≡ old.epoch → turn ≡ turn_told orders.first (at_in old.at) →
     IsMade s k old (record mid { owed = owed_by orders; epoch = epoch_by orders.first mid.epoch; held = kept_by orders.first mid.held }) turn
 unfolding seen_at
@@ -187,7 +187,7 @@ step_made s k old mid orders turn sound h on due same turn_is =
     let small : mid.epoch ≤ 2 ^ 44 = omega (arith, epoch, epoch_small s k sound) in
     record {
       stands = record {
-        core = subst (λ (t : Timing). Keeps s t mid.core) (due_timing s k) due.made.core;
+        core = subst (λ (t : Timing). CoreStandsFor s t mid.core) (due_timing s k) due.made.core;
         at = due.made.at ∙ ap (λ (x : timing.Stepped). x.place.at) is;
         owed = ap (λ (x : timing.Stepped). x.place.owed) is;
         epoch = epoch_is (opens orders.first) mid.epoch small ∙ ap (λ (e : ℕ). raised orders.first e) epoch ∙ ap (λ (x : timing.Stepped). x.place.epoch) is;

@@ -17,7 +17,7 @@ use Rattle.mono_model.specs.Fetch.{may_fetch}
 use Rattle.mono_model.specs.Demand.{turn, step, place, told, needs_entry, needed_entry}
 use Rattle.time_model.specs.declared.state.TimeState.{TimeState}
 use Rattle.time_model.specs.declared.turn.Turn.{Turn}
-use Rattle.time_model.specs.Stands.{StandsAt, is_over, IsStep, IsRight}
+use Rattle.time_model.specs.Standing.{TimeSideStandsFor, is_over, IsStep, IsRight}
 use Rattle.time_model.specs.Trial.{trial, refused_fetch}
 
 -- four steps come before the first try
@@ -37,9 +37,9 @@ goes_on (suc (suc zero)) early = refl
 goes_on (suc (suc (suc zero))) early = refl
 goes_on (suc (suc (suc (suc k)))) early = absurd (omega arith)
 
-pub moved_on : (k : ℕ) (old new : TimeState) (what : Turn) → k < 4 → IsStep trial k old new what → StandsAt trial (k + 1) new
+pub moved_on : (k : ℕ) (old new : TimeState) (what : Turn) → k < 4 → IsStep trial k old new what → TimeSideStandsFor trial (k + 1) new
 moved_on k old new what early is =
-    subst (λ (n : ℕ). StandsAt trial n new) (sym (add-one k)) (is.goes (ap (λ (b : Bool). b && is_none old.held) (needs_none k early)) (goes_on k early)).stands
+    subst (λ (n : ℕ). TimeSideStandsFor trial n new) (sym (add-one k)) (is.goes (ap (λ (b : Bool). b && is_none old.held) (needs_none k early)) (goes_on k early)).stands
 
 -- the entry that the first try needs is that of epoch 0
 needed_is : needed_entry trial (place trial 4) ≡ refused_fetch 0
@@ -50,8 +50,8 @@ none_opened : openings (told (place trial 4)) ≡ 0
 unfolding place step turn machine_start interrupt_phase commit_phase commits leaving complete_phase completes issue_phase wants_time walk may_fetch start
 none_opened = refl
 
-pub is_needed : (epoch : ℕ) (side : TimeState) → StandsAt trial 4 side → epoch ≡ side.epoch → refused_fetch epoch ≡ needed_entry trial (place trial 4)
+pub is_needed : (epoch : ℕ) (side : TimeState) → TimeSideStandsFor trial 4 side → epoch ≡ side.epoch → refused_fetch epoch ≡ needed_entry trial (place trial 4)
 is_needed epoch side h same = ap refused_fetch (same ∙ h.epoch ∙ none_opened) ∙ sym needed_is
 
-pub is_right : (epoch : ℕ) (side : TimeState) → is_setup trial ≡ true → StandsAt trial 4 side → IsRight (refused_fetch epoch) side
+pub is_right : (epoch : ℕ) (side : TimeState) → is_setup trial ≡ true → TimeSideStandsFor trial 4 side → IsRight (refused_fetch epoch) side
 is_right epoch side sound h = record { setup = trial; sound = sound; steps = 4; stands = h; needed = is_needed epoch side h }

@@ -3,12 +3,12 @@ use Rattle.std.proofs.Common.{◌≡◌, ℕ, ◌==◌, not, if◌then◌else◌
 use Rattle.trace_entry.specs.declared.Entry.{Entry}
 use Rattle.mono_model.specs.declared.setup.Setup.{Setup}
 use Rattle.mono_model.specs.Demand.{trying, ending}
-use Rattle.timing_laws.specs.Timing.{Timing}
-use Rattle.timing_laws.specs.Fetch.{timing_try}
-use Rattle.timing_laws.specs.Turn.{try_or_end, timing_turn}
+use Rattle.timing_side.specs.Timing.{Timing}
+use Rattle.timing_side.specs.Fetch.{timing_try}
+use Rattle.timing_side.specs.Turn.{try_or_end, timing_turn}
 use Rattle.timing_core.specs.declared.orders.Orders.{Orders}
 use Rattle.timing_core.specs.declared.fetch.Tried.{Tried}
-use Rattle.timing_core.specs.Keeps.{Keeps}
+use Rattle.timing_core.specs.CoreStandsFor.{CoreStandsFor}
 use Rattle.timing_core.specs.Orders.{orders_in}
 use Rattle.time_model.specs.declared.at.At as code
 use Rattle.time_model.specs.declared.state.TimeState.{TimeState}
@@ -18,7 +18,7 @@ use Rattle.time_model.proofs.Bool.{if_not}
 
 -- a try that was made with its entry
 pub record IsTried (s : Setup) (t : Timing) (allowed : ℕ) (e : Entry) (x : Tried) (new : TimeState) : Type 0 where
-  pub core : Keeps s (timing_try s e t).phase.timing new.core
+  pub core : CoreStandsFor s (timing_try s e t).phase.timing new.core
   pub orders : orders_in x.orders ≡ (timing_try s e t).phase.orders
   pub goes_on : x.goes_on ≡ (timing_try s e t).goes_on
   pub appended : x.appended ≡ not ((timing_try s e t).phase.timing.counts.fetched == t.counts.fetched)

@@ -1,5 +1,5 @@
 pub mod At
 pub mod Turns
-pub mod Stands
+pub mod Standing
 pub mod Turning
 pub mod Trial

@@ -6,13 +6,13 @@ use Rattle.reorder_buffer.specs.Window.{youngest}
 use Rattle.mono_model.specs.declared.setup.Setup.{Setup}
 use Rattle.mono_model.specs.Demand.{place, needed_entry}
 use Rattle.mono_model.specs.Split.{is_halted, has_appended, opens}
-use Rattle.timing_laws.specs.Timing.{Timing}
-use Rattle.timing_laws.specs.Turn.{Turned, timing_turn}
-use Rattle.timing_laws.specs.Step.{TimingPlace}
+use Rattle.timing_side.specs.Timing.{Timing}
+use Rattle.timing_side.specs.Turn.{Turned, timing_turn}
+use Rattle.timing_side.specs.Step.{TimingPlace}
 use Rattle.timing_laws.specs.Seen.{seen_at}
 use Rattle.timing_core.specs.declared.orders.Orders.{Orders}
 use Rattle.timing_core.specs.Orders.{orders_in}
-use Rattle.timing_core.specs.Keeps.{Keeps}
+use Rattle.timing_core.specs.CoreStandsFor.{CoreStandsFor}
 use Rattle.time_model.specs.declared.state.TimeState.{TimeState}
 use Rattle.time_model.specs.At.{at_in}
 
@@ -24,12 +24,12 @@ over_in side = is_none side.owed && is_halted (at_in side.at)
 pub record MayTry (side : TimeState) : Type 0 where
   pub entry : Entry
   pub held : side.held ≡ Some entry
-  pub room : length side.core.flight.slots < side.core.flight.cap
+  pub room : length side.core.flight.slots < side.core.flight.capacity
   pub next : IfSome (youngest side.core.flight.slots) (λ last. entry.number ≡ last.number + 1)
 
 -- a side and the orders of a turn are as the turn of the timing machine has them
 pub record IsTurned (s : Setup) (made : Turned) (side : TimeState) (told : Orders) : Type 0 where
-  pub core : Keeps s made.timing side.core
+  pub core : CoreStandsFor s made.timing side.core
   pub at : at_in side.at ≡ made.at
   pub orders : orders_in told ≡ made.orders
 
@@ -38,16 +38,16 @@ abbrev pub held_by : Timing → Timing → Option Entry → Option Entry
 held_by behind before held = if behind.counts.fetched == before.counts.fetched then held else None
 
 -- the orders that stand to be told, with the state behind their turn: those that are owed, or those of the next turn
-abbrev pub due_by : Setup → Entry → TimingPlace → List Order → Turned
-due_by s e p [] = timing_turn s e p.at p.timing
-due_by s e p (o ∷ os) = record { timing = p.timing; at = p.at; orders = o ∷ os }
+abbrev pub turned_by : Setup → Entry → TimingPlace → List Order → Turned
+turned_by s e p [] = timing_turn s e p.at p.timing
+turned_by s e p (o ∷ os) = record { timing = p.timing; at = p.at; orders = o ∷ os }
 
 -- the same of a place of the demand run
-abbrev pub due_at : Setup → ℕ → Turned
-due_at s k = due_by s (needed_entry s (place s k)) (seen_at s (place s k)) (seen_at s (place s k)).owed
+abbrev pub turned_at : Setup → ℕ → Turned
+turned_at s k = turned_by s (needed_entry s (place s k)) (seen_at s (place s k)) (seen_at s (place s k)).owed
 
-pub record IsDue (s : Setup) (k : ℕ) (old new : TimeState) (told : Orders) : Type 0 where
-  pub made : IsTurned s (due_at s k) new told
+pub record IsTold (s : Setup) (k : ℕ) (old new : TimeState) (told : Orders) : Type 0 where
+  pub made : IsTurned s (turned_at s k) new told
   pub held : new.held ≡ (if has_appended (place s k) (place s (suc k)) then None else old.held)
 
 -- the order that stays owed, where a first one is told

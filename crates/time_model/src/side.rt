@@ -27,7 +27,7 @@ pub struct TimeSide {
 
 impl Model for TimeSide {
     ghost use Rattle.time_model.specs.declared.state.TimeState.{TimeState};
-    ghost use Rattle.time_model.specs.Stands.{IsStanding};
+    ghost use Rattle.time_model.specs.Standing.{IsStanding};
 
     ghost Value = { TimeState };
 
@@ -42,12 +42,12 @@ impl TimeSide {
     ghost use Rattle.mono_model.specs.Machine.{stats_of};
     ghost use Rattle.mono_model.specs.Demand.{place, next, needs_entry, needed_entry};
     ghost use Rattle.mono_model.specs.Split.{is_place_boundary};
-    ghost use Rattle.time_model.specs.Stands.{StandsAt, IsStep, IsRight, wants_in};
+    ghost use Rattle.time_model.specs.Standing.{TimeSideStandsFor, IsStep, IsRight, wants_in};
 
     /// The timing side before the first step of a run. It takes all its memory here, and want of it is the one refusal.
     pub fn new(alloc: Global, setup: &Setup) -> Result<TimeSide, NoMemory>
         requires sound { is_setup setup.now ≡ true }
-        ensures stands { IfOk result (λ side. StandsAt setup.now 0 side) }
+        ensures stands { IfOk result (λ side. TimeSideStandsFor setup.now 0 side) }
         ensures empty { IfOk result (λ side. side.held ≡ None) }
     {
         let state = TimeState::new(alloc, setup)?;
@@ -57,7 +57,7 @@ impl TimeSide {
     /// Makes one step of the demand run, and tells the one order of it, if it has one. It does nothing where the step needs an
     /// entry that isn't held, and where the run is over.
     pub fn step(&mut self) -> Turn
-        ensures made { (s : RunSetup) (k : ℕ) → is_setup s ≡ true → StandsAt s k self.old → IsStep s k self.old self.new result }
+        ensures made { (s : RunSetup) (k : ℕ) → is_setup s ≡ true → TimeSideStandsFor s k self.old → IsStep s k self.old self.new result }
     {
         self.state.step()
     }
@@ -65,7 +65,7 @@ impl TimeSide {
     /// Whether the next step needs the entry of the instruction to fetch next, and none is held.
     pub fn wants(&self) -> bool
         ensures wants { result ≡ wants_in self.now }
-        ensures needs { (s : RunSetup) (k : ℕ) → StandsAt s k self.now → result ≡ (needs_entry (place s k) && is_none self.now.held) }
+        ensures needs { (s : RunSetup) (k : ℕ) → TimeSideStandsFor s k self.now → result ≡ (needs_entry (place s k) && is_none self.now.held) }
     {
         self.state.wants()
     }
@@ -75,7 +75,7 @@ impl TimeSide {
     pub fn take(&mut self, entry: &Entry) -> Taken
         requires wants { wants_in self.old ≡ true }
         requires right { IsRight entry.now self.old }
-        ensures stands { (s : RunSetup) (k : ℕ) → StandsAt s k self.old → (entry.now.epoch ≡ self.old.epoch → entry.now ≡ needed_entry s (place s k)) → StandsAt s k self.new }
+        ensures stands { (s : RunSetup) (k : ℕ) → TimeSideStandsFor s k self.old → (entry.now.epoch ≡ self.old.epoch → entry.now ≡ needed_entry s (place s k)) → TimeSideStandsFor s k self.new }
         ensures used { result ≡ Taken.Used → self.new ≡ record self.old { held = Some entry.now } }
         ensures dropped { result ≡ Taken.Dropped → self.new ≡ self.old }
         ensures by_epoch { (result ≡ Taken.Used) ↔ (entry.now.epoch ≡ self.old.epoch) }
@@ -89,21 +89,21 @@ impl TimeSide {
 
     /// The number of the cycle, counted from 0.
     pub fn cycle(&self) -> u64
-        ensures cycle { (s : RunSetup) (k : ℕ) → StandsAt s k self.now → result ≡ (place s k).run.demand.machine.cycle }
+        ensures cycle { (s : RunSetup) (k : ℕ) → TimeSideStandsFor s k self.now → result ≡ (place s k).run.demand.machine.cycle }
     {
         self.state.core.cycle()
     }
 
     /// The number of the next instruction to commit, counted from 0 along the path.
     pub fn committed(&self) -> u64
-        ensures committed { (s : RunSetup) (k : ℕ) → StandsAt s k self.now → result ≡ (place s k).run.demand.done }
+        ensures committed { (s : RunSetup) (k : ℕ) → TimeSideStandsFor s k self.now → result ≡ (place s k).run.demand.to_commit }
     {
-        self.state.core.done()
+        self.state.core.to_commit()
     }
 
     /// The number of the next instruction to fetch, whose entry a try needs.
     pub fn next_number(&self) -> u64
-        ensures number { (s : RunSetup) (k : ℕ) → StandsAt s k self.now
+        ensures number { (s : RunSetup) (k : ℕ) → TimeSideStandsFor s k self.now
             → result ≡ next (place s k).run.demand }
     {
         self.state.core.next_number()
@@ -111,21 +111,21 @@ impl TimeSide {
 
     /// How the run stands or ended.
     pub fn end(&self) -> End
-        ensures end { (s : RunSetup) (k : ℕ) → StandsAt s k self.now → result ≡ (place s k).run.demand.machine.end }
+        ensures end { (s : RunSetup) (k : ℕ) → TimeSideStandsFor s k self.now → result ≡ (place s k).run.demand.machine.end }
     {
         self.state.core.end()
     }
 
     /// What was counted so far.
     pub fn stats(&self) -> Stats
-        ensures stats { (s : RunSetup) (k : ℕ) → StandsAt s k self.now → result ≡ stats_of s (place s k).run.demand.machine }
+        ensures stats { (s : RunSetup) (k : ℕ) → TimeSideStandsFor s k self.now → result ≡ stats_of s (place s k).run.demand.machine }
     {
         self.state.core.stats()
     }
 
     /// Whether all orders are told where a cycle starts or the run has ended.
     pub fn at_boundary(&self) -> bool
-        ensures boundary { (s : RunSetup) (k : ℕ) → StandsAt s k self.now → result ≡ is_place_boundary (place s k) }
+        ensures boundary { (s : RunSetup) (k : ℕ) → TimeSideStandsFor s k self.now → result ≡ is_place_boundary (place s k) }
     {
         self.state.at_boundary()
     }

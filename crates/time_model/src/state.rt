@@ -30,19 +30,19 @@ impl TimeState {
     ghost use Rattle.mono_model.specs.Setup.{is_setup};
     ghost use Rattle.mono_model.specs.Demand.{is_try, trying, ending};
     ghost use Rattle.mono_model.specs.Split.{is_cycle_start};
-    ghost use Rattle.timing_laws.specs.Timing.{Timing};
-    ghost use Rattle.timing_laws.specs.Turn.{timing_turn, try_or_end, at_after_commit, at_after_cycle};
-    ghost use Rattle.timing_core.specs.Keeps.{Keeps};
+    ghost use Rattle.timing_side.specs.Timing.{Timing};
+    ghost use Rattle.timing_side.specs.Turn.{timing_turn, try_or_end, at_after_commit, at_after_cycle};
+    ghost use Rattle.timing_core.specs.CoreStandsFor.{CoreStandsFor};
     ghost use Rattle.timing_core.specs.Small.{IsSmall};
     ghost use Rattle.timing_core.specs.Orders.{orders_in};
     ghost use Rattle.time_model.specs.At.{at_in};
-    ghost use Rattle.time_model.specs.Stands.{StandsAt, IsStanding, IsStep, wants_in};
-    ghost use Rattle.time_model.specs.Turning.{MayTry, IsTurned, IsDue, over_in, held_by, owed_by, epoch_by, kept_by};
+    ghost use Rattle.time_model.specs.Standing.{TimeSideStandsFor, IsStanding, IsStep, wants_in};
+    ghost use Rattle.time_model.specs.Turning.{MayTry, IsTurned, IsTold, over_in, held_by, owed_by, epoch_by, kept_by};
 
     /// Before the first step of a run. All memory is taken here.
     pub fn new(alloc: Global, setup: &Setup) -> Result<TimeState, NoMemory>
         requires sound { is_setup setup.now ≡ true }
-        ensures stands { IfOk result (λ side. StandsAt setup.now 0 side) }
+        ensures stands { IfOk result (λ side. TimeSideStandsFor setup.now 0 side) }
         ensures empty { IfOk result (λ side. side.held ≡ None) }
     {
         let core = TimingCore::new(alloc, setup)?;
@@ -56,7 +56,7 @@ impl TimeState {
     }
 
     /// Whether the step that comes next is a try whose entry is needed.
-    #[tactic(auto, unfolding(crate::specs::Stands::wants_in))]
+    #[tactic(auto, unfolding(crate::specs::Standing::wants_in))]
     pub fn wants(&self) -> bool
         ensures wants { result ≡ wants_in self.now }
     {
@@ -79,7 +79,7 @@ impl TimeState {
 
     /// A try of fetch where one may be made and is allowed, else the end of the cycle.
     fn try_or_end(&self, allowed: u32) -> At
-        ensures at { (s : RunSetup) (t : Timing) → Keeps s t self.now.core → at_in result ≡ try_or_end s allowed t }
+        ensures at { (s : RunSetup) (t : Timing) → CoreStandsFor s t self.now.core → at_in result ≡ try_or_end s allowed t }
     {
         if allowed > 0 && self.core.may_fetch() {
             At::Trying(allowed - 1)
@@ -90,7 +90,7 @@ impl TimeState {
 
     /// What comes behind a try: the next one, where it may follow, or the end of the cycle.
     fn at_after_try(&self, goes_on: bool, allowed: u32) -> At
-        ensures at { (s : RunSetup) (t : Timing) → Keeps s t self.now.core → at_in result ≡ (if goes_on then try_or_end s allowed t else ending) }
+        ensures at { (s : RunSetup) (t : Timing) → CoreStandsFor s t self.now.core → at_in result ≡ (if goes_on then try_or_end s allowed t else ending) }
     {
         if goes_on {
             self.try_or_end(allowed)
@@ -101,7 +101,7 @@ impl TimeState {
 
     /// What comes behind commit: where the run has ended the other phases are left out.
     fn at_after_commit(&self) -> At
-        ensures at { (s : RunSetup) (t : Timing) → Keeps s t self.now.core → at_in result ≡ at_after_commit t }
+        ensures at { (s : RunSetup) (t : Timing) → CoreStandsFor s t self.now.core → at_in result ≡ at_after_commit t }
     {
         if self.core.has_ended() {
             At::Ending
@@ -112,7 +112,7 @@ impl TimeState {
 
     /// What comes behind the end of a cycle: the next cycle, or the last order.
     fn at_after_cycle(&self) -> At
-        ensures at { (s : RunSetup) (t : Timing) → Keeps s t self.now.core → at_in result ≡ at_after_cycle t }
+        ensures at { (s : RunSetup) (t : Timing) → CoreStandsFor s t self.now.core → at_in result ≡ at_after_cycle t }
     {
         if self.core.has_ended() {
             At::Stopping
@@ -124,9 +124,9 @@ impl TimeState {
     /// Tries to fetch the instruction of the held entry, with so many tries allowed behind it.
     fn attempt(&mut self, allowed: u32) -> Orders
         requires tries { MayTry self.old }
-        ensures made { (s : RunSetup) (t : Timing) (e : SpecEntry) → Keeps s t self.old.core → IsSmall t → self.old.held ≡ Some e →
+        ensures made { (s : RunSetup) (t : Timing) (e : SpecEntry) → CoreStandsFor s t self.old.core → IsSmall t → self.old.held ≡ Some e →
             IsTurned s (timing_turn s e (trying allowed) t) self.new result }
-        ensures held { (s : RunSetup) (t : Timing) (e : SpecEntry) → Keeps s t self.old.core → IsSmall t → self.old.held ≡ Some e →
+        ensures held { (s : RunSetup) (t : Timing) (e : SpecEntry) → CoreStandsFor s t self.old.core → IsSmall t → self.old.held ≡ Some e →
             self.new.held ≡ held_by (timing_turn s e (trying allowed) t).timing t self.old.held }
         ensures others { self.new ≡ record self.old { core = self.new.core; at = self.new.at; held = self.new.held } }
     {
@@ -142,9 +142,9 @@ impl TimeState {
     /// Makes the turn that comes next. A try needs that its entry is held.
     fn turn(&mut self) -> Orders
         requires tries { is_try (at_in self.old.at) ≡ true → MayTry self.old }
-        ensures made { (s : RunSetup) (t : Timing) (e : SpecEntry) → Keeps s t self.old.core → IsSmall t →
+        ensures made { (s : RunSetup) (t : Timing) (e : SpecEntry) → CoreStandsFor s t self.old.core → IsSmall t →
             (is_try (at_in self.old.at) ≡ true → self.old.held ≡ Some e) → IsTurned s (timing_turn s e (at_in self.old.at) t) self.new result }
-        ensures held { (s : RunSetup) (t : Timing) (e : SpecEntry) → Keeps s t self.old.core → IsSmall t → is_try (at_in self.old.at) ≡ true → self.old.held ≡ Some e →
+        ensures held { (s : RunSetup) (t : Timing) (e : SpecEntry) → CoreStandsFor s t self.old.core → IsSmall t → is_try (at_in self.old.at) ≡ true → self.old.held ≡ Some e →
             self.new.held ≡ held_by (timing_turn s e (at_in self.old.at) t).timing t self.old.held }
         ensures keeps { is_try (at_in self.old.at) ≡ false → self.new.held ≡ self.old.held }
         ensures others { self.new ≡ record self.old { core = self.new.core; at = self.new.at; held = self.new.held } }
@@ -170,14 +170,14 @@ impl TimeState {
             }
             At::Trying(allowed) => self.attempt(allowed),
             At::Ending => {
-                self.core.tick();
+                self.core.end_cycle();
                 self.at = self.at_after_cycle();
                 Orders::none()
             }
             At::Stopping => {
                 self.at = At::Halted;
                 Orders::one(Order::Stop {
-                    n: self.core.done(),
+                    n: self.core.to_commit(),
                 })
             }
             At::Halted => Orders::none(),
@@ -189,7 +189,7 @@ impl TimeState {
         requires standing { IsStanding self.old }
         requires holds { wants_in self.old ≡ false }
         requires goes { over_in self.old ≡ false }
-        ensures due { (s : RunSetup) (k : ℕ) → is_setup s ≡ true → StandsAt s k self.old → IsDue s k self.old self.new result }
+        ensures due { (s : RunSetup) (k : ℕ) → is_setup s ≡ true → TimeSideStandsFor s k self.old → IsTold s k self.old self.new result }
         ensures others { self.new ≡ record self.old { core = self.new.core; at = self.new.at; owed = None; held = self.new.held } }
     {
         match self.owed.take() {
@@ -217,7 +217,7 @@ impl TimeState {
     /// Makes one step of the demand run, if the entry that it needs is held.
     pub fn step(&mut self) -> Turn
         requires standing { IsStanding self.old }
-        ensures made { (s : RunSetup) (k : ℕ) → is_setup s ≡ true → StandsAt s k self.old → IsStep s k self.old self.new result }
+        ensures made { (s : RunSetup) (k : ℕ) → is_setup s ≡ true → TimeSideStandsFor s k self.old → IsStep s k self.old self.new result }
     {
         if self.wants() {
             return Turn::Want;

@@ -3,7 +3,7 @@
 
 ghost use Rattle.std.specs.Prelude.{◌≡◌, ◌<◌, ◌+◌, true};
 ghost use Rattle.mono_model.specs.Setup.{is_setup};
-ghost use Rattle.time_model.specs.Stands.{StandsAt, wants_in};
+ghost use Rattle.time_model.specs.Standing.{TimeSideStandsFor, wants_in};
 ghost use Rattle.time_model.specs.Trial.{trial};
 
 mod trial;
@@ -18,19 +18,19 @@ use trial::{refused_fetch, setup};
 /// Makes a step before the first try of fetch, behind so many others.
 #[tactic(auto, using(crate::proofs::Trials::moved_on))]
 fn step_behind(side: &mut TimeSide, steps: u64) -> Turn
-    requires at { StandsAt trial steps side.old }
+    requires at { TimeSideStandsFor trial steps side.old }
     requires early { steps < 4 }
     requires sound { is_setup trial ≡ true }
-    ensures at { StandsAt trial (steps + 1) side.new }
+    ensures at { TimeSideStandsFor trial (steps + 1) side.new }
 {
     side.step()
 }
 
 /// Goes to the first try.
 fn reach_try(rt: &impl Abort, side: &mut TimeSide)
-    requires at { StandsAt trial 0 side.old }
+    requires at { TimeSideStandsFor trial 0 side.old }
     requires sound { is_setup trial ≡ true }
-    ensures at { StandsAt trial 4 side.new }
+    ensures at { TimeSideStandsFor trial 4 side.new }
 {
     assert_eq!(rt; step_behind(side, 0), Turn::Moved);
     assert_eq!(rt; step_behind(side, 1), Turn::Moved);
@@ -41,17 +41,17 @@ fn reach_try(rt: &impl Abort, side: &mut TimeSide)
 /// Hands over the entry of the first try in an epoch.
 #[tactic(auto, using(crate::proofs::Trials::is_right, crate::proofs::Trials::is_needed))]
 fn hand_over(side: &mut TimeSide, epoch: u64) -> Taken
-    requires at { StandsAt trial 4 side.old }
+    requires at { TimeSideStandsFor trial 4 side.old }
     requires wants { wants_in side.old ≡ true }
     requires sound { is_setup trial ≡ true }
-    ensures at { StandsAt trial 4 side.new }
+    ensures at { TimeSideStandsFor trial 4 side.new }
 {
     side.take(&refused_fetch(epoch))
 }
 
 /// Drops an entry of another epoch at the first try, and uses the one of epoch 0.
 fn serve_try(rt: &impl Abort, side: &mut TimeSide)
-    requires at { StandsAt trial 4 side.old }
+    requires at { TimeSideStandsFor trial 4 side.old }
     requires sound { is_setup trial ≡ true }
 {
     assert!(rt; side.wants());

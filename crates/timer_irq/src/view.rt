@@ -1,5 +1,5 @@
 ghost use Rattle.std.specs.Prelude.{◌≡◌};
-ghost use Rattle.timer_irq.specs.Due.{is_due};
+ghost use Rattle.timer_irq.specs.Pending.{is_pending};
 
 /// What decides whether the timer interrupt is taken in front of an instruction (RISC-V privileged manual,
 /// section 3.2.1 "Machine Timer Registers").
@@ -14,7 +14,7 @@ pub struct IrqView {
 impl IrqView {
     /// Whether the timer interrupt is pending and enabled in this cycle, whose number is also the time mtime.
     pub fn pending(&self, cycle: u64) -> bool
-        ensures due { result ≡ is_due self.now.on self.now.cmp cycle }
+        ensures due { result ≡ is_pending self.now.on self.now.cmp cycle }
     {
         self.on && cycle >= self.cmp
     }

@@ -5,8 +5,8 @@ use Rattle.fsim_base.specs.Number.{wrap_sum}
 use Rattle.cache_timing.specs.Caches.{Served}
 use Rattle.trace_entry.specs.declared.Entry.{Entry}
 use Rattle.mono_model.specs.declared.setup.Setup.{Setup}
-use Rattle.timing_laws.specs.Timing.{Timing, quiet}
-use Rattle.timing_laws.specs.Fetch.{cache_read, predicted_next, missed, appended, path_orders, Tried, timing_try}
+use Rattle.timing_side.specs.Timing.{Timing, quiet}
+use Rattle.timing_side.specs.Fetch.{cache_read, predicted_next, missed, appended, path_orders, Tried, timing_try}
 
 waits : Served → Timing → Tried
 waits d t = record { phase = quiet (missed d.cycles d.state t); goes_on = false }

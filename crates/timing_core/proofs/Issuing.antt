@@ -4,7 +4,7 @@ use Rattle.std.specs.Prelude.{slice_get, slice_set}
 use Rattle.std.proofs.lemmas.Option.{slice_get_cases}
 use Rattle.cache_timing.specs.declared.caches.Caches.{Caches}
 use Rattle.cache_timing.specs.Caches.{CachesState}
-use Rattle.cache_timing.specs.KeepsAll.{KeepsAll}
+use Rattle.cache_timing.specs.CachesStandFor.{CachesStandFor}
 use Rattle.reorder_buffer.specs.declared.slot.Slot.{Slot}
 use Rattle.reorder_buffer.specs.declared.slot.SlotState.TheVariants.{Until}
 use Rattle.reorder_buffer.specs.Window.{Contents}
@@ -13,26 +13,26 @@ use Rattle.mono_model.specs.declared.setup.Setup.{Setup}
 use Rattle.mono_model.specs.Setup.{caches_params}
 use Rattle.mono_model.specs.Issue.{Used, none_used, latency_of, cached}
 use Rattle.rollback_cmds.specs.declared.order.Order.TheVariants.{Time}
-use Rattle.timing_laws.specs.Timing.{Timing, quiet, ordering}
-use Rattle.timing_laws.specs.Issue.{busy_divisions, may_begin, Turned, turn_of, Walked, walk, wants_time, replayed, issued, timing_issue}
+use Rattle.timing_side.specs.Timing.{Timing, quiet, ordering}
+use Rattle.timing_side.specs.Issue.{busy_divisions, may_begin, Turned, turn_of, Walked, walk, wants_time, replayed, issued, timing_issue}
 use Rattle.in_flight.specs.Flight.{older_at, may_start_at}
 use Rattle.timing_core.specs.declared.state.TimingCore.{TimingCore}
-use Rattle.timing_core.specs.Keeps.{Keeps}
+use Rattle.timing_core.specs.CoreStandsFor.{CoreStandsFor}
 use Rattle.timing_core.proofs.Sums.{risen}
 use Rattle.timing_core.proofs.Keeping.{keeps_slots, keeps_caches}
 use Rattle.timing_core.proofs.Walks.{turn_begins, turn_rests, same_slot, walk_from, walk_starts, walk_ends, walk_turns, passes_all}
 
 -- other slots and caches, and all else as it was
-kept_with : (s : Setup) (t : Timing) (core : TimingCore) → Keeps s t core →
+kept_with : (s : Setup) (t : Timing) (core : TimingCore) → CoreStandsFor s t core →
     (flight : Contents) (slots : List Slot) (it : Caches) (caches : CachesState) →
-    flight.cap ≡ core.flight.cap → flight.slots ≡ slots → KeepsAll it (caches_params s.params) caches →
-    Keeps s (record t { slots = slots; caches = caches }) (record core { flight = flight; caches = it })
+    flight.capacity ≡ core.flight.capacity → flight.slots ≡ slots → CachesStandFor it (caches_params s.params) caches →
+    CoreStandsFor s (record t { slots = slots; caches = caches }) (record core { flight = flight; caches = it })
 kept_with s t core k flight slots it caches room same served =
     keeps_caches s (record t { slots = slots }) (record core { flight = flight }) (keeps_slots s t core k flight slots room same) it caches served
 
 -- the core's own slots are those kept
 kept_as : (s : Setup) (t : Timing) (core : TimingCore) (slots : List Slot) (caches : CachesState) →
-    (k : Keeps s (record t { slots = slots; caches = caches }) core) → Keeps s (record t { slots = core.flight.slots; caches = caches }) core
+    (k : CoreStandsFor s (record t { slots = slots; caches = caches }) core) → CoreStandsFor s (record t { slots = core.flight.slots; caches = caches }) core
 kept_as s t core slots caches k =
     kept_with s (record t { slots = slots; caches = caches }) core k core.flight core.flight.slots core.caches caches refl refl k.caches
 
@@ -48,10 +48,10 @@ module _ (s : Setup) (t : Timing) (core : TimingCore) (place busy : ℕ) (used :
 
   -- what is kept behind it
   abbrev pub IsTurned : TimingCore → Slot → Type 0
-  IsTurned new slot = Keeps s (record t { slots = slice_set t.slots place (turn_at slot).turned; caches = (turn_at slot).caches }) new
+  IsTurned new slot = CoreStandsFor s (record t { slots = slice_set t.slots place (turn_at slot).turned; caches = (turn_at slot).caches }) new
 
   -- whether it begins, told by the core's fields
-  pub same_test : Keeps s t core → (slot : Slot) →
+  pub same_test : CoreStandsFor s t core → (slot : Slot) →
       may_begin s.params t.cycle busy (older_at t.slots place) slot used
       ≡ may_begin core.params core.cycle busy (older_at core.flight.slots place) slot used
   same_test k slot =
@@ -59,28 +59,28 @@ module _ (s : Setup) (t : Timing) (core : TimingCore) (place busy : ℕ) (used :
       ∙ ap (λ (cycle : ℕ). may_begin core.params cycle busy (older_at t.slots place) slot used) (sym k.cycle)
       ∙ ap (λ (slots : List Slot). may_begin core.params core.cycle busy (older_at slots place) slot used) (sym k.slots)
 
-  pub rests : Keeps s t core → (slot : Slot) → slice_get t.slots place ≡ Some slot →
+  pub rests : CoreStandsFor s t core → (slot : Slot) → slice_get t.slots place ≡ Some slot →
       may_begin s.params t.cycle busy (older_at t.slots place) slot used ≡ false → IsTurned core slot
   rests k slot at not =
       let same = turn_rests s t.cycle busy (older_at t.slots place) slot used t.caches not in
-      let P : Turned → Type 0 = λ turned. Keeps s (record t { slots = slice_set t.slots place turned.turned; caches = turned.caches }) core in
+      let P : Turned → Type 0 = λ turned. CoreStandsFor s (record t { slots = slice_set t.slots place turned.turned; caches = turned.caches }) core in
       subst P (sym same) (kept_with s t core k core.flight _ core.caches t.caches refl (k.slots ∙ sym (same_slot s t.cycle busy t.slots place slot at)) k.caches)
 
-  pub begins : Keeps s t core → (slot : Slot) → may_begin s.params t.cycle busy (older_at t.slots place) slot used ≡ true →
+  pub begins : CoreStandsFor s t core → (slot : Slot) → may_begin s.params t.cycle busy (older_at t.slots place) slot used ≡ true →
       (flight : Contents) (it : Caches) (until : ℕ) →
       flight ≡ record core.flight { slots = slice_set core.flight.slots place (record slot { state = Until until }) } →
       until ≡ t.cycle + latency_of s.params slot.class + (cached s slot.cause slot.access t.caches).cycles →
-      KeepsAll it (caches_params s.params) (cached s slot.cause slot.access t.caches).state →
+      CachesStandFor it (caches_params s.params) (cached s slot.cause slot.access t.caches).state →
       IsTurned (record core { flight = flight; caches = it }) slot
   begins k slot is flight it until begun ends served =
       let d = cached s slot.cause slot.access t.caches in
       let same = turn_begins s t.cycle busy (older_at t.slots place) slot used t.caches is in
-      let P : Turned → Type 0 = λ turned. Keeps s (record t { slots = slice_set t.slots place turned.turned; caches = turned.caches }) (record core { flight = flight; caches = it }) in
+      let P : Turned → Type 0 = λ turned. CoreStandsFor s (record t { slots = slice_set t.slots place turned.turned; caches = turned.caches }) (record core { flight = flight; caches = it }) in
       let slots : flight.slots ≡ slice_set t.slots place (record slot { state = Until (t.cycle + latency_of s.params slot.class + d.cycles) }) =
       ap (λ (f : Contents). f.slots) begun
       ∙ ap (λ (held : List Slot). slice_set held place (record slot { state = Until until })) k.slots
       ∙ ap (λ (n : ℕ). slice_set t.slots place (record slot { state = Until n })) ends in
-      subst P (sym same) (kept_with s t core k flight _ it d.state (ap (λ (f : Contents). f.cap) begun) slots served)
+      subst P (sym same) (kept_with s t core k flight _ it d.state (ap (λ (f : Contents). f.capacity) begun) slots served)
 
 -- the cycle in which a slot ends, by sums that stand still at their largest value
 pub end_cycle : (r middle n cycle latency added : ℕ) → middle ≡ min (n + latency) (2 ^ 64 - 1) → r ≡ min (middle + added) (2 ^ 64 - 1) →
@@ -92,10 +92,10 @@ end_cycle r middle n cycle latency added first second same small short few =
 -- on it comes to what the whole walk comes to.
 pub record HasWalked (s : Setup) (t : Timing) (busy : ℕ) (core : TimingCore) (place : ℕ) (used : Used) : Type 0 where
   pub caches : CachesState
-  pub kept : Keeps s (record t { slots = core.flight.slots; caches = caches }) core
+  pub kept : CoreStandsFor s (record t { slots = core.flight.slots; caches = caches }) core
   pub whole : walk s t.cycle busy t.slots [] none_used t.caches ≡ walk_from s t.cycle busy core.flight.slots place used caches
 
-pub walks_from_start : (s : Setup) (t : Timing) (busy : ℕ) (core : TimingCore) (used : Used) → Keeps s t core → used ≡ none_used →
+pub walks_from_start : (s : Setup) (t : Timing) (busy : ℕ) (core : TimingCore) (used : Used) → CoreStandsFor s t core → used ≡ none_used →
     HasWalked s t busy core 0 used
 walks_from_start s t busy core used k none = record {
   caches = t.caches;
@@ -140,10 +140,10 @@ walks_on s t busy core new place used after slot h at turned units =
 
 -- behind the last slot
 pub walks_to_end : (s : Setup) (t : Timing) (core : TimingCore) (place : ℕ) (used : Used) → HasWalked s t (busy_divisions t.slots) core place used →
-    length core.flight.slots ≤ place → Keeps s (issued s t) core
+    length core.flight.slots ≤ place → CoreStandsFor s (issued s t) core
 walks_to_end s t core place used h over =
     let w = h.whole ∙ walk_ends s t.cycle (busy_divisions t.slots) core.flight.slots place used h.caches over in
-    let P : Walked → Type 0 = λ walked. Keeps s (record t { slots = walked.slots; caches = walked.caches }) core in
+    let P : Walked → Type 0 = λ walked. CoreStandsFor s (record t { slots = walked.slots; caches = walked.caches }) core in
     subst P (sym w) h.kept
 
 -- where one can start there is a slot
@@ -155,6 +155,6 @@ starts_there slots place can = elim (slice_get_cases slots place).1 [
 
 -- the phase by its test
 pub issues : (s : Setup) (t : Timing) (b : Bool) → wants_time s t ≡ b →
-    timing_issue s t ≡ (if b then ordering (Time t.done t.cycle) (replayed t) else quiet (issued s t))
+    timing_issue s t ≡ (if b then ordering (Time t.to_commit t.cycle) (replayed t) else quiet (issued s t))
 unfolding timing_issue
-issues s t b is = ap (λ (x : Bool). if x then ordering (Time t.done t.cycle) (replayed t) else quiet (issued s t)) is
+issues s t b is = ap (λ (x : Bool). if x then ordering (Time t.to_commit t.cycle) (replayed t) else quiet (issued s t)) is

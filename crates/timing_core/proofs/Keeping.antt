@@ -1,21 +1,21 @@
 -- A write to some fields of the core is that write to the state.
 use Rattle.std.proofs.Common.{◌≡◌, ℕ, Bool, List, ◌∙◌}
 use Rattle.cache_timing.specs.Caches.{CachesState}
-use Rattle.cache_timing.specs.KeepsAll.{KeepsAll}
+use Rattle.cache_timing.specs.CachesStandFor.{CachesStandFor}
 use Rattle.cache_timing.specs.declared.caches.Caches.{Caches}
 use Rattle.reorder_buffer.specs.declared.slot.Slot.{Slot}
 use Rattle.reorder_buffer.specs.Window.{Contents}
 use Rattle.mono_model.specs.declared.setup.Setup.{Setup}
 use Rattle.mono_model.specs.Machine as machine
 use Rattle.mono_model.specs.Setup.{caches_params}
-use Rattle.timing_laws.specs.Timing.{Timing}
+use Rattle.timing_side.specs.Timing.{Timing}
 use Rattle.timing_core.specs.declared.counts.Counts.{Counts}
 use Rattle.timing_core.specs.declared.state.TimingCore.{TimingCore}
 use Rattle.timing_core.specs.Counts.{counts_in}
-use Rattle.timing_core.specs.Keeps.{Keeps}
+use Rattle.timing_core.specs.CoreStandsFor.{CoreStandsFor}
 
-module _ (s : Setup) (t : Timing) (core : TimingCore) (k : Keeps s t core) where
-  pub keeps_counts : (x : Counts) (y : machine.Counts) → counts_in x ≡ y → Keeps s (record t { counts = y }) (record core { counts = x })
+module _ (s : Setup) (t : Timing) (core : TimingCore) (k : CoreStandsFor s t core) where
+  pub keeps_counts : (x : Counts) (y : machine.Counts) → counts_in x ≡ y → CoreStandsFor s (record t { counts = y }) (record core { counts = x })
   keeps_counts x y is = record {
     params = k.params;
     cycle_limit = k.cycle_limit;
@@ -25,7 +25,7 @@ module _ (s : Setup) (t : Timing) (core : TimingCore) (k : Keeps s t core) where
     predictor = k.predictor;
     caches = k.caches;
     cycle = k.cycle;
-    done = k.done;
+    to_commit = k.to_commit;
     resume = k.resume;
     paid = k.paid;
     counts = is;
@@ -36,8 +36,8 @@ module _ (s : Setup) (t : Timing) (core : TimingCore) (k : Keeps s t core) where
     end = k.end;
   }
 
-  pub keeps_slots : (x : Contents) (y : List Slot) → x.cap ≡ core.flight.cap → x.slots ≡ y →
-      Keeps s (record t { slots = y }) (record core { flight = x })
+  pub keeps_slots : (x : Contents) (y : List Slot) → x.capacity ≡ core.flight.capacity → x.slots ≡ y →
+      CoreStandsFor s (record t { slots = y }) (record core { flight = x })
   keeps_slots x y room is = record {
     params = k.params;
     cycle_limit = k.cycle_limit;
@@ -47,7 +47,7 @@ module _ (s : Setup) (t : Timing) (core : TimingCore) (k : Keeps s t core) where
     predictor = k.predictor;
     caches = k.caches;
     cycle = k.cycle;
-    done = k.done;
+    to_commit = k.to_commit;
     resume = k.resume;
     paid = k.paid;
     counts = k.counts;
@@ -58,8 +58,8 @@ module _ (s : Setup) (t : Timing) (core : TimingCore) (k : Keeps s t core) where
     end = k.end;
   }
 
-  pub keeps_caches : (x : Caches) (y : CachesState) → KeepsAll x (caches_params s.params) y →
-      Keeps s (record t { caches = y }) (record core { caches = x })
+  pub keeps_caches : (x : Caches) (y : CachesState) → CachesStandFor x (caches_params s.params) y →
+      CoreStandsFor s (record t { caches = y }) (record core { caches = x })
   keeps_caches x y is = record {
     params = k.params;
     cycle_limit = k.cycle_limit;
@@ -69,7 +69,7 @@ module _ (s : Setup) (t : Timing) (core : TimingCore) (k : Keeps s t core) where
     predictor = k.predictor;
     caches = is;
     cycle = k.cycle;
-    done = k.done;
+    to_commit = k.to_commit;
     resume = k.resume;
     paid = k.paid;
     counts = k.counts;
@@ -81,7 +81,7 @@ module _ (s : Setup) (t : Timing) (core : TimingCore) (k : Keeps s t core) where
   }
 
   pub keeps_irq : (on on' : Bool) (cmp cmp' : ℕ) → on ≡ on' → cmp ≡ cmp' →
-      Keeps s (record t { irq_on = on'; cmp = cmp' }) (record core { irq = record { on = on; cmp = cmp } })
+      CoreStandsFor s (record t { irq_on = on'; cmp = cmp' }) (record core { irq = record { on = on; cmp = cmp } })
   keeps_irq on on' cmp cmp' same_on same_cmp = record {
     params = k.params;
     cycle_limit = k.cycle_limit;
@@ -91,7 +91,7 @@ module _ (s : Setup) (t : Timing) (core : TimingCore) (k : Keeps s t core) where
     predictor = k.predictor;
     caches = k.caches;
     cycle = k.cycle;
-    done = k.done;
+    to_commit = k.to_commit;
     resume = k.resume;
     paid = k.paid;
     counts = k.counts;

@@ -11,10 +11,10 @@ use Rattle.mono_model.specs.declared.final_state.End.TheVariants.{OutputFull}
 use Rattle.mono_model.specs.declared.setup.Setup.{Setup}
 use Rattle.mono_model.specs.Commit.{branch_count}
 use Rattle.mono_model.specs.Found.{flow_in, is_fence_i}
-use Rattle.timing_laws.specs.Slots.{found_in}
-use Rattle.timing_laws.specs.Timing.{Timing}
-use Rattle.timing_laws.specs.Commit as phase
-use Rattle.timing_laws.specs.Commit.{committed, faulted, has_no_room, leaving_by, leaving_done, leaving_state, leaving_first, leaving, after_leaving, ended_with, commits, commits-suc}
+use Rattle.timing_side.specs.Slots.{found_in}
+use Rattle.timing_side.specs.Timing.{Timing}
+use Rattle.timing_side.specs.Commit as phase
+use Rattle.timing_side.specs.Commit.{committed, faulted, has_no_room, leaving_by, leaving_done, leaving_state, leaving_first, leaving, after_leaving, ended_with, commits, commits-suc}
 use Rattle.timing_core.specs.declared.commit.Leaving.{Leaving}
 use Rattle.timing_core.specs.declared.commit.Committed.{Committed}
 use Rattle.timing_core.specs.Small.{IsBelow}
@@ -121,7 +121,7 @@ commits_over s t left = refl
 pub below_more : (low high : ℕ) (t : Timing) → low ≤ high → IsBelow low t → IsBelow high t
 below_more low high t more below = record {
   cycle = omega arith;
-  done = omega arith;
+  to_commit = omega arith;
   resume = omega arith;
   exceptions = omega arith;
   interrupts = omega arith;
@@ -150,7 +150,7 @@ sent false = omega arith
 committed_below : (s : Setup) (slot : Slot) (rest : List Slot) (t : Timing) (limit : ℕ) → IsBelow limit t → IsBelow (limit + 1) (committed s slot rest t)
 committed_below s slot rest t limit below = record {
   cycle = omega arith;
-  done = omega arith;
+  to_commit = omega arith;
   resume = omega arith;
   exceptions = omega arith;
   interrupts = omega arith;

@@ -1,7 +1,7 @@
 -- What the oldest slot does in the phase of commit, apart from the state behind it.
 use Rattle.std.specs.Prelude.{ℕ, ◌+◌, Option, Some, None}
-use Rattle.timing_laws.specs.Timing.{Timing}
-use Rattle.timing_laws.specs.Commit as phase
+use Rattle.timing_side.specs.Timing.{Timing}
+use Rattle.timing_side.specs.Commit as phase
 use Rattle.timing_core.specs.declared.commit.Leaving.{Leaving}
 use Rattle.timing_core.specs.declared.commit.Leaving.TheVariants.{Stays, Full, Leaves, Faults, Syncs, Ends}
 use Rattle.timing_core.specs.declared.commit.Ending.{Ending}

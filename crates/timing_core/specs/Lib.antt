@@ -1,6 +1,6 @@
 pub mod Small
 pub mod Orders
 pub mod Counts
-pub mod Keeps
+pub mod CoreStandsFor
 pub mod Leaving
 pub mod Units

@@ -1,11 +1,11 @@
 -- Where the numbers of the timing side are small enough that none of a phase's sums leaves 64 bits.
 use Rattle.std.specs.Prelude.{ℕ, ◌+◌, ◌<◌, ◌^◌}
-use Rattle.timing_laws.specs.Timing.{Timing}
+use Rattle.timing_side.specs.Timing.{Timing}
 
 -- the cycle, the numbers and all counts are below a limit
 pub record IsBelow (limit : ℕ) (t : Timing) : Type 0 where
   pub cycle : t.cycle < limit
-  pub done : t.done < limit
+  pub to_commit : t.to_commit < limit
   pub resume : t.resume < limit
   pub exceptions : t.counts.exceptions < limit
   pub interrupts : t.counts.interrupts < limit

@@ -4,7 +4,7 @@ ghost use Rattle.mono_model.specs.Final.{end_of};
 ghost use Rattle.mono_model.specs.Found.{found_word, is_fence_i, is_fence_i_insn};
 ghost use Rattle.mono_model.specs.Demand.{commit_order};
 ghost use Rattle.rollback_cmds.specs.declared.order.Order.{Order as SpecOrder};
-ghost use Rattle.timing_laws.specs.Commit.{ending_orders};
+ghost use Rattle.timing_side.specs.Commit.{ending_orders};
 ghost use Rattle.timing_core.specs.Orders.{and_then};
 ghost use Rattle.timing_core.specs.Leaving.{ending_in, ended_by};
 
@@ -120,32 +120,32 @@ impl TimingCore {
     ghost use Rattle.std.specs.Prelude.{ℕ, ◌+◌, drop, slice_get, IfSome, IfNone};
     ghost use Rattle.reorder_buffer.specs.declared.slot.SlotState.TheVariants.{Done};
     ghost use Rattle.mono_model.specs.declared.setup.Setup.{Setup};
-    ghost use Rattle.timing_laws.specs.Slots.{found_in};
-    ghost use Rattle.timing_laws.specs.Timing.{Timing};
-    ghost use Rattle.timing_laws.specs.Commit.{has_no_room, leaving_by, leaving_done, stays, leaving, commits, timing_commit};
+    ghost use Rattle.timing_side.specs.Slots.{found_in};
+    ghost use Rattle.timing_side.specs.Timing.{Timing};
+    ghost use Rattle.timing_side.specs.Commit.{has_no_room, leaving_by, leaving_done, stays, leaving, commits, timing_commit};
     ghost use Rattle.timing_core.specs.Small.{IsAlmostSmall, IsSmall};
     ghost use Rattle.timing_core.specs.Orders.{orders_in};
     ghost use Rattle.timing_core.specs.Leaving.{kind_of, behind_of};
-    ghost use Rattle.timing_core.specs.Keeps.{Keeps};
+    ghost use Rattle.timing_core.specs.CoreStandsFor.{CoreStandsFor};
 
     /// The second phase of a cycle: the oldest slots, once done, leave in order.
     pub fn commit(&mut self) -> Orders
-        ensures kept { (s : Setup) (t : Timing) → Keeps s t self.old → IsSmall t → Keeps s (timing_commit s t).timing self.new }
-        ensures orders { (s : Setup) (t : Timing) → Keeps s t self.old → IsSmall t → orders_in result ≡ (timing_commit s t).orders }
+        ensures kept { (s : Setup) (t : Timing) → CoreStandsFor s t self.old → IsSmall t → CoreStandsFor s (timing_commit s t).timing self.new }
+        ensures orders { (s : Setup) (t : Timing) → CoreStandsFor s t self.old → IsSmall t → orders_in result ≡ (timing_commit s t).orders }
     {
         let committed = self.leave_in_order();
-        let done = self.done;
+        let to_commit = self.to_commit;
         Orders::in_turn(
-            commit_order(committed.left, done),
-            ending_order(committed.ending, done),
+            commit_order(committed.left, to_commit),
+            ending_order(committed.ending, to_commit),
         )
     }
 
     /// The oldest slots leave, at most so many as the machine commits in a cycle.
     fn leave_in_order(&mut self) -> Committed
-        ensures kept { (s : Setup) (t : Timing) → Keeps s t self.old → IsSmall t → Keeps s (commits s s.params.core_commit 0 t).timing self.new }
-        ensures left { (s : Setup) (t : Timing) → Keeps s t self.old → IsSmall t → result.left ≡ (commits s s.params.core_commit 0 t).left }
-        ensures ending { (s : Setup) (t : Timing) → Keeps s t self.old → IsSmall t → ending_in result.ending ≡ (commits s s.params.core_commit 0 t).ending }
+        ensures kept { (s : Setup) (t : Timing) → CoreStandsFor s t self.old → IsSmall t → CoreStandsFor s (commits s s.params.core_commit 0 t).timing self.new }
+        ensures left { (s : Setup) (t : Timing) → CoreStandsFor s t self.old → IsSmall t → result.left ≡ (commits s s.params.core_commit 0 t).left }
+        ensures ending { (s : Setup) (t : Timing) → CoreStandsFor s t self.old → IsSmall t → ending_in result.ending ≡ (commits s s.params.core_commit 0 t).ending }
     {
         let most = self.params.core_commit;
         for left in 0..most {
@@ -162,8 +162,8 @@ impl TimingCore {
 
     /// The oldest slot does what it does in this phase.
     fn leave(&mut self) -> Leaving
-        ensures kept { (s : Setup) (t : Timing) → Keeps s t self.old → IsAlmostSmall t → Keeps s (behind_of t (leaving s t)) self.new }
-        ensures kind { (s : Setup) (t : Timing) → Keeps s t self.old → IsAlmostSmall t → result ≡ kind_of (leaving s t) }
+        ensures kept { (s : Setup) (t : Timing) → CoreStandsFor s t self.old → IsAlmostSmall t → CoreStandsFor s (behind_of t (leaving s t)) self.new }
+        ensures kind { (s : Setup) (t : Timing) → CoreStandsFor s t self.old → IsAlmostSmall t → result ≡ kind_of (leaving s t) }
     {
         match self.oldest_done() {
             Some(slot) => self.leave_done(&slot),
@@ -189,9 +189,9 @@ impl TimingCore {
     /// The oldest slot, which is done, does what it does in this phase.
     fn leave_done(&mut self, slot: &Slot) -> Leaving
         requires oldest { slice_get self.old.flight.slots 0 ≡ Some slot.now }
-        ensures kept { (s : Setup) (t : Timing) → Keeps s t self.old → IsAlmostSmall t →
-            Keeps s (behind_of t (leaving_done s slot.now (drop 1 t.slots) slot.now.cause t)) self.new }
-        ensures kind { (s : Setup) (t : Timing) → Keeps s t self.old → IsAlmostSmall t →
+        ensures kept { (s : Setup) (t : Timing) → CoreStandsFor s t self.old → IsAlmostSmall t →
+            CoreStandsFor s (behind_of t (leaving_done s slot.now (drop 1 t.slots) slot.now.cause t)) self.new }
+        ensures kind { (s : Setup) (t : Timing) → CoreStandsFor s t self.old → IsAlmostSmall t →
             result ≡ kind_of (leaving_done s slot.now (drop 1 t.slots) slot.now.cause t) }
     {
         if slot.cause.is_some() {
@@ -208,16 +208,16 @@ impl TimingCore {
 
     /// Whether the output has no room for what the slot sends.
     fn has_no_room(&self, slot: &Slot) -> bool
-        ensures room { (s : Setup) (t : Timing) → Keeps s t self.now → result ≡ has_no_room s slot.now t }
+        ensures room { (s : Setup) (t : Timing) → CoreStandsFor s t self.now → result ≡ has_no_room s slot.now t }
     {
         slot.sends && self.output >= u64::from(self.output_limit)
     }
 
     /// What the phase does behind a slot that retired.
     fn follow(&mut self, slot: &Slot) -> Leaving
-        ensures kept { (s : Setup) (t : Timing) → Keeps s t self.old → t.counts.squashed < 2 ^ 63 + 2 ^ 32 →
-            Keeps s (behind_of t (leaving_by (is_fence_i (found_in slot.now)) slot.now.halt t)) self.new }
-        ensures kind { (s : Setup) (t : Timing) → Keeps s t self.old → t.counts.squashed < 2 ^ 63 + 2 ^ 32 →
+        ensures kept { (s : Setup) (t : Timing) → CoreStandsFor s t self.old → t.counts.squashed < 2 ^ 63 + 2 ^ 32 →
+            CoreStandsFor s (behind_of t (leaving_by (is_fence_i (found_in slot.now)) slot.now.halt t)) self.new }
+        ensures kind { (s : Setup) (t : Timing) → CoreStandsFor s t self.old → t.counts.squashed < 2 ^ 63 + 2 ^ 32 →
             result ≡ kind_of (leaving_by (is_fence_i (found_in slot.now)) slot.now.halt t) }
     {
         if let Some(halt) = slot.halt {

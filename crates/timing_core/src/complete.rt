@@ -1,5 +1,5 @@
 ghost use Rattle.std.specs.Prelude.{◌≡◌, ◌≤◌, length, take, None, Some, IfSome, IfNone};
-ghost use Rattle.timing_laws.specs.Complete.{is_due, is_mispredicted, completes};
+ghost use Rattle.timing_side.specs.Complete.{is_finishing, is_mispredicted, completes};
 
 use crate::orders::Orders;
 use crate::state::TimingCore;
@@ -17,8 +17,8 @@ pub struct Redirect {
 }
 
 /// Whether the slot's latency is over in this cycle.
-fn is_due(state: SlotState, cycle: u64) -> bool
-    ensures due { result ≡ is_due cycle state }
+fn is_finishing(state: SlotState, cycle: u64) -> bool
+    ensures due { result ≡ is_finishing cycle state }
 {
     match state {
         SlotState::Until(end) => end == cycle,
@@ -36,7 +36,7 @@ fn is_mispredicted(slot: &Slot) -> bool
 /// Slots whose latency is over are done, the oldest first, up to the first mispredicted one, behind which the rest is to be
 /// flushed.
 fn finish_due(flight: &mut InFlight, cycle: u64) -> Option<Redirect>
-    ensures room { flight.new.cap ≡ flight.old.cap }
+    ensures room { flight.new.capacity ≡ flight.old.capacity }
     ensures count { length flight.new.slots ≡ length flight.old.slots }
     ensures all { IfNone result (completes cycle flight.old.slots ≡ record { slots = flight.new.slots; redirect = None }) }
     ensures within { IfSome result (λ r. r.kept ≤ length flight.new.slots) }
@@ -49,7 +49,7 @@ fn finish_due(flight: &mut InFlight, cycle: u64) -> Option<Redirect>
             return None;
         };
         let slot = flight.at(place);
-        if is_due(slot.state, cycle) {
+        if is_finishing(slot.state, cycle) {
             let wrong = is_mispredicted(slot);
             let addr = slot.next;
             flight.finish(place);
@@ -67,17 +67,17 @@ fn finish_due(flight: &mut InFlight, cycle: u64) -> Option<Redirect>
 
 impl TimingCore {
     ghost use Rattle.mono_model.specs.declared.setup.Setup.{Setup};
-    ghost use Rattle.timing_laws.specs.Timing.{Timing};
-    ghost use Rattle.timing_laws.specs.Complete.{timing_complete};
+    ghost use Rattle.timing_side.specs.Timing.{Timing};
+    ghost use Rattle.timing_side.specs.Complete.{timing_complete};
     ghost use Rattle.timing_core.specs.Small.{IsSmall};
     ghost use Rattle.timing_core.specs.Orders.{orders_in};
-    ghost use Rattle.timing_core.specs.Keeps.{Keeps};
+    ghost use Rattle.timing_core.specs.CoreStandsFor.{CoreStandsFor};
 
     /// The third phase of a cycle: slots whose latency is over are done, and the first mispredicted one flushes all
     /// younger slots.
     pub fn complete(&mut self) -> Orders
-        ensures kept { (s : Setup) (t : Timing) → Keeps s t self.old → IsSmall t → Keeps s (timing_complete t).timing self.new }
-        ensures orders { (s : Setup) (t : Timing) → Keeps s t self.old → IsSmall t → orders_in result ≡ (timing_complete t).orders }
+        ensures kept { (s : Setup) (t : Timing) → CoreStandsFor s t self.old → IsSmall t → CoreStandsFor s (timing_complete t).timing self.new }
+        ensures orders { (s : Setup) (t : Timing) → CoreStandsFor s t self.old → IsSmall t → orders_in result ≡ (timing_complete t).orders }
     {
         let Some(redirect) = finish_due(&mut self.flight, self.cycle) else {
             return Orders::none();
@@ -85,7 +85,7 @@ impl TimingCore {
         self.flush(redirect.kept);
         self.counts.mispredicted = self.counts.mispredicted.saturating_add(1);
         Orders::one(Order::Set {
-            n: self.done.saturating_add(u64::from(redirect.kept)),
+            n: self.to_commit.saturating_add(u64::from(redirect.kept)),
             addr: redirect.addr,
         })
     }

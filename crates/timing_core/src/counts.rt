@@ -19,11 +19,11 @@ pub struct Counts {
 
 impl Counts {
     ghost use Rattle.std.specs.Prelude.{◌≡◌};
-    ghost use Rattle.timing_laws.specs.Timing.{timing_start};
+    ghost use Rattle.timing_side.specs.Timing.{timing_start};
     ghost use Rattle.timing_core.specs.Counts.{counts_in};
 
     /// Nothing was counted.
-    #[tactic(auto, unfolding(timing_laws::specs::Timing::timing_start))]
+    #[tactic(auto, unfolding(timing_side::specs::Timing::timing_start))]
     pub(crate) fn new() -> Counts
         ensures start { counts_in result ≡ timing_start.counts }
     {

@@ -4,6 +4,7 @@
 mod commit;
 mod complete;
 mod counts;
+mod cycle_end;
 mod fetch;
 mod interrupt;
 mod issue;
@@ -12,7 +13,6 @@ mod orders;
 mod retire;
 mod sizes;
 mod state;
-mod tick;
 mod units;
 
 pub use fetch::Tried;

@@ -1,7 +1,7 @@
 ghost use Rattle.std.specs.Prelude.{◌≡◌, if◌then◌else◌};
 ghost use Rattle.rv_decode.specs.Decode.{decode_of};
 ghost use Rattle.cache_timing.specs.Caches.{CachesState};
-ghost use Rattle.cache_timing.specs.KeepsAll.{KeepsAll};
+ghost use Rattle.cache_timing.specs.CachesStandFor.{CachesStandFor};
 ghost use Rattle.cache_timing.specs.declared.params.AllCaches.{AllCaches};
 ghost use Rattle.mono_model.specs.Found.{found_word, flow_in};
 ghost use Rattle.mono_model.specs.Commit.{branch_count, caches_after};
@@ -42,7 +42,7 @@ fn bytes_of(sends: bool) -> u64
 
 /// A store to RAM accesses the data cache.
 fn store(caches: &mut Caches, slot: &Slot)
-    ensures kept { (p : AllCaches) (c : CachesState) → KeepsAll caches.old p c → KeepsAll caches.new p (caches_after p slot.now.access c) }
+    ensures kept { (p : AllCaches) (c : CachesState) → CachesStandFor caches.old p c → CachesStandFor caches.new p (caches_after p slot.now.access c) }
 {
     if let Access::Store {
         addr,
@@ -57,15 +57,15 @@ fn store(caches: &mut Caches, slot: &Slot)
 impl TimingCore {
     ghost use Rattle.std.specs.Prelude.{ℕ, ◌+◌, ◌<◌, ◌^◌, Some, drop, slice_get};
     ghost use Rattle.mono_model.specs.declared.setup.Setup.{Setup};
-    ghost use Rattle.timing_laws.specs.Timing.{Timing};
-    ghost use Rattle.timing_laws.specs.Commit.{committed, faulted};
+    ghost use Rattle.timing_side.specs.Timing.{Timing};
+    ghost use Rattle.timing_side.specs.Commit.{committed, faulted};
     ghost use Rattle.timing_core.specs.Small.{IsAlmostSmall};
-    ghost use Rattle.timing_core.specs.Keeps.{Keeps};
+    ghost use Rattle.timing_core.specs.CoreStandsFor.{CoreStandsFor};
 
     /// The oldest slot leaves by its trap.
     pub(crate) fn fault(&mut self, slot: &Slot)
         requires oldest { slice_get self.old.flight.slots 0 ≡ Some slot.now }
-        ensures kept { (s : Setup) (t : Timing) → Keeps s t self.old → IsAlmostSmall t → Keeps s (faulted slot.now (drop 1 t.slots) t) self.new }
+        ensures kept { (s : Setup) (t : Timing) → CoreStandsFor s t self.old → IsAlmostSmall t → CoreStandsFor s (faulted slot.now (drop 1 t.slots) t) self.new }
     {
         self.flight.leave();
         self.flush(0);
@@ -76,7 +76,7 @@ impl TimingCore {
     /// The oldest slot, which has no cause, leaves.
     pub(crate) fn retire(&mut self, slot: &Slot)
         requires oldest { slice_get self.old.flight.slots 0 ≡ Some slot.now }
-        ensures kept { (s : Setup) (t : Timing) → Keeps s t self.old → IsAlmostSmall t → Keeps s (committed s slot.now (drop 1 t.slots) t) self.new }
+        ensures kept { (s : Setup) (t : Timing) → CoreStandsFor s t self.old → IsAlmostSmall t → CoreStandsFor s (committed s slot.now (drop 1 t.slots) t) self.new }
     {
         self.flight.leave();
         let flow = flow_of(slot.word);
@@ -90,10 +90,10 @@ impl TimingCore {
 
     /// The number of the next instruction to commit, and the timer interrupt as that meets it.
     fn pass(&mut self, slot: &Slot)
-        ensures kept { (s : Setup) (t : Timing) → Keeps s t self.old → t.done < 2 ^ 63 + 2 ^ 32 →
-            Keeps s (record t { done = t.done + 1; irq_on = slot.now.irq_on; cmp = slot.now.cmp }) self.new }
+        ensures kept { (s : Setup) (t : Timing) → CoreStandsFor s t self.old → t.to_commit < 2 ^ 63 + 2 ^ 32 →
+            CoreStandsFor s (record t { to_commit = t.to_commit + 1; irq_on = slot.now.irq_on; cmp = slot.now.cmp }) self.new }
     {
-        self.done = self.done.saturating_add(1);
+        self.to_commit = self.to_commit.saturating_add(1);
         self.irq = IrqView {
             on: slot.irq_on,
             cmp: slot.cmp,

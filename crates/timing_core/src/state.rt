@@ -24,7 +24,7 @@ pub struct TimingCore {
     pub(crate) caches: Caches,
     pub(crate) cycle: u64,
     /// The number of the next instruction to commit.
-    pub(crate) done: u64,
+    pub(crate) to_commit: u64,
     /// The cycle from which on fetch goes on after a miss.
     pub(crate) resume: u64,
     /// The miss of the instruction to fetch next was waited for.
@@ -44,13 +44,13 @@ impl TimingCore {
     ghost use Rattle.mono_model.specs.declared.setup.Setup.{Setup as RunSetup};
     ghost use Rattle.mono_model.specs.Setup.{is_setup};
     ghost use Rattle.mono_model.specs.Final.{has_ended};
-    ghost use Rattle.timing_laws.specs.Timing.{Timing, timing_start, cut_to, timing_stats};
-    ghost use Rattle.timing_core.specs.Keeps.{Keeps};
+    ghost use Rattle.timing_side.specs.Timing.{Timing, timing_start, cut_to, timing_stats};
+    ghost use Rattle.timing_core.specs.CoreStandsFor.{CoreStandsFor};
 
     /// The timing side before the first cycle of a run of this setup. It takes its memory here and none later.
     pub fn new(alloc: Global, setup: &Setup) -> Result<TimingCore, NoMemory>
         requires sound { is_setup setup.now ≡ true }
-        ensures opening { IfOk result (λ core. Keeps setup.now timing_start core) }
+        ensures opening { IfOk result (λ core. CoreStandsFor setup.now timing_start core) }
     {
         let params = setup.params;
         Ok(TimingCore {
@@ -61,7 +61,7 @@ impl TimingCore {
             predictor: Predictor::new(alloc, predictor_params(&params))?,
             caches: Caches::new(alloc, &caches_params(&params))?,
             cycle: 0,
-            done: 0,
+            to_commit: 0,
             resume: 0,
             paid: false,
             counts: Counts::new(),
@@ -77,58 +77,58 @@ impl TimingCore {
 
     /// The number of the cycle, counted from 0.
     pub fn cycle(&self) -> u64
-        ensures cycle { (s : RunSetup) (t : Timing) → Keeps s t self.now → result ≡ t.cycle }
+        ensures cycle { (s : RunSetup) (t : Timing) → CoreStandsFor s t self.now → result ≡ t.cycle }
     {
         self.cycle
     }
 
     /// The number of the next instruction to commit.
-    pub fn done(&self) -> u64
-        ensures done { (s : RunSetup) (t : Timing) → Keeps s t self.now → result ≡ t.done }
+    pub fn to_commit(&self) -> u64
+        ensures number { (s : RunSetup) (t : Timing) → CoreStandsFor s t self.now → result ≡ t.to_commit }
     {
-        self.done
+        self.to_commit
     }
 
     /// The number of the next instruction to fetch.
     pub fn next_number(&self) -> u64
-        requires small { self.now.done < 2 ^ 63 }
-        ensures next { (s : RunSetup) (t : Timing) → Keeps s t self.now
-            → result ≡ t.done + length t.slots }
+        requires small { self.now.to_commit < 2 ^ 63 }
+        ensures next { (s : RunSetup) (t : Timing) → CoreStandsFor s t self.now
+            → result ≡ t.to_commit + length t.slots }
     {
-        self.done + u64::from(self.flight.len())
+        self.to_commit + u64::from(self.flight.len())
     }
 
     /// How many bytes were sent.
     pub fn output(&self) -> u64
-        ensures output { (s : RunSetup) (t : Timing) → Keeps s t self.now → result ≡ t.output }
+        ensures output { (s : RunSetup) (t : Timing) → CoreStandsFor s t self.now → result ≡ t.output }
     {
         self.output
     }
 
     /// How the run stands or ended.
     pub fn end(&self) -> End
-        ensures end { (s : RunSetup) (t : Timing) → Keeps s t self.now → result ≡ t.end }
+        ensures end { (s : RunSetup) (t : Timing) → CoreStandsFor s t self.now → result ≡ t.end }
     {
         self.end
     }
 
     /// Whether the run has ended.
     pub fn has_ended(&self) -> bool
-        ensures ended { (s : RunSetup) (t : Timing) → Keeps s t self.now → result ≡ has_ended t.end }
+        ensures ended { (s : RunSetup) (t : Timing) → CoreStandsFor s t self.now → result ≡ has_ended t.end }
     {
         self.end != End::Running
     }
 
     /// How many instructions may be fetched in a cycle.
     pub fn fetch_width(&self) -> u32
-        ensures width { (s : RunSetup) (t : Timing) → Keeps s t self.now → result ≡ s.params.core_fetch }
+        ensures width { (s : RunSetup) (t : Timing) → CoreStandsFor s t self.now → result ≡ s.params.core_fetch }
     {
         self.params.core_fetch
     }
 
     /// The counts of the run so far.
     pub fn stats(&self) -> Stats
-        ensures stats { (s : RunSetup) (t : Timing) → Keeps s t self.now → result ≡ timing_stats s t }
+        ensures stats { (s : RunSetup) (t : Timing) → CoreStandsFor s t self.now → result ≡ timing_stats s t }
     {
         let caches = self.caches.counts();
         Stats {
@@ -155,8 +155,8 @@ impl TimingCore {
 
     /// A flush: the slots from this place on are removed, and fetch waits for nothing.
     pub(crate) fn flush(&mut self, place: u32)
-        ensures kept { (s : RunSetup) (t : Timing) → Keeps s t self.old → t.counts.squashed < 2 ^ 63 + 2 ^ 32 →
-            Keeps s (cut_to (take place t.slots) t) self.new }
+        ensures kept { (s : RunSetup) (t : Timing) → CoreStandsFor s t self.old → t.counts.squashed < 2 ^ 63 + 2 ^ 32 →
+            CoreStandsFor s (cut_to (take place t.slots) t) self.new }
     {
         let squashed = self.flight.cut_to(place);
         self.counts.squashed = self.counts.squashed.saturating_add(u64::from(squashed));

@@ -155,10 +155,13 @@ fn a_wrongly_predicted_branch_flushes_the_wrong_path(rt: HostRuntime) -> Result<
         let tried = core.fetch(&entry(number, addr, word, next));
         assert!(rt; tried.appended, "fetch in cycle {cycle}");
         assert_eq!(rt; tried.orders, fetched, "fetch in cycle {cycle}");
-        core.tick();
+        core.end_cycle();
     }
     let stats = core.stats();
-    assert_eq!(rt; (stats.cycles, stats.instructions, core.done()), (5, 2, 2));
+    assert_eq!(rt;
+        (stats.cycles, stats.instructions, core.to_commit()),
+        (5, 2, 2)
+    );
     assert_eq!(rt; (stats.fetched, stats.squashed), (5, 1));
     assert_eq!(rt; (stats.branches, stats.mispredicted), (1, 1));
     assert!(rt; !core.has_ended());

@@ -26,9 +26,9 @@ use Rattle.mono_model.specs.Demand.{Demand, ending_orders, commit_order, demand_
 use Rattle.machine_laws.specs.Relation.{Tracked, Tracks, Related, Within}
 use Rattle.mono_model.proofs.Path.{path_commit}
 use Rattle.machine_laws.proofs.Commit.{numbered, KeptBy, effect_is, leaving_kept, related_number, commit_related}
-use Rattle.timing_laws.specs.Slots.{found_in}
-use Rattle.timing_laws.specs.Timing.{Timing, cut_to}
-use Rattle.timing_laws.specs.Commit as timing
+use Rattle.timing_side.specs.Slots.{found_in}
+use Rattle.timing_side.specs.Timing.{Timing, cut_to}
+use Rattle.timing_side.specs.Commit as timing
 use Rattle.timing_laws.specs.Seen.{state_of, slot_of, slots_of, seen}
 use Rattle.timing_laws.proofs.Effects.{committed_retired, committed_output, faulted_retired, faulted_output}
 use Rattle.timing_laws.proofs.Entries.{entry_addr, entry_access, entry_cause, entry_next, entry_goes, entry_out, entry_halt, entry_irq, entry_cmp, slot_says, slots_length, slots_same, cut_seen, IsPhase}
@@ -99,7 +99,7 @@ module _ (s : Setup) (m : Machine) (n : ℕ) (os : List Order) (rec : Record) (r
       let output : length m.arch.output + (if slot.sends then 1 else 0) ≡ length behind.output =
       ap (λ (b : Bool). length m.arch.output + (if b then 1 else 0)) sends_same ∙ sym (committed_output rec.found r rec.time rec.addr m.arch none) in
       λ i. record (seen s (numbered m n os)) {
-        done = number i;
+        to_commit = number i;
         slots = slots_of (entry s os) (suc n) rest;
         predictor = trained (predictor_params s.params) m.predictor (addr i) (flow i) (goes i);
         caches = mono.caches_after (caches_params s.params) (access i) m.caches;
@@ -119,7 +119,7 @@ module _ (s : Setup) (m : Machine) (n : ℕ) (os : List Order) (rec : Record) (r
       let retired : m.arch.csrs.retired ≡ behind.csrs.retired = sym (faulted_retired why rec.found r rec.time rec.addr m.arch is) in
       let output : length m.arch.output ≡ length behind.output = ap (λ (l : List ℕ). length l) (sym (faulted_output why rec.found r rec.time rec.addr m.arch is)) in
       λ i. record (seen s (numbered m n os)) {
-        done = number i;
+        to_commit = number i;
         slots = [];
         resume = 0;
         paid = false;
@@ -268,24 +268,24 @@ committed_phase_seen : (s : Setup) (d : Demand) (c : mono.Committed) →
     IsPhase s d
     (record {
       machine = c.machine;
-      done = d.done + c.left;
-      orders = ending_orders c.ending c.machine.arch.pc (d.done + c.left) (commit_order c.left (d.done + c.left) d.orders);
+      to_commit = d.to_commit + c.left;
+      orders = ending_orders c.ending c.machine.arch.pc (d.to_commit + c.left) (commit_order c.left (d.to_commit + c.left) d.orders);
     })
-    (timing.committed_phase (seen_committed s d.done (commit_order c.left (d.done + c.left) d.orders) c))
+    (timing.committed_phase (seen_committed s d.to_commit (commit_order c.left (d.to_commit + c.left) d.orders) c))
 unfolding seen
-committed_phase_seen s d c = record { timing = refl; orders = ending_added c.machine.arch.pc (d.done + c.left) c.left c.ending d.orders }
+committed_phase_seen s d c = record { timing = refl; orders = ending_added c.machine.arch.pc (d.to_commit + c.left) c.left c.ending d.orders }
 
 pub commit_seen : (s : Setup) (d : Demand) → Related s d → IsPhase s d (demand_commit s d) (timing.timing_commit s (seen s d))
 unfolding mono.commit_phase timing.timing_commit
 commit_seen s d related =
     let c : mono.Committed = mono.commits s s.params.core_commit 0 d.machine in
-    let os : List Order = commit_order c.left (d.done + c.left) d.orders in
-    let e : d.done ≡ d.done + 0 = omega arith in
-    let start : seen s d ≡ seen s (numbered d.machine (d.done + 0) os) =
-    order_seen s d.machine d.done c.left (d.done + c.left) d.orders ∙ ap (λ (k : ℕ). seen s (numbered d.machine k os)) e in
-    let begins : Related s (numbered d.machine (d.done + 0) os) =
-    related_number s d.machine d.done (d.done + 0) os e (order_related s d.machine d.done c.left (d.done + c.left) d.orders related) in
-    let is : timing.commits s s.params.core_commit 0 (seen s d) ≡ seen_committed s d.done os c =
-    ap (λ (t : Timing). timing.commits s s.params.core_commit 0 t) start ∙ commits_seen s d.done os s.params.core_commit 0 d.machine begins in
+    let os : List Order = commit_order c.left (d.to_commit + c.left) d.orders in
+    let e : d.to_commit ≡ d.to_commit + 0 = omega arith in
+    let start : seen s d ≡ seen s (numbered d.machine (d.to_commit + 0) os) =
+    order_seen s d.machine d.to_commit c.left (d.to_commit + c.left) d.orders ∙ ap (λ (k : ℕ). seen s (numbered d.machine k os)) e in
+    let begins : Related s (numbered d.machine (d.to_commit + 0) os) =
+    related_number s d.machine d.to_commit (d.to_commit + 0) os e (order_related s d.machine d.to_commit c.left (d.to_commit + c.left) d.orders related) in
+    let is : timing.commits s s.params.core_commit 0 (seen s d) ≡ seen_committed s d.to_commit os c =
+    ap (λ (t : Timing). timing.commits s s.params.core_commit 0 t) start ∙ commits_seen s d.to_commit os s.params.core_commit 0 d.machine begins in
     let P : timing.Committed → Type 0 = λ x. IsPhase s d (demand_commit s d) (timing.committed_phase x) in
     subst P (sym is) (committed_phase_seen s d c)

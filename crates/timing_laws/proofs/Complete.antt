@@ -13,8 +13,8 @@ use Rattle.mono_model.specs.Complete as mono
 use Rattle.mono_model.specs.Demand.{Demand, redirect_orders, demand_complete}
 use Rattle.machine_laws.specs.Relation.{HoldsResult, Tracks, Related}
 use Rattle.mono_model.proofs.Path.{path_below}
-use Rattle.timing_laws.specs.Timing.{Timing}
-use Rattle.timing_laws.specs.Complete as timing
+use Rattle.timing_side.specs.Timing.{Timing}
+use Rattle.timing_side.specs.Complete as timing
 use Rattle.timing_laws.specs.Seen.{state_of, slot_of, slots_of, seen}
 use Rattle.timing_laws.proofs.Entries.{entry_cause, entry_goes, slots_length, slots_same, cut_seen, IsPhase}
 
@@ -54,7 +54,7 @@ module _ (s : Setup) (os : List Order) where
       by_test false it_is_not = refl
 
   next_seen : (cycle n : ℕ) (rec : Record) (stage : Stage) (rest : mono.Completed) → HoldsResult stage (result_at s (time_of os n) (path s os n)) →
-      timing.complete_next (slot_of (entry s os n) rec) (timing.is_due cycle (state_of stage)) (seen_completed (suc n) rest)
+      timing.complete_next (slot_of (entry s os n) rec) (timing.is_finishing cycle (state_of stage)) (seen_completed (suc n) rest)
       ≡ seen_completed n (mono.complete_next rec (mono.due cycle stage) rest)
   next_seen cycle n rec waiting rest held = refl
   next_seen cycle n rec (until e r) rest held = by_test (e == cycle)
@@ -70,23 +70,23 @@ module _ (s : Setup) (os : List Order) where
   unfolding timing.completes mono.completes
   completes_seen cycle n [] fetch_addr kept tracks = refl
   completes_seen cycle n (rec ∷ rest) fetch_addr kept tracks =
-      ap (λ (c : timing.Completed). timing.complete_next (slot_of (entry s os n) rec) (timing.is_due cycle (state_of rec.stage)) c) (completes_seen cycle (suc n) rest fetch_addr kept tracks.1)
+      ap (λ (c : timing.Completed). timing.complete_next (slot_of (entry s os n) rec) (timing.is_finishing cycle (state_of rec.stage)) c) (completes_seen cycle (suc n) rest fetch_addr kept tracks.1)
       ∙ next_seen cycle n rec rec.stage (mono.completes cycle rest) tracks.0.result
 
 redirect_seen : (s : Setup) (d : Demand) (redirect : Option ℕ) (records : List Record) →
-    IsPhase s d (record d { machine = mono.completed_by redirect records d.machine; orders = redirect_orders redirect (d.done + length records) d.orders })
-    (timing.completed_phase (record { slots = slots_of (entry s d.orders) d.done records; redirect = redirect }) (seen s d))
+    IsPhase s d (record d { machine = mono.completed_by redirect records d.machine; orders = redirect_orders redirect (d.to_commit + length records) d.orders })
+    (timing.completed_phase (record { slots = slots_of (entry s d.orders) d.to_commit records; redirect = redirect }) (seen s d))
 unfolding seen
 redirect_seen s d None records = record { timing = refl; orders = refl }
 redirect_seen s d (Some addr) records =
-    let n : ℕ = d.done + length records in
+    let n : ℕ = d.to_commit + length records in
     let later : List Order = Set n addr ∷ d.orders in
-    let slots : List Slot = slots_of (entry s d.orders) d.done records in
-    let same : slots ≡ slots_of (entry s later) d.done records =
-    sym (slots_same s d.orders later d.done records (λ m. refl) (λ m under. path_below s (Set n addr) d.orders m under)) in
+    let slots : List Slot = slots_of (entry s d.orders) d.to_commit records in
+    let same : slots ≡ slots_of (entry s later) d.to_commit records =
+    sym (slots_same s d.orders later d.to_commit records (λ m. refl) (λ m under. path_below s (Set n addr) d.orders m under)) in
     record {
       timing = ap (λ (f : Timing). record f { counts = record f.counts { mispredicted = f.counts.mispredicted + 1 } }) (cut_seen s d records addr later slots same);
-      orders = ap (λ (k : ℕ). Set (d.done + k) addr ∷ d.orders) (slots_length s d.orders d.done records);
+      orders = ap (λ (k : ℕ). Set (d.to_commit + k) addr ∷ d.orders) (slots_length s d.orders d.to_commit records);
     }
 
 pub complete_seen : (s : Setup) (d : Demand) → Related s d → IsPhase s d (demand_complete d) (timing.timing_complete (seen s d))
@@ -95,4 +95,4 @@ complete_seen s d related =
     let m = d.machine in
     let c : mono.Completed = mono.completes m.cycle m.window in
     let P : timing.Completed → Type 0 = λ x. IsPhase s d (demand_complete d) (timing.completed_phase x (seen s d)) in
-    subst P (sym (completes_seen s d.orders m.cycle d.done m.window m.fetch_addr m.kept related.window)) (redirect_seen s d c.redirect c.records)
+    subst P (sym (completes_seen s d.orders m.cycle d.to_commit m.window m.fetch_addr m.kept related.window)) (redirect_seen s d c.redirect c.records)

@@ -14,8 +14,8 @@ use Rattle.mono_model.specs.Machine.{Machine, flushed}
 use Rattle.mono_model.specs.Demand.{Demand}
 use Rattle.machine_laws.specs.Relation.{Tracked}
 use Rattle.machine_laws.proofs.Changes.{behind_next}
-use Rattle.timing_laws.specs.Slots.{found_in, is_waiting_state}
-use Rattle.timing_laws.specs.Timing.{Timing, cut_to, Phase}
+use Rattle.timing_side.specs.Slots.{found_in, is_waiting_state}
+use Rattle.timing_side.specs.Timing.{Timing, cut_to, Phase}
 use Rattle.timing_laws.specs.Seen.{state_of, slot_of, slots_of, seen}
 use Rattle.timing_laws.proofs.Words.{found_fetched, said_by}
 
@@ -121,15 +121,15 @@ slots_same s os later n (rec ∷ rest) times same =
     ∙ ap (λ (slots : List Slot). slot_of (entry s os n) rec ∷ slots) (slots_same s os later (suc n) rest times (λ m under. same m (omega arith)))
 
 -- a flush
-pub cut_seen : (s : Setup) (d : Demand) (front : List Record) (addr : ℕ) (later : List Order) (slots : List Slot) → slots ≡ slots_of (entry s later) d.done front →
+pub cut_seen : (s : Setup) (d : Demand) (front : List Record) (addr : ℕ) (later : List Order) (slots : List Slot) → slots ≡ slots_of (entry s later) d.to_commit front →
     cut_to slots (seen s d) ≡ seen s (record d { machine = flushed front addr d.machine; orders = later })
 unfolding seen cut_to flushed
 cut_seen s d front addr later slots is =
     let m : Machine = d.machine in
     let t : Timing = seen s d in
-    let e : length (slots_of (entry s d.orders) d.done m.window) - length slots ≡ length m.window - length front =
-    ap (λ (k : ℕ). k - length slots) (slots_length s d.orders d.done m.window)
-    ∙ ap (λ (k : ℕ). length m.window - k) (ap (λ (l : List Slot). length l) is ∙ slots_length s later d.done front) in
+    let e : length (slots_of (entry s d.orders) d.to_commit m.window) - length slots ≡ length m.window - length front =
+    ap (λ (k : ℕ). k - length slots) (slots_length s d.orders d.to_commit m.window)
+    ∙ ap (λ (k : ℕ). length m.window - k) (ap (λ (l : List Slot). length l) is ∙ slots_length s later d.to_commit front) in
     λ i. record t { slots = is i; resume = 0; paid = false; counts = record m.counts { squashed = m.counts.squashed + e i } }
 
 -- A phase of the timing side is that of the demand run.

@@ -22,10 +22,10 @@ use Rattle.machine_laws.specs.Relation.{Related}
 use Rattle.mono_model.proofs.Path.{path_below}
 use Rattle.machine_laws.proofs.Path.{path_text}
 use Rattle.machine_laws.proofs.Tracks.{tracks_end}
-use Rattle.timing_laws.specs.Slots as slots
-use Rattle.timing_laws.specs.Slots.{slot_from}
-use Rattle.timing_laws.specs.Timing.{quiet}
-use Rattle.timing_laws.specs.Fetch as timing
+use Rattle.timing_side.specs.Slots as slots
+use Rattle.timing_side.specs.Slots.{slot_from}
+use Rattle.timing_side.specs.Timing.{quiet}
+use Rattle.timing_side.specs.Fetch as timing
 use Rattle.timing_laws.specs.Seen.{slots_of, seen}
 use Rattle.timing_laws.proofs.Words.{found_fetched, fetchable_is}
 use Rattle.timing_laws.proofs.Entries.{waiting_same, entry_addr, entry_word, entry_cause, slots_length, slots_append, slots_same, IsPhase}
@@ -41,9 +41,9 @@ pub may_fetch_same : (s : Setup) (d : Demand) → timing.may_fetch s (seen s d) 
 unfolding seen timing.may_fetch mono.may_fetch
 may_fetch_same s d =
     let m = d.machine in
-    let held = slots_of (entry s d.orders) d.done m.window in
-    ap (λ (k : ℕ). nat_le m.resume m.cycle && nat_lt k s.params.core_window && nat_lt (slots.waiting_count held) s.params.core_stations) (slots_length s d.orders d.done m.window)
-    ∙ ap (λ (k : ℕ). nat_le m.resume m.cycle && nat_lt (length m.window) s.params.core_window && nat_lt k s.params.core_stations) (waits_same s d.orders d.done m.window)
+    let held = slots_of (entry s d.orders) d.to_commit m.window in
+    ap (λ (k : ℕ). nat_le m.resume m.cycle && nat_lt k s.params.core_window && nat_lt (slots.waiting_count held) s.params.core_stations) (slots_length s d.orders d.to_commit m.window)
+    ∙ ap (λ (k : ℕ). nat_le m.resume m.cycle && nat_lt (length m.window) s.params.core_window && nat_lt k s.params.core_stations) (waits_same s d.orders d.to_commit m.window)
 
 result_fetchable : (s : Setup) (time : Option ℕ) (a : Arch) →
     not (word_in (found_next s a) == 0 && timing.is_fetch_cause (result_at s time a).cause) ≡ is_fetchable (found_next s a)
@@ -65,7 +65,7 @@ pub record IsTry (s : Setup) (d : Demand) (t : mono.Try) (f : timing.Tried) : Ty
 -- the entry has the address where fetch stands
 pub fetch_stands : (s : Setup) (d : Demand) → Related s d → (entry s d.orders (next d)).addr ≡ d.machine.fetch_addr
 fetch_stands s d related =
-    entry_addr s d.orders (next d) ∙ (tracks_end s (time_of d.orders) (path s d.orders) d.done d.machine.window d.machine.fetch_addr d.machine.kept related.window).0
+    entry_addr s d.orders (next d) ∙ (tracks_end s (time_of d.orders) (path s d.orders) d.to_commit d.machine.window d.machine.fetch_addr d.machine.kept related.window).0
 
 module _ (s : Setup) (d : Demand) (related : Related s d) where
   abbrev told : Entry
@@ -75,7 +75,7 @@ module _ (s : Setup) (d : Demand) (related : Related s d) where
   fetchable_same =
       let here : Arch = path s d.orders (next d) in
       let text : here.text ≡ d.machine.arch.text =
-      path_text s d.orders d.done (length d.machine.window) related.within ∙ ap (λ (a : Arch). a.text) (sym related.arch) in
+      path_text s d.orders d.to_commit (length d.machine.window) related.within ∙ ap (λ (a : Arch). a.text) (sym related.arch) in
       let addr : here.pc ≡ d.machine.fetch_addr = sym (entry_addr s d.orders (next d)) ∙ fetch_stands s d related in
       ap (λ (w : ℕ). not (w == 0 && timing.is_fetch_cause told.cause)) (entry_word s d.orders (next d))
       ∙ ap (λ (c : Option Cause). not (word_in (found_next s here) == 0 && timing.is_fetch_cause c)) (entry_cause s d.orders (next d))
@@ -96,22 +96,22 @@ module _ (s : Setup) (d : Demand) (related : Related s d) where
 
   -- the slots with the new one, under the orders behind the try
   slots_new : (later : List Order) → ((m : ℕ) → time_of later m ≡ time_of d.orders m) → ((m : ℕ) → m < next d + 1 → path s later m ≡ path s d.orders m) →
-      (slots_of (entry s d.orders) d.done d.machine.window ++ slot_from told (timing.predicted_next s told (seen s d)) d.machine.cycle Waiting ∷ [])
-      ≡ slots_of (entry s later) d.done (d.machine.window ++ mono.new_record s d.machine ∷ [])
+      (slots_of (entry s d.orders) d.to_commit d.machine.window ++ slot_from told (timing.predicted_next s told (seen s d)) d.machine.cycle Waiting ∷ [])
+      ≡ slots_of (entry s later) d.to_commit (d.machine.window ++ mono.new_record s d.machine ∷ [])
   slots_new later times same =
       let m = d.machine in
       let grown : List Record = m.window ++ mono.new_record s m ∷ [] in
-      ap (λ (k : ℕ). slots_of (entry s d.orders) d.done m.window ++ slot_from told k m.cycle Waiting ∷ []) predicted_same
-      ∙ sym (slots_append s d.orders d.done m.window (mono.new_record s m))
-      ∙ sym (slots_same s d.orders later d.done grown times (λ k under. same k (omega (arith, length-append m.window (mono.new_record s m ∷ [])))))
+      ap (λ (k : ℕ). slots_of (entry s d.orders) d.to_commit m.window ++ slot_from told k m.cycle Waiting ∷ []) predicted_same
+      ∙ sym (slots_append s d.orders d.to_commit m.window (mono.new_record s m))
+      ∙ sym (slots_same s d.orders later d.to_commit grown times (λ k under. same k (omega (arith, length-append m.window (mono.new_record s m ∷ [])))))
 
   orders_same : timing.path_orders s told (seen s d) ≡
       (if told.next == mono.predicted_next s d.machine then [] else Set (next d + 1) (mono.predicted_next s d.machine) ∷ [])
   unfolding seen
   orders_same =
-      let orders : ℕ → ℕ → List Order = λ count addr. if told.next == addr then [] else Set (d.done + count + 1) addr ∷ [] in
-      ap (λ (k : ℕ). orders (length (slots_of (entry s d.orders) d.done d.machine.window)) k) predicted_same
-      ∙ ap (λ (k : ℕ). orders k (mono.predicted_next s d.machine)) (slots_length s d.orders d.done d.machine.window)
+      let orders : ℕ → ℕ → List Order = λ count addr. if told.next == addr then [] else Set (d.to_commit + count + 1) addr ∷ [] in
+      ap (λ (k : ℕ). orders (length (slots_of (entry s d.orders) d.to_commit d.machine.window)) k) predicted_same
+      ∙ ap (λ (k : ℕ). orders k (mono.predicted_next s d.machine)) (slots_length s d.orders d.to_commit d.machine.window)
 
   appended_seen : (caches : CachesState) → IsPhase s d
       (record d { machine = mono.appended s caches d.machine; orders = path_orders s d })

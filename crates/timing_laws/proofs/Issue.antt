@@ -30,9 +30,9 @@ use Rattle.machine_laws.specs.Relation.{Tracked, Tracks, HoldsResult, Related}
 use Rattle.machine_laws.proofs.Path.{Follows, path_steps}
 use Rattle.machine_laws.proofs.Operands.{Olders}
 use Rattle.machine_laws.proofs.Issue.{same_result, value_is, ready_is, turn_tracked}
-use Rattle.timing_laws.specs.Slots.{found_in, is_done_state}
-use Rattle.timing_laws.specs.Timing.{Timing, quiet, ordering}
-use Rattle.timing_laws.specs.Issue as timing
+use Rattle.timing_side.specs.Slots.{found_in, is_done_state}
+use Rattle.timing_side.specs.Timing.{Timing, quiet, ordering}
+use Rattle.timing_side.specs.Issue as timing
 use Rattle.timing_laws.specs.Seen.{state_of, slot_of, slots_of, seen}
 use Rattle.timing_laws.proofs.Accesses.{executed_access}
 use Rattle.timing_laws.proofs.Divisions.{dividing_is, dividing_on}
@@ -82,7 +82,7 @@ first_ready a rec =
     ∙ first_value a (second_source rec.found)
 
 -- the order that gives a time
-ordered : (s : Setup) (d : Demand) → (Time (seen s d).done (seen s d).cycle ∷ []) ++ d.orders ≡ Time d.done d.machine.cycle ∷ d.orders
+ordered : (s : Setup) (d : Demand) → (Time (seen s d).to_commit (seen s d).cycle ∷ []) ++ d.orders ≡ Time d.to_commit d.machine.cycle ∷ d.orders
 unfolding seen
 ordered s d = refl
 
@@ -117,16 +117,16 @@ module _ (s : Setup) (os : List Order) where
 
   module _ (a : Arch) where
     written_same : (n : ℕ) (older : List Record) (register : ℕ) → Olders s (time_of os) (path s os) a n older →
-        timing.is_written (slots_down n older) register ≡ is_some (written_value a.regs older register)
+        timing.is_available (slots_down n older) register ≡ is_some (written_value a.regs older register)
     written_same n [] register olds = refl
     written_same zero (rec ∷ older) register olds = absurd olds
     written_same (suc n) (rec ∷ older) register olds =
-        ap (λ (b : Bool). if b then timing.gives_value (state_of rec.stage) (entry s os n).cause else timing.is_written (slots_down n older) register)
+        ap (λ (b : Bool). if b then timing.gives_value (state_of rec.stage) (entry s os n).cause else timing.is_available (slots_down n older) register)
         (slot_says s os n (λ (f : Found). is_register register (destination_in f)) (λ cause. refl) (path s os (suc n)).pc rec olds.0)
         ∙ by_test (is_register register (destination_in rec.found)) (written_same n older register olds.2)
       where
-        by_test : (b : Bool) → timing.is_written (slots_down n older) register ≡ is_some (written_value a.regs older register) →
-            (if b then timing.gives_value (state_of rec.stage) (entry s os n).cause else timing.is_written (slots_down n older) register)
+        by_test : (b : Bool) → timing.is_available (slots_down n older) register ≡ is_some (written_value a.regs older register) →
+            (if b then timing.gives_value (state_of rec.stage) (entry s os n).cause else timing.is_available (slots_down n older) register)
             ≡ is_some (if b then value_at rec.stage else written_value a.regs older register)
         by_test true below = gives_same n rec.stage olds.0.result
         by_test false below = below
@@ -329,37 +329,37 @@ module _ (s : Setup) (os : List Order) where
 
 wants_seen : (s : Setup) (d : Demand) → Related s d → timing.wants_time s (seen s d) ≡ mono.wants_time s d.machine
 unfolding seen mono.wants_time
-wants_seen s d related = wants_first s d.orders d.machine d.done d.machine.window d.machine.fetch_addr d.machine.kept related.arch related.window
+wants_seen s d related = wants_first s d.orders d.machine d.to_commit d.machine.window d.machine.fetch_addr d.machine.kept related.arch related.window
 
 issued_seen : (s : Setup) (d : Demand) → Related s d → timing.issued s (seen s d) ≡ seen s (record d { machine = mono.issued s d.machine })
 unfolding seen
 issued_seen s d related =
     let m = d.machine in
-    let slots : List Slot = slots_of (entry s d.orders) d.done m.window in
+    let slots : List Slot = slots_of (entry s d.orders) d.to_commit m.window in
     let e =
-    ap (λ (k : ℕ). timing.walk s m.cycle k slots [] none_used m.caches) (busy_seen s d.orders d.done m.window m.fetch_addr m.kept related.window)
-    ∙ walk_seen s d.orders m (window.busy_divisions m.window) d.done (mono.none_passed m) m.window m.fetch_addr m.kept
-    (λ n from. path_steps s d.orders d.done n related.within from) related.window related.arch (omega arith) in
+    ap (λ (k : ℕ). timing.walk s m.cycle k slots [] none_used m.caches) (busy_seen s d.orders d.to_commit m.window m.fetch_addr m.kept related.window)
+    ∙ walk_seen s d.orders m (window.busy_divisions m.window) d.to_commit (mono.none_passed m) m.window m.fetch_addr m.kept
+    (λ n from. path_steps s d.orders d.to_commit n related.within from) related.window related.arch (omega arith) in
     λ i. record (seen s d) { slots = (e i).slots; caches = (e i).caches }
 
-replayed_seen : (s : Setup) (d : Demand) → timing.replayed (seen s d) ≡ seen s (record d { machine = mono.replayed d.machine; orders = Time d.done d.machine.cycle ∷ d.orders })
+replayed_seen : (s : Setup) (d : Demand) → timing.replayed (seen s d) ≡ seen s (record d { machine = mono.replayed d.machine; orders = Time d.to_commit d.machine.cycle ∷ d.orders })
 unfolding seen flushed
 replayed_seen s d =
     ap (λ (f : Timing). record f { counts = record f.counts { replays = f.counts.replays + 1 } })
-    (cut_seen s d [] (mono.oldest_address d.machine d.machine.window) (Time d.done d.machine.cycle ∷ d.orders) [] refl)
+    (cut_seen s d [] (mono.oldest_address d.machine d.machine.window) (Time d.to_commit d.machine.cycle ∷ d.orders) [] refl)
 
 pub issue_seen : (s : Setup) (d : Demand) → Related s d → IsPhase s d (demand_issue s d) (timing.timing_issue s (seen s d))
 unfolding mono.issue_phase timing.timing_issue
 issue_seen s d related =
     let P : Bool → Type 0 = λ b. IsPhase s d (demand_issue s d)
-    (if b then ordering (Time (seen s d).done (seen s d).cycle) (timing.replayed (seen s d)) else quiet (timing.issued s (seen s d))) in
+    (if b then ordering (Time (seen s d).to_commit (seen s d).cycle) (timing.replayed (seen s d)) else quiet (timing.issued s (seen s d))) in
     subst P (sym (wants_seen s d related)) (by_test (mono.wants_time s d.machine))
   where
     by_test : (b : Bool) → IsPhase s d
         (record d {
           machine = if b then mono.replayed d.machine else mono.issued s d.machine;
-          orders = if b then Time d.done d.machine.cycle ∷ d.orders else d.orders;
+          orders = if b then Time d.to_commit d.machine.cycle ∷ d.orders else d.orders;
         })
-        (if b then ordering (Time (seen s d).done (seen s d).cycle) (timing.replayed (seen s d)) else quiet (timing.issued s (seen s d)))
+        (if b then ordering (Time (seen s d).to_commit (seen s d).cycle) (timing.replayed (seen s d)) else quiet (timing.issued s (seen s d)))
     by_test true = record { timing = replayed_seen s d; orders = ordered s d }
     by_test false = record { timing = issued_seen s d related; orders = refl }

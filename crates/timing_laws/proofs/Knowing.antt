@@ -15,12 +15,12 @@ use Rattle.reorder_buffer.specs.declared.slot.SlotState.TheVariants.{Waiting, Un
 use Rattle.mono_model.specs.declared.setup.Setup.{Setup}
 use Rattle.mono_model.specs.Issue.{Used, none_used, cached}
 use Rattle.mono_model.specs.Demand.{At, interrupting, committing, completing, issuing, trying, ending, stopping, halted}
-use Rattle.timing_laws.specs.Timing.{Timing, Phase, quiet, ordering}
-use Rattle.timing_laws.specs.Commit as commit
-use Rattle.timing_laws.specs.Issue as issue
-use Rattle.timing_laws.specs.Fetch as fetch
-use Rattle.timing_laws.specs.Turn.{Turned, turned, try_or_end, at_after_commit, at_after_try, at_after_cycle, timing_turn, timing_tick}
-use Rattle.timing_laws.specs.Step.{TimingPlace, step_by, telling, timing_step}
+use Rattle.timing_side.specs.Timing.{Timing, Phase, quiet, ordering}
+use Rattle.timing_side.specs.Commit as commit
+use Rattle.timing_side.specs.Issue as issue
+use Rattle.timing_side.specs.Fetch as fetch
+use Rattle.timing_side.specs.Turn.{Turned, turned, try_or_end, at_after_commit, at_after_try, at_after_cycle, timing_turn, timing_end_of_cycle}
+use Rattle.timing_side.specs.Step.{TimingPlace, step_by, telling, timing_step}
 
 -- two setups that are alike but for image, input and trace
 module _ (s : Setup) (image : Image) (input : List ℕ) (ring : ℕ) where
@@ -92,7 +92,7 @@ module _ (s : Setup) (image : Image) (input : List ℕ) (ring : ℕ) where
   issue_alike : (t : Timing) → issue.timing_issue s t ≡ issue.timing_issue other t
   unfolding issue.timing_issue
   issue_alike t =
-      ap (λ (w : issue.Walked). if issue.wants_time s t then ordering (Time t.done t.cycle) (issue.replayed t) else quiet (record t { slots = w.slots; caches = w.caches }))
+      ap (λ (w : issue.Walked). if issue.wants_time s t then ordering (Time t.to_commit t.cycle) (issue.replayed t) else quiet (record t { slots = w.slots; caches = w.caches }))
       (walk_alike t.cycle (issue.busy_divisions t.slots) t.slots [] none_used t.caches)
 
   fetch_alike : (e : Entry) (t : Timing) → fetch.timing_try s e t ≡ fetch.timing_try other e t
@@ -104,8 +104,8 @@ module _ (s : Setup) (image : Image) (input : List ℕ) (ring : ℕ) where
   try_or_end_alike zero t = refl
   try_or_end_alike (suc more) t = refl
 
-  tick_alike : (t : Timing) → timing_tick s t ≡ timing_tick other t
-  unfolding timing_tick
+  tick_alike : (t : Timing) → timing_end_of_cycle s t ≡ timing_end_of_cycle other t
+  unfolding timing_end_of_cycle
   tick_alike t = refl
 
   turns_alike : (e : Entry) (at : At) (t : Timing) → timing_turn s e at t ≡ timing_turn other e at t

@@ -3,7 +3,7 @@ pub mod Accesses
 pub mod Effects
 pub mod Entries
 pub mod Interrupt
-pub mod Tick
+pub mod CycleEnd
 pub mod Complete
 pub mod Fetch
 pub mod Commit

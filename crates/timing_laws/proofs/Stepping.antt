@@ -13,10 +13,10 @@ use Rattle.machine_laws.specs.Relation.{Related}
 use Rattle.machine_laws.proofs.Always.{owed_within}
 use Rattle.machine_laws.proofs.Places.{place_related}
 use Rattle.machine_laws.proofs.Telling.{by_none, by_one}
-use Rattle.timing_laws.specs.Timing.{Timing, timing_start, timing_stats}
-use Rattle.timing_laws.specs.Turn.{Turned, timing_turn}
-use Rattle.timing_laws.specs.Step as timing
-use Rattle.timing_laws.specs.Step.{TimingPlace, timing_place_start, Stepped, timing_step, wants_entry, wants_entry_by, oldest, younger, telling}
+use Rattle.timing_side.specs.Timing.{Timing, timing_start, timing_stats}
+use Rattle.timing_side.specs.Turn.{Turned, timing_turn}
+use Rattle.timing_side.specs.Step as timing
+use Rattle.timing_side.specs.Step.{TimingPlace, timing_place_start, Stepped, timing_step, wants_entry, wants_entry_by, oldest, younger, telling}
 use Rattle.timing_laws.specs.Seen.{seen, seen_at, IsTurn}
 use Rattle.timing_laws.proofs.Fetch.{fetch_stands}
 use Rattle.timing_laws.proofs.Turning.{turn_seen}
@@ -169,7 +169,7 @@ pub place_end : (s : Setup) (k : ℕ) → (seen_at s (place s k)).timing.end ≡
 unfolding seen_at seen
 place_end s k = refl
 
-pub place_done : (s : Setup) (k : ℕ) → (seen_at s (place s k)).timing.done ≡ (place s k).run.demand.done
+pub place_done : (s : Setup) (k : ℕ) → (seen_at s (place s k)).timing.to_commit ≡ (place s k).run.demand.to_commit
 unfolding seen_at seen
 place_done s k = refl
 

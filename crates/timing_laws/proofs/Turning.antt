@@ -6,14 +6,14 @@ use Rattle.mono_model.specs.declared.setup.Setup.{Setup}
 use Rattle.mono_model.specs.Arch.{Arch}
 use Rattle.mono_model.specs.Path.{entry}
 use Rattle.mono_model.specs.Fetch as fetch
-use Rattle.mono_model.specs.Cycle.{ticked}
+use Rattle.mono_model.specs.Cycle.{end_of_cycle}
 use Rattle.mono_model.specs.Demand as mono
 use Rattle.mono_model.specs.Demand.{Demand, At, interrupting, committing, completing, issuing, trying, ending, stopping, halted, is_try, next, Run, turn, demand_commit, demand_issue, demand_try}
 use Rattle.machine_laws.specs.Relation.{Related}
 use Rattle.mono_model.proofs.Path.{path_stop}
-use Rattle.timing_laws.specs.Timing.{Timing}
-use Rattle.timing_laws.specs.Fetch as try
-use Rattle.timing_laws.specs.Turn as timing
+use Rattle.timing_side.specs.Timing.{Timing}
+use Rattle.timing_side.specs.Fetch as try
+use Rattle.timing_side.specs.Turn as timing
 use Rattle.timing_laws.specs.Seen.{slots_of, seen, IsTurn}
 use Rattle.timing_laws.proofs.Entries.{slots_same}
 use Rattle.timing_laws.proofs.Interrupt.{interrupt_seen}
@@ -21,7 +21,7 @@ use Rattle.timing_laws.proofs.Commit.{commit_seen}
 use Rattle.timing_laws.proofs.Complete.{complete_seen}
 use Rattle.timing_laws.proofs.Issue.{issue_seen}
 use Rattle.timing_laws.proofs.Fetch.{may_fetch_same, try_seen, goes_on}
-use Rattle.timing_laws.proofs.Tick.{tick_seen}
+use Rattle.timing_laws.proofs.CycleEnd.{tick_seen}
 
 -- which turn comes next
 commit_at : (s : Setup) (d : Demand) → timing.at_after_commit (seen s d) ≡ mono.at_after_commit d
@@ -42,15 +42,15 @@ after_try_at s (fetch.appends behind) more d = refl
 after_try_at s (fetch.turns behind) more d = refl
 
 -- the last order changes nothing of what is seen
-stop_seen : (s : Setup) (d : Demand) → seen s d ≡ seen s (record d { orders = Stop d.done ∷ d.orders })
+stop_seen : (s : Setup) (d : Demand) → seen s d ≡ seen s (record d { orders = Stop d.to_commit ∷ d.orders })
 unfolding seen
 stop_seen s d =
     let os = d.orders in
-    let e : slots_of (entry s os) d.done d.machine.window ≡ slots_of (entry s (Stop d.done ∷ os)) d.done d.machine.window =
-    sym (slots_same s os (Stop d.done ∷ os) d.done d.machine.window (λ j. refl) (λ j under. ap (λ (p : ℕ → Arch). p j) (path_stop s d.done os))) in
+    let e : slots_of (entry s os) d.to_commit d.machine.window ≡ slots_of (entry s (Stop d.to_commit ∷ os)) d.to_commit d.machine.window =
+    sym (slots_same s os (Stop d.to_commit ∷ os) d.to_commit d.machine.window (λ j. refl) (λ j under. ap (λ (p : ℕ → Arch). p j) (path_stop s d.to_commit os))) in
     λ i. record (seen s d) { slots = e i }
 
-stop_orders : (s : Setup) (d : Demand) → (Stop (seen s d).done ∷ []) ++ d.orders ≡ Stop d.done ∷ d.orders
+stop_orders : (s : Setup) (d : Demand) → (Stop (seen s d).to_commit ∷ []) ++ d.orders ≡ Stop d.to_commit ∷ d.orders
 unfolding seen
 stop_orders s d = refl
 
@@ -93,6 +93,6 @@ turn_seen s r e told related = by_at r.at told
         subst (λ (x : Entry). IsTurn s (record { demand = r.demand; at = trying more }) (timing.timing_turn s x (trying more) (seen s r.demand))) (sym (told refl)) is
     by_at ending told =
         let is = tick_seen s r.demand in
-        record { timing = is; at = ap timing.at_after_cycle is ∙ cycle_at s (record r.demand { machine = ticked s r.demand.machine }); orders = refl }
+        record { timing = is; at = ap timing.at_after_cycle is ∙ cycle_at s (record r.demand { machine = end_of_cycle s r.demand.machine }); orders = refl }
     by_at stopping told = record { timing = stop_seen s r.demand; at = refl; orders = stop_orders s r.demand }
     by_at halted told = record { timing = refl; at = refl; orders = refl }

@@ -11,7 +11,7 @@ use Rattle.rv_decode.specs.Decode.{decode_of}
 use Rattle.elf_image.specs.declared.image.Image.{Image}
 use Rattle.mono_model.specs.Found.{Found, refused, unknown, known, found_word, found_at, has_text, word_in, is_fetchable}
 use Rattle.mono_model.specs.Result.{Seen, executed}
-use Rattle.timing_laws.specs.Fetch.{is_fetch_cause}
+use Rattle.timing_side.specs.Fetch.{is_fetch_cause}
 
 -- word 0 is no instruction
 no_word : decode_of 0 ≡ None

@@ -1,10 +1,1 @@
-pub mod Slots
-pub mod Timing
-pub mod Interrupt
-pub mod Commit
-pub mod Complete
-pub mod Issue
-pub mod Fetch
-pub mod Turn
-pub mod Step
 pub mod Seen

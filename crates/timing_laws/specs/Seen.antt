@@ -10,10 +10,10 @@ use Rattle.mono_model.specs.Arch.{compare_of}
 use Rattle.mono_model.specs.Path.{entry, openings}
 use Rattle.mono_model.specs.Window.{Record, Stage, waiting, until, done}
 use Rattle.mono_model.specs.Demand.{Demand, Run, turn, Place, told}
-use Rattle.timing_laws.specs.Slots.{slot_from}
-use Rattle.timing_laws.specs.Timing.{Timing}
-use Rattle.timing_laws.specs.Turn.{Turned}
-use Rattle.timing_laws.specs.Step.{TimingPlace}
+use Rattle.timing_side.specs.Slots.{slot_from}
+use Rattle.timing_side.specs.Timing.{Timing}
+use Rattle.timing_side.specs.Turn.{Turned}
+use Rattle.timing_side.specs.Step.{TimingPlace}
 
 -- a stage without its result
 abbrev pub state_of : Stage → SlotState
@@ -34,8 +34,8 @@ slots_of entries n (rec ∷ rest) = slot_of (entries n) rec ∷ slots_of entries
 unfoldable pub seen : Setup → Demand → Timing
 seen s d = record {
   cycle = d.machine.cycle;
-  done = d.done;
-  slots = slots_of (entry s d.orders) d.done d.machine.window;
+  to_commit = d.to_commit;
+  slots = slots_of (entry s d.orders) d.to_commit d.machine.window;
   resume = d.machine.resume;
   paid = d.machine.paid;
   predictor = d.machine.predictor;

@@ -8,8 +8,8 @@ ghost use Rattle.mono_model.specs.Machine.{stats_of};
 ghost use Rattle.mono_model.specs.Path.{openings};
 ghost use Rattle.mono_model.specs.Demand.{place_start, place, told, needs_entry, needed_entry};
 ghost use Rattle.mono_model.specs.Split.{told_by};
-ghost use Rattle.timing_laws.specs.Timing.{timing_stats};
-ghost use Rattle.timing_laws.specs.Step.{TimingPlace, timing_place_start, timing_step, wants_entry};
+ghost use Rattle.timing_side.specs.Timing.{timing_stats};
+ghost use Rattle.timing_side.specs.Step.{TimingPlace, timing_place_start, timing_step, wants_entry};
 ghost use Rattle.timing_laws.specs.Seen.{seen_at};
 
 /// The timing side starts where the demand run starts, wants an entry where that needs one, and with the entry that is
@@ -35,7 +35,7 @@ pub fn timing_side_shows_the_run()
     ensures cycle { (s : Setup) (k : ℕ) → (seen_at s (place s k)).timing.cycle ≡ (place s k).run.demand.machine.cycle }
     ensures stats { (s : Setup) (k : ℕ) → timing_stats s (seen_at s (place s k)).timing ≡ stats_of s (place s k).run.demand.machine }
     ensures end { (s : Setup) (k : ℕ) → (seen_at s (place s k)).timing.end ≡ (place s k).run.demand.machine.end }
-    ensures done { (s : Setup) (k : ℕ) → (seen_at s (place s k)).timing.done ≡ (place s k).run.demand.done }
+    ensures done { (s : Setup) (k : ℕ) → (seen_at s (place s k)).timing.to_commit ≡ (place s k).run.demand.to_commit }
     ensures at { (s : Setup) (k : ℕ) → (seen_at s (place s k)).at ≡ (place s k).run.at }
     ensures epoch { (s : Setup) (k : ℕ) → (seen_at s (place s k)).epoch ≡ openings (told (place s k)) }
 {}

@@ -7,7 +7,7 @@ ghost use Rattle.mono_model.specs.declared.setup.Setup.{Setup};
 ghost use Rattle.mono_model.specs.Path.{entry};
 ghost use Rattle.mono_model.specs.Demand.{Run, next, is_try, place, needed_entry};
 ghost use Rattle.machine_laws.specs.Relation.{Related};
-ghost use Rattle.timing_laws.specs.Turn.{timing_turn};
+ghost use Rattle.timing_side.specs.Turn.{timing_turn};
 ghost use Rattle.timing_laws.specs.Seen.{seen, IsTurn};
 
 /// Where the machine is on the path, each turn of the timing side is that of the demand run; a try of fetch needs the entry

@@ -16,7 +16,7 @@ use Rattle.mono_model.specs.Commit.{commit_phase, commits, leaving}
 use Rattle.mono_model.specs.Complete.{complete_phase, completes}
 use Rattle.mono_model.specs.Issue.{issue_phase, wants_time, walk, turn_of, ready_result}
 use Rattle.mono_model.specs.Fetch.{fetch_try, may_fetch}
-use Rattle.mono_model.specs.Cycle.{ticked}
+use Rattle.mono_model.specs.Cycle.{end_of_cycle}
 use Rattle.mono_model.specs.Demand.{turn, step, place, orders, order_in, first, opening_in, prefix_with, entry_in}
 use Rattle.trace_ring.specs.Ring.{IsNamed, Follows}
 use Rattle.trace_ring.specs.Orders.{IsInPlace}
@@ -28,7 +28,7 @@ sets zero place = Stop 0 ∷ []
 sets (suc left) place = next_word place ∷ sets left (place + 1)
 
 all_orders : orders trial ≡ sets 72 0
-unfolding sets orders place step turn machine_start start trapped found_at executed effect result_at seq entry_at path entry interrupt_phase commit_phase commits leaving complete_phase completes issue_phase wants_time walk turn_of ready_result fetch_try may_fetch ticked image_byte is_executable predicted
+unfolding sets orders place step turn machine_start start trapped found_at executed effect result_at seq entry_at path entry interrupt_phase commit_phase commits leaving complete_phase completes issue_phase wants_time walk turn_of ready_result fetch_try may_fetch end_of_cycle image_byte is_executable predicted
 all_orders = refl
 
 -- each set order stands in its place

@@ -50,13 +50,21 @@ time_taken e x = record e { taken = e.taken + 1; last = Some (x.epoch, x.number)
 -- what an end's two passes know, as it stands to callers
 abbrev pub func_at : RingView → OrderView → FuncAt
 func_at entries orders =
-    record { setup = entries.setup; pushed = entries.count; last = entries.last;
-    taken = orders.count }
+    record {
+      setup = entries.setup;
+      pushed = entries.count;
+      last = entries.last;
+      taken = orders.count;
+    }
 
 abbrev pub time_at : RingView → OrderView → TimeAt
 time_at entries orders =
-    record { setup = entries.setup; pushed = orders.count; taken = entries.count;
-    last = entries.last }
+    record {
+      setup = entries.setup;
+      pushed = orders.count;
+      taken = entries.count;
+      last = entries.last;
+    }
 
 -- the passes are those of a functional end, and the ring has the room that the setup says
 pub record IsFuncEnd (entries : RingView) (orders : OrderView) (room : ℕ) : Type 0 where

@@ -11,5 +11,11 @@ seen pass = pass.me.0.client
 -- the setup of no run: a view holds it until the queue's second pass is given
 abbrev pub no_setup : Setup
 no_setup =
-    record { image = record { entry = 0; segments = [] }; params = plain_params; input = [];
-    cycles = 0; output = 0; ring = 0 }
+    record {
+      image = record { entry = 0; segments = [] };
+      params = plain_params;
+      input = [];
+      cycles = 0;
+      output = 0;
+      ring = 0;
+    }

@@ -26,11 +26,11 @@ impl Journal {
     ghost use Rattle.std.specs.List.{prefix_len};
     ghost use Rattle.undo_journal.specs.Journal.{IsRising, newest, from_number};
 
-    /// An empty journal with room for `cap` steps. All its memory is taken here.
-    pub fn with_room(alloc: Global, cap: u32) -> Result<Journal, NoMemory>
-        ensures opening { IfOk result (λ j. j ≡ record { room = cap; steps = [] }) }
+    /// An empty journal with room for `capacity` steps. All its memory is taken here.
+    pub fn with_room(alloc: Global, capacity: u32) -> Result<Journal, NoMemory>
+        ensures opening { IfOk result (λ j. j ≡ record { room = capacity; steps = [] }) }
     {
-        match HeapCircularBuffer::with_capacity(alloc, cap as usize) {
+        match HeapCircularBuffer::with_capacity(alloc, capacity as usize) {
             Ok(steps) => Ok(Journal { steps }),
             Err(_) => Err(NoMemory),
         }

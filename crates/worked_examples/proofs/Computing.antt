@@ -1,6 +1,6 @@
 -- One name that opens the definitions of the machines: whatever unfolds `computing` unfolds all that it lists.
 use Rattle.std.proofs.Common.{ℕ}
-use Rattle.mono_model.specs.Cycle.{mono, cycled, ticked}
+use Rattle.mono_model.specs.Cycle.{mono, cycled, end_of_cycle}
 use Rattle.mono_model.specs.Machine.{machine_final, machine_start, flushed}
 use Rattle.mono_model.specs.Interrupt.{interrupt_phase}
 use Rattle.mono_model.specs.Commit.{commit_phase, commits, leaving}
@@ -29,5 +29,5 @@ use Rattle.branch_predictor.specs.Predictor.{predicted, trained}
 use Rattle.rv_exec.specs.Eval.{eval_of}
 
 unfoldable pub computing : ℕ
-unfolding mono cycled ticked machine_final machine_start flushed interrupt_phase commit_phase commits leaving complete_phase completes issue_phase wants_time walk turn_of ready_result fetch_phase fetches fetch_try may_fetch start trapped synced found_at executed effect retired decode_of table image_byte is_executable csr_access reads_time_of csr_written row_at find_of dev accepts_of fetched loaded stored alone alone_start alone_step alone_final result_at seq entry_at path entry turn step place orders first entry_in split_start event_at committed rounds_to_boundary touched predicted trained eval_of
+unfolding mono cycled end_of_cycle machine_final machine_start flushed interrupt_phase commit_phase commits leaving complete_phase completes issue_phase wants_time walk turn_of ready_result fetch_phase fetches fetch_try may_fetch start trapped synced found_at executed effect retired decode_of table image_byte is_executable csr_access reads_time_of csr_written row_at find_of dev accepts_of fetched loaded stored alone alone_start alone_step alone_final result_at seq entry_at path entry turn step place orders first entry_in split_start event_at committed rounds_to_boundary touched predicted trained eval_of
 computing = 0

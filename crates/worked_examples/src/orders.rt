@@ -82,7 +82,7 @@ pub fn entries_of_an_older_epoch_are_dropped()
     ensures last_is_left { names_of (run looping (unanswered 31)).entries ≡ (12, 0) ∷ [] }
     ensures all_dropped { (run looping (unanswered 32)).entries ≡ [] }
     ensures none_held { (run looping (unanswered 200)).held ≡ None }
-    ensures orders_wait { (run looping (unanswered 200)).listed ≡ Set 3 0x8000000c ∷ Commit 1 ∷ [] }
+    ensures orders_wait { (run looping (unanswered 200)).listed_orders ≡ Set 3 0x8000000c ∷ Commit 1 ∷ [] }
     ensures stands_in_cycle { (run looping (unanswered 200)).place.run.demand.machine.cycle ≡ 3 }
     ensures reaches { reach looping (unanswered 200) ≡ 4 }
     ensures obeyed { (to_boundary looping (run looping (unanswered 200))).obeyed ≡ Commit 1 ∷ Set 3 0x8000000c ∷ [] }

@@ -5,7 +5,7 @@ use Rattle.machine_laws.proofs.SplitReached.{start_reached}
 use Rattle.func_model.proofs.Walking.{stands_output}
 use Rattle.split_core.specs.declared.event.Event.{Event}
 use Rattle.split_core.specs.Events.{event_in}
-use Rattle.split_core.specs.Stands.{StandsFor}
+use Rattle.split_core.specs.Standing.{SplitStandsFor}
 use Rattle.fast_run.specs.declared.job.Job.TheVariants.{Sched}
 use Rattle.fast_run.specs.Outcome.{planned_cycle}
 use Rattle.fast_run.proofs.Ending.{IsAt, at-end, at-text, at_planned, planned-reached, boundary-reached, boundary-comes}
@@ -18,7 +18,7 @@ returns-clause-ends g c =
     let sound = c.requires.sound in
     let start = run s (map event_in plan) in
     let reached = planned-reached s plan in
-    let P : List Event → Type 0 = λ events. StandsFor s (run s (map event_in events)) c.play.new.self in
+    let P : List Event → Type 0 = λ events. SplitStandsFor s (run s (map event_in events)) c.play.new.self in
     let played : P plan = subst P c.events.ensures.events (c.play.ensures.played s (split_start s) sound (start_reached s) c.in-Ok.ensures.stands) in
     let stands = c.to_boundary.ensures.stands s start sound reached played in
     let there = to_boundary s start in

@@ -1,6 +1,6 @@
 use Rattle.std.proofs.Common.{◌≡◌, suc, ◌+◌, ◌-◌, ap, sym, ◌∙◌, subst, arith, take, length, Some}
-use Rattle.reservation_stations.specs.Readiness.{Window, youngest_slot}
-use Rattle.timing_laws.specs.Issue.{busy_divisions}
+use Rattle.reservation_stations.specs.Readiness.{Window, youngest_index}
+use Rattle.timing_side.specs.Issue.{busy_divisions}
 use Rattle.in_flight.specs.Step.{stations_of}
 use Rattle.in_flight.proofs.Divisions.{divisions-more, divisions_within}
 use Rattle.in_flight.proofs.Stations.{youngest_at, cut_at}
@@ -20,9 +20,9 @@ cut-requires c =
     let window = c.args.window.now in
     let place = c.loop-place.place - 1 in
     let e : c.loop-place.place ≡ suc place = omega (arith, c.loop-place-test.true) in
-    let left = subst (λ k. c.loop-place.stations ≡ stations_of window.cap (take k window.slots)) e c.loop-place.invariant.left in
-    let youngest = youngest_at window.cap window.slots place c.slot_at-index.result.1.now c.slot_at-index.ensures.slot in
-    record { youngest = ap (λ (w : Window). youngest_slot w.stations) left ∙ youngest ∙ ap Some (sym c.slot_at-index.ensures.index) }
+    let left = subst (λ k. c.loop-place.stations ≡ stations_of window.capacity (take k window.slots)) e c.loop-place.invariant.left in
+    let youngest = youngest_at window.capacity window.slots place c.slot_at-index.result.1.now c.slot_at-index.ensures.slot in
+    record { youngest = ap (λ (w : Window). youngest_index w.stations) left ∙ youngest ∙ ap Some (sym c.slot_at-index.ensures.index) }
 
 pub loop-place-preserved : goal.loop-place-preserved
 loop-place-preserved c =
@@ -31,13 +31,13 @@ loop-place-preserved c =
     let slot = c.slot_at-index.result.1.now in
     let place = c.loop-place.place - 1 in
     let e : c.loop-place.place ≡ suc place = omega (arith, c.loop-place-test.true) in
-    let left = subst (λ k. c.loop-place.stations ≡ stations_of window.cap (take k slots)) e c.loop-place.invariant.left in
+    let left = subst (λ k. c.loop-place.stations ≡ stations_of window.capacity (take k slots)) e c.loop-place.invariant.left in
     let counted = subst (λ k. c.loop-place.divisions + busy_divisions (take k slots) ≡ busy_divisions slots) e c.loop-place.invariant.counted in
     let more = divisions-more slots place slot c.slot_at-index.ensures.slot in
     let front : Window → Window = λ w. record w { stations = take (length w.stations - 1) w.stations } in
     record {
       behind = omega (arith, c.loop-place-test.true);
       left = c.cut.ensures.cut ∙ ap front left
-          ∙ ap (λ held. let now : Window = record { window = window.cap; stations = held } in now) (cut_at window.cap slots place slot c.slot_at-index.ensures.slot);
+          ∙ ap (λ held. let now : Window = record { capacity = window.capacity; stations = held } in now) (cut_at window.capacity slots place slot c.slot_at-index.ensures.slot);
       counted = omega (arith, counted, more, c.divisions_in-divisions.ensures);
     }

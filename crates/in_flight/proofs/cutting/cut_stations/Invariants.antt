@@ -1,5 +1,5 @@
 use Rattle.std.proofs.Common.{◌≡◌, ◌+◌, ◌≤◌, take}
-use Rattle.timing_laws.specs.Issue.{busy_divisions}
+use Rattle.timing_side.specs.Issue.{busy_divisions}
 use Rattle.in_flight.specs.Step.{stations_of}
 use Rattle.in_flight.proofs.cutting.cut_stations.Given as goal
 
@@ -7,6 +7,6 @@ use Rattle.in_flight.proofs.cutting.cut_stations.Given as goal
 abbrev pub invariant-loop-place : goal.invariant-loop-place
 invariant-loop-place l = record {
   behind : l.from ≤ l.place;
-  left : l.stations ≡ stations_of l.window.cap (take l.place l.window.slots);
+  left : l.stations ≡ stations_of l.window.capacity (take l.place l.window.slots);
   counted : l.divisions + busy_divisions (take l.place l.window.slots) ≡ busy_divisions l.window.slots;
 }

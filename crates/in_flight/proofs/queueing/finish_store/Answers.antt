@@ -23,7 +23,7 @@ returns-then-is_store c =
     let held = marks_store window.slots c.args.place slot c.slot_at.ensures.consecutive c.slot_at.ensures.slot stores in
     record {
       finished = rw c.slot_at.ensures.slot
-          (c.done.ensures.marked ∙ ap queue c.requires.queued ∙ ap (λ others. let now : Stores = record { cap = window.cap; stores = others } in now) held);
+          (c.done.ensures.marked ∙ ap queue c.requires.queued ∙ ap (λ others. let now : Stores = record { capacity = window.capacity; stores = others } in now) held);
     }
 
 pub returns-else-is_store : goal.returns-else-is_store
@@ -33,5 +33,5 @@ returns-else-is_store c =
     let other = sym c.is_store.ensures ∙ c.if-is_store.false in
     let held = set_other window.slots c.args.place slot (record slot { state = Done }) c.slot_at.ensures.slot other other in
     record {
-      finished = rw c.slot_at.ensures.slot (c.requires.queued ∙ ap (λ others. let now : Stores = record { cap = window.cap; stores = others } in now) (sym held));
+      finished = rw c.slot_at.ensures.slot (c.requires.queued ∙ ap (λ others. let now : Stores = record { capacity = window.capacity; stores = others } in now) (sym held));
     }

@@ -1,6 +1,6 @@
 use Rattle.std.proofs.Common.{◌≡◌, ◌-◌, ◌<◌, false, [], ◌∷◌, ◌++◌, ap, sym, ◌∙◌, subst, arith, length, take, IfSome}
 use Rattle.reorder_buffer.specs.declared.slot.SlotState.TheVariants.{Waiting}
-use Rattle.timing_laws.specs.Slots.{is_done_state}
+use Rattle.timing_side.specs.Slots.{is_done_state}
 use Rattle.load_store_queue.specs.declared.queued.Queued.{Queued}
 use Rattle.load_store_queue.specs.Queue.{Contents as Stores, youngest}
 use Rattle.in_flight.specs.Step.{stores_in, queued_as}
@@ -13,7 +13,7 @@ put-requires-clause-room c =
     let place = length window.slots - 1 in
     let some : 0 < length window.slots = c.requires.some in
     let within = put_room window.slots place in
-    subst (λ (q : Stores). length q.stores < q.cap) (sym c.requires.others) (omega (arith, within, some, c.slot_at.ensures.room))
+    subst (λ (q : Stores). length q.stores < q.capacity) (sym c.requires.others) (omega (arith, within, some, c.slot_at.ensures.room))
 
 pub put-requires-clause-above : goal.put-requires-clause-above
 put-requires-clause-above c =
@@ -36,7 +36,7 @@ returns-then-is_store c =
     let one : Queued = record { number = slot.number; is_done = false } in
     let as_queued : queued_as slot ≡ one = λ i. record { number = slot.number; is_done = is_done_state (waits i) } in
     let queue : Stores → Stores = λ q. record q { stores = q.stores ++ one ∷ [] } in
-    record { queued = c.put.ensures.added ∙ ap queue c.requires.others ∙ ap (λ others. let now : Stores = record { cap = window.cap; stores = others } in now) (sym (held ∙ ap (λ q. stores_in (take place window.slots) ++ q ∷ []) as_queued)) }
+    record { queued = c.put.ensures.added ∙ ap queue c.requires.others ∙ ap (λ others. let now : Stores = record { capacity = window.capacity; stores = others } in now) (sym (held ∙ ap (λ q. stores_in (take place window.slots) ++ q ∷ []) as_queued)) }
 
 pub returns-else-is_store : goal.returns-else-is_store
 returns-else-is_store c =
@@ -47,4 +47,4 @@ returns-else-is_store c =
     let here = rw c.len.ensures.count at c.slot_at.ensures.slot in
     let some : 0 < length window.slots = c.requires.some in
     let held = put_other window.slots place slot here (omega (arith, some)) other in
-    record { queued = c.requires.others ∙ ap (λ others. let now : Stores = record { cap = window.cap; stores = others } in now) (sym held) }
+    record { queued = c.requires.others ∙ ap (λ others. let now : Stores = record { capacity = window.capacity; stores = others } in now) (sym held) }

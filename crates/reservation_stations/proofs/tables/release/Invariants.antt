@@ -5,7 +5,7 @@ use Rattle.reservation_stations.proofs.Noted.{PassedBelow}
 use Rattle.reservation_stations.proofs.tables.release.Given as goal
 
 abbrev pub invariant-loop-from : goal.invariant-loop-from
-invariant-loop-from l = PassedBelow (Releases l.slot) l.fn.entries.items l.entries.items l.from × KeepsReady l.retired l.fn.entries.items l.fn.ready l.entries.items l.ready
+invariant-loop-from l = PassedBelow (Releases l.index) l.fn.rows.items l.rows.items l.from × KeepsReady l.retired l.fn.rows.items l.fn.ready l.rows.items l.ready
 
 abbrev pub decreases-loop-from : goal.decreases-loop-from
-decreases-loop-from l = l.slots - l.from
+decreases-loop-from l = l.indices - l.from

@@ -1,10 +1,10 @@
 use Rattle.std.proofs.Common.{◌≡◌, ℕ, ◌+◌, suc, take, slice_set, length, Some, List, ap, sym, ◌∙◌, add-one, length-set, arith}
 use Rattle.reorder_buffer.specs.declared.slot.Slot.{Slot}
 use Rattle.reorder_buffer.specs.Window.{Contents}
-use Rattle.timing_laws.specs.Complete.{Completed, finished, completes}
+use Rattle.timing_side.specs.Complete.{Completed, finished, completes}
 use Rattle.timing_core.proofs.Finishing.{completed_from, passes, passes_to, rests_all, executes_there, finishes, redirects, completed_all}
 use Rattle.timing_core.proofs.complete.finish_due.Goals as goal
-use Rattle.timing_core.proofs.complete.finish_due.Goals.{then-is_due+else-wrong, else-is_due}
+use Rattle.timing_core.proofs.complete.finish_due.Goals.{then-is_finishing+else-wrong, else-is_finishing}
 
 -- what is said of `place + 1` and of the slots behind a write
 moved : (cycle place : ℕ) (after : List Slot) (behind : Contents) (before : Completed) → behind.slots ≡ after →
@@ -20,7 +20,7 @@ returns-then-wrong-clause-first c =
     let come = passes_to c.args.cycle c.loop-from.from place slots c.in-Some.ensures.behind c.in-Some.ensures.first in
     let done = rw c.at-slot.ensures.slot at c.finish.ensures.finished in
     c.loop-from.invariant.whole ∙ come
-    ∙ redirects c.args.cycle place slots slot c.at-slot.ensures.slot (sym c.is_due.ensures.due ∙ c.if-is_due.true) (sym c.is_mispredicted-wrong.ensures.mispredicted ∙ c.if-wrong.true)
+    ∙ redirects c.args.cycle place slots slot c.at-slot.ensures.slot (sym c.is_finishing.ensures.due ∙ c.if-is_finishing.true) (sym c.is_mispredicted-wrong.ensures.mispredicted ∙ c.if-wrong.true)
     ∙ ap (λ (n : ℕ). record { slots = take n (slice_set slots place (finished slot)); redirect = Some slot.next }) (sym (add-one place))
     ∙ ap (λ (f : Contents). record { slots = take (place + 1) f.slots; redirect = Some slot.next }) (sym done)
 
@@ -30,25 +30,25 @@ loop-from-preserved c =
     let place : ℕ = c.in-Some.place in
     let slots : List Slot = c.loop-from.flight.slots in
     let come = passes_to c.args.cycle c.loop-from.from place slots c.in-Some.ensures.behind c.in-Some.ensures.first in
-    elim c.if-is_due.branch [
-      | then-is_due+else-wrong w ↦
-          let done : c.if-is_due.flight ≡ record c.loop-from.flight { slots = slice_set slots place (finished slot) } =
+    elim c.if-is_finishing.branch [
+      | then-is_finishing+else-wrong w ↦
+          let done : c.if-is_finishing.flight ≡ record c.loop-from.flight { slots = slice_set slots place (finished slot) } =
           w.flight-is ∙ (rw c.at-slot.ensures.slot at w.finish.ensures.finished) in
           record {
-            room = ap (λ (f : Contents). f.cap) done ∙ c.loop-from.invariant.room;
+            room = ap (λ (f : Contents). f.capacity) done ∙ c.loop-from.invariant.room;
             count = ap (λ (f : Contents). length f.slots) done ∙ length-set slots place (finished slot) ∙ c.loop-from.invariant.count;
             whole =
-                moved c.args.cycle place (slice_set slots place (finished slot)) c.if-is_due.flight (completes c.args.cycle c.args.flight.now.slots) (ap (λ (f : Contents). f.slots) done)
+                moved c.args.cycle place (slice_set slots place (finished slot)) c.if-is_finishing.flight (completes c.args.cycle c.args.flight.now.slots) (ap (λ (f : Contents). f.slots) done)
                 (c.loop-from.invariant.whole ∙ come
-                ∙ finishes c.args.cycle place slots slot c.at-slot.ensures.slot (sym c.is_due.ensures.due ∙ w.if-is_due.true) (sym w.is_mispredicted-wrong.ensures.mispredicted ∙ w.if-wrong.false));
+                ∙ finishes c.args.cycle place slots slot c.at-slot.ensures.slot (sym c.is_finishing.ensures.due ∙ w.if-is_finishing.true) (sym w.is_mispredicted-wrong.ensures.mispredicted ∙ w.if-wrong.false));
           }
-      | else-is_due w ↦
+      | else-is_finishing w ↦
           record {
-            room = ap (λ (f : Contents). f.cap) w.flight-is ∙ c.loop-from.invariant.room;
+            room = ap (λ (f : Contents). f.capacity) w.flight-is ∙ c.loop-from.invariant.room;
             count = ap (λ (f : Contents). length f.slots) w.flight-is ∙ c.loop-from.invariant.count;
             whole =
-                moved c.args.cycle place slots c.if-is_due.flight (completes c.args.cycle c.args.flight.now.slots) (ap (λ (f : Contents). f.slots) w.flight-is)
-                (c.loop-from.invariant.whole ∙ come ∙ passes c.args.cycle place slots slot c.at-slot.ensures.slot (sym c.is_due.ensures.due ∙ w.if-is_due.false));
+                moved c.args.cycle place slots c.if-is_finishing.flight (completes c.args.cycle c.args.flight.now.slots) (ap (λ (f : Contents). f.slots) w.flight-is)
+                (c.loop-from.invariant.whole ∙ come ∙ passes c.args.cycle place slots slot c.at-slot.ensures.slot (sym c.is_finishing.ensures.due ∙ w.if-is_finishing.false));
           }
     ]
 

@@ -1,11 +1,11 @@
 use Rattle.std.proofs.Common.{◌≡◌, ◌-◌, length}
-use Rattle.timing_laws.specs.Complete.{completes}
+use Rattle.timing_side.specs.Complete.{completes}
 use Rattle.timing_core.proofs.Finishing.{completed_from}
 use Rattle.timing_core.proofs.complete.finish_due.Given as goal
 
 abbrev pub invariant-loop-from : goal.invariant-loop-from
 invariant-loop-from l = record {
-  room : l.flight.cap ≡ l.fn.flight.cap;
+  room : l.flight.capacity ≡ l.fn.flight.capacity;
   count : length l.flight.slots ≡ length l.fn.flight.slots;
   whole : completes l.cycle l.fn.flight.slots ≡ completed_from l.cycle l.from l.flight.slots;
 }

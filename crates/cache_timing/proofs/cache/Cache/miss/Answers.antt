@@ -1,6 +1,6 @@
 use Rattle.std.proofs.Common.{◌∙◌, ap, sym}
 use Rattle.cache_timing.specs.declared.cache.Touch.TheVariants as touch
-use Rattle.cache_timing.proofs.Accesses.{IsMiss, last_age, Keeps-miss, touch-miss}
+use Rattle.cache_timing.proofs.Accesses.{IsMiss, last_age, CacheStandsFor-miss, touch-miss}
 use Rattle.cache_timing.proofs.cache.Cache.miss.Goals as goal
 
 miss_of : (c : goal.After-put) → IsMiss c.args.self.now c.args.set c.oldest-way.result c.args.line.number
@@ -19,4 +19,4 @@ returns-clause-met c = λ p back sets keeps.
 
 pub returns-clause-kept : goal.returns-clause-kept
 returns-clause-kept c = λ p back sets keeps.
-    Keeps-miss c.args.self.now c.put.new.self p back sets c.args.set c.oldest-way.result c.args.line keeps (miss_of c) c.put.ensures c.requires.fits
+    CacheStandsFor-miss c.args.self.now c.put.new.self p back sets c.args.set c.oldest-way.result c.args.line keeps (miss_of c) c.put.ensures c.requires.fits

@@ -1,11 +1,11 @@
 use Rattle.std.proofs.Common.{ℕ, Option, ◌∙◌, ap, sym, subst}
 use Rattle.cache_timing.specs.Caches.{drained, writeback_counted}
-use Rattle.cache_timing.specs.KeepsAll.{KeepsAll}
+use Rattle.cache_timing.specs.CachesStandFor.{CachesStandFor}
 use Rattle.cache_timing.proofs.caches.Caches.drain.Goals as goal
 
 pub returns-in-Some : goal.returns-in-Some
 returns-in-Some c = λ p s k.
-    let After : Option ℕ → Type 0 = λ dropped. KeepsAll c.miss.new.self p (drained p dropped s) in
+    let After : Option ℕ → Type 0 = λ dropped. CachesStandFor c.miss.new.self p (drained p dropped s) in
     subst After (sym c.in-Some.is)
     (c.miss.ensures.state p (record s { counts = writeback_counted s.counts })
     (record {

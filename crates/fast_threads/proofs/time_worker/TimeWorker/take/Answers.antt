@@ -1,7 +1,7 @@
 use Rattle.std.proofs.Common.{◌≡◌, ◌∙◌, ap}
 use Rattle.trace_ring.specs.Ring.{IsNamed}
 use Rattle.trace_ring.specs.Ends.{time_taken}
-use Rattle.time_model.specs.Stands.{wants_in}
+use Rattle.time_model.specs.Standing.{wants_in}
 use Rattle.fast_threads.specs.Workers.{TimeWork}
 use Rattle.fast_threads.proofs.Functional.{if_some}
 use Rattle.fast_threads.proofs.Timing.{time_right, time_needs, time_takes}

@@ -4,7 +4,7 @@ use Rattle.mono_model.specs.declared.final_state.End.{End}
 use Rattle.mono_model.specs.declared.final_state.End.TheVariants as end
 use Rattle.mono_model.specs.declared.setup.Setup.{Setup}
 use Rattle.mono_model.specs.Alone.{Alone, alone, alone_final}
-use Rattle.func_model.specs.Contents.{StandsFor, retired_in}
+use Rattle.func_model.specs.Contents.{ContentsStandFor, retired_in}
 use Rattle.func_model.proofs.Running.{Steps, starts, runs_on, runs_full, runs_ended, reports, rests, limit_reports, end_has_ended}
 use Rattle.func_model.proofs.contents.Contents.alone.Given as given
 use Rattle.func_model.proofs.contents.Contents.alone.Goals as goal
@@ -79,7 +79,7 @@ returns-in-Full-clause-contents g c = λ s is fits h.
 -- src/side.rt:134:41
 pub returns-in-Ended-clause-reported : goal.returns-in-Ended-clause-reported
 returns-in-Ended-clause-reported g c = λ s is fits h.
-    let P : End → Type 0 = λ how. (m : Alone) → StandsFor s m.arch c.advance.new.self → m.end ≡ how → m.interrupts ≡ c.loop-made.interrupts + c.interrupt-interrupts.result →
+    let P : End → Type 0 = λ how. (m : Alone) → ContentsStandFor s m.arch c.advance.new.self → m.end ≡ how → m.interrupts ≡ c.loop-made.interrupts + c.interrupt-interrupts.result →
     m.exceptions ≡ (c.loop-made.made + 1) - retired_in c.advance.new.self → c.report-in-Ended.result ≡ alone_final m in
     let at = runs_ended s c.loop-made.made c.loop-made.interrupts c.interrupt-interrupts.result c.in-Ended.halt c.advance.result c.loop-made.self c.interrupt-interrupts.new.self c.advance.new.self
     (below c.loop-made.made c.args.steps s.cycles c.loop-made-test.true is) (c.loop-made.invariant.running s is fits h) (steps_ended g c s fits) c.in-Ended.is in
@@ -117,5 +117,5 @@ returns-clause-reported g c = λ s is fits h.
 pub returns-clause-contents : goal.returns-clause-contents
 returns-clause-contents g c = λ s is fits h.
     let all : c.loop-made.made ≡ c.args.steps = reached c.loop-made.made c.args.steps c.loop-made.auto.made-end c.loop-made-test.false in
-    let P : ℕ → Type 0 = λ k. StandsFor s (alone s k).arch c.loop-made.self in
+    let P : ℕ → Type 0 = λ k. ContentsStandFor s (alone s k).arch c.loop-made.self in
     subst P all (c.loop-made.invariant.running s is fits h).stands

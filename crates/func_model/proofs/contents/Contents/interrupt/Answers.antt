@@ -5,12 +5,12 @@ use Rattle.phys_mem.specs.Ram.{exec_of, range_of}
 use Rattle.func_model.specs.Hart.{arch_of}
 use Rattle.func_model.proofs.Advance.{pending_is, before_idle, before_trap, off_idle}
 use Rattle.mono_model.specs.declared.setup.Setup.{Setup}
-use Rattle.func_model.specs.Contents.{StandsFor}
+use Rattle.func_model.specs.Contents.{ContentsStandFor}
 use Rattle.func_model.proofs.contents.Contents.interrupt.Given as given
 use Rattle.func_model.proofs.contents.Contents.interrupt.Goals as goal
 
 -- interrupts are off
-idle_off : (g : given.Over) (c : goal.Then-not-takes_interrupts g) (s : Setup) (a : Arch) → StandsFor s a c.args.self.now → timer_pending a.csrs c.args.time (compare_of a.devices) ≡ false
+idle_off : (g : given.Over) (c : goal.Then-not-takes_interrupts g) (s : Setup) (a : Arch) → ContentsStandFor s a c.args.self.now → timer_pending a.csrs c.args.time (compare_of a.devices) ≡ false
 unfolding arch_of
 idle_off g c s a h =
     off_idle a (arch_of c.args.self.now.hart c.args.self.now.bus) c.args.time c.takes_interrupts.result h.arch c.takes_interrupts.ensures.on c.if-not-takes_interrupts.true

@@ -7,7 +7,7 @@ use Rattle.phys_mem.specs.Ram.{exec_of, range_of}
 use Rattle.func_model.specs.Hart.{arch_of, found_in}
 use Rattle.func_model.specs.Steps.{result_of}
 use Rattle.func_model.specs.Undo.{past_of, register_before, ended_in}
-use Rattle.func_model.specs.Contents.{StandsFor}
+use Rattle.func_model.specs.Contents.{ContentsStandFor}
 use Rattle.func_model.proofs.Advance.{met_found}
 use Rattle.func_model.proofs.Undone.{fetched_exists}
 use Rattle.func_model.proofs.Stepping.{Executed, executed_at, executed_seq, entry_told, back_from}
@@ -15,7 +15,7 @@ use Rattle.func_model.proofs.contents.Contents.step.Given as given
 use Rattle.func_model.proofs.contents.Contents.step.Goals as goal
 
 -- the instruction as it was executed at the state that the contents stand for
-executed : (g : given.Over) (c : goal.After-is_some g) (s : Setup) (a : Arch) → StandsFor s a c.args.self.now →
+executed : (g : given.Over) (c : goal.After-is_some g) (s : Setup) (a : Arch) → ContentsStandFor s a c.args.self.now →
     Executed s c.args.time c.args.self.now.hart.room a (found_in c.fetch-fetched.result) c.execute-done.result (arch_of c.execute-done.new.self c.execute-done.new.bus)
 unfolding arch_of
 executed g c s a h =

@@ -3,7 +3,7 @@ use Rattle.phys_mem.specs.Ram.{ram_of, range_of}
 use Rattle.mono_model.specs.Arch.{Arch}
 use Rattle.mono_model.specs.Effect.{counted}
 use Rattle.func_model.specs.declared.hart.Hart.{Hart}
-use Rattle.func_model.specs.declared.done.Done.{Done}
+use Rattle.func_model.specs.declared.performed.Performed.{Performed}
 use Rattle.func_model.specs.Hart.{arch_of}
 use Rattle.func_model.proofs.TakenBack.{load_back}
 use Rattle.func_model.proofs.Made.{load_none, load_some, read_none, read_some}
@@ -27,5 +27,5 @@ returns-in-Some-clause-back g c =
     let counts : c.finish.new.self.csrs ≡ counted c.args.self.now.csrs =
     ap (λ (x : Arch). x.csrs) (c.finish.ensures.arch c.read-read.new.bus) ∙ ap (λ (h : Hart). counted h.csrs) c.read-read.ensures.same in
     load_back (range_of c.args.self.now.memory) c.read-read.result.change _ (arch_of c.args.self.now c.args.bus.now) (arch_of c.finish.new.self c.read-read.new.bus)
-    (ap (λ (d : Done). d.change) c.plain.ensures.done) c.read-read.ensures.of_load
+    (ap (λ (d : Performed). d.change) c.plain.ensures.done) c.read-read.ensures.of_load
     (ap ram_of c.finish.ensures.memory ∙ ap (λ (h : Hart). ram_of h.memory) c.read-read.ensures.same) c.read-read.ensures.back counts c.read-read.ensures.exists

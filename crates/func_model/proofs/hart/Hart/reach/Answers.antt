@@ -1,7 +1,7 @@
 use Rattle.std.proofs.Common.{refl, ap}
 use Rattle.phys_mem.specs.Ram.{ram_of, range_of}
 use Rattle.mono_model.specs.Arch.{Arch}
-use Rattle.func_model.specs.declared.done.Done.{Done}
+use Rattle.func_model.specs.declared.performed.Performed.{Performed}
 use Rattle.func_model.proofs.TakenBack.{plain_back}
 use Rattle.mono_model.specs.Sequence.{seen_in}
 use Rattle.func_model.specs.Hart.{arch_of}
@@ -23,4 +23,4 @@ pub returns-in-Nothing-clause-back : goal.returns-in-Nothing-clause-back
 unfolding arch_of
 returns-in-Nothing-clause-back g c =
     plain_back (range_of c.args.self.now.memory) _ (arch_of c.args.self.now c.args.bus.now) (arch_of c.finish.new.self c.args.bus.now)
-    (ap (λ (d : Done). d.change) c.plain.ensures.done) (ap ram_of c.finish.ensures.memory) refl (ap (λ (x : Arch). x.csrs) (c.finish.ensures.arch c.args.bus.now))
+    (ap (λ (d : Performed). d.change) c.plain.ensures.done) (ap ram_of c.finish.ensures.memory) refl (ap (λ (x : Arch). x.csrs) (c.finish.ensures.arch c.args.bus.now))

@@ -5,7 +5,7 @@ use Rattle.mono_model.specs.Arch.{Arch, trapped}
 use Rattle.phys_mem.specs.Ram.{ram_of, range_of, loaded}
 use Rattle.func_model.specs.Hart.{arch_of}
 use Rattle.func_model.specs.Steps.{concluded}
-use Rattle.func_model.specs.declared.done.Done.{Done}
+use Rattle.func_model.specs.declared.performed.Performed.{Performed}
 use Rattle.func_model.specs.Undo.{memory_back, devices_back, IsRestorableChange}
 use Rattle.func_model.proofs.TakenBack.{stored_back, concluded_back}
 use Rattle.func_model.proofs.Stores.{is_accepted, is_refused, store_ram, store_device, store_none, unstored}
@@ -50,7 +50,7 @@ unfolding arch_of
 returns-in-Some-clause-back g c =
     let memory : memory_back (range_of c.args.self.now.memory) (Memory c.args.access.addr c.args.access.width c.in-Some.old) (ram_of c.finish.new.self.memory) ≡ ram_of c.args.self.now.memory = search rules in
     stored_back (range_of c.args.self.now.memory) (Memory c.args.access.addr c.args.access.width c.in-Some.old) _ (arch_of c.args.self.now c.args.bus.now) (arch_of c.finish.new.self c.args.bus.now)
-    (ap (λ (d : Done). d.change) c.plain.ensures.done) memory refl refl (ap (λ (x : Arch). x.csrs) (c.finish.ensures.arch c.args.bus.now)) c.requires.aligned
+    (ap (λ (d : Performed). d.change) c.plain.ensures.done) memory refl refl (ap (λ (x : Arch). x.csrs) (c.finish.ensures.arch c.args.bus.now)) c.requires.aligned
 
 pub returns-clause-back : goal.returns-clause-back
 unfolding arch_of

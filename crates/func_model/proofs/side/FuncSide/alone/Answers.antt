@@ -1,7 +1,7 @@
 use Rattle.std.proofs.Common.{◌≡◌, [], ap, sym, ◌∙◌, subst, arith}
 use Rattle.mono_model.specs.declared.setup.Setup.{Setup as RunSetup}
 use Rattle.func_model.specs.declared.walk.Walk.{Walk}
-use Rattle.func_model.specs.Walk.{Stands, IsStanding}
+use Rattle.func_model.specs.Walk.{WalkStandsFor, IsStanding}
 use Rattle.func_model.proofs.Walking.{walk_retired, fresh_start}
 use Rattle.func_model.proofs.Reaching.{running_stands}
 use Rattle.func_model.proofs.side.FuncSide.alone.Given as given
@@ -11,8 +11,8 @@ use Rattle.func_model.proofs.side.FuncSide.alone.Goals as goal
 position_is : (g : given.Over) (c : goal.After-alone g) → c.self.inside.walk.position ≡ 0
 position_is g c = ap (λ (w : Walk g.row.D.Denot). w.position) c.self.view_is ∙ c.requires.fresh.position
 
-stands_inside : (g : given.Over) (c : goal.After-alone g) (s : RunSetup) → Stands s [] c.args.self.now → Stands s [] c.self.inside.walk
-stands_inside g c s h = let P : Walk g.row.D.Denot → Type 0 = λ w. Stands s [] w in subst P (sym c.self.view_is) h
+stands_inside : (g : given.Over) (c : goal.After-alone g) (s : RunSetup) → WalkStandsFor s [] c.args.self.now → WalkStandsFor s [] c.self.inside.walk
+stands_inside g c s h = let P : Walk g.row.D.Denot → Type 0 = λ w. WalkStandsFor s [] w in subst P (sym c.self.view_is) h
 
 pub alone-requires-clause-fresh : goal.alone-requires-clause-fresh
 alone-requires-clause-fresh g c =

@@ -2,14 +2,14 @@ use Rattle.std.proofs.Common.{ap, sym, subst, ◌∷◌}
 use Rattle.rollback_cmds.specs.declared.order.Order.{Order}
 use Rattle.rollback_cmds.specs.declared.order.Order.TheVariants.{Set, Interrupt, Time, Stop, Sync}
 use Rattle.func_model.specs.declared.walk.Walk.{Walk}
-use Rattle.func_model.specs.Walk.{Stands}
+use Rattle.func_model.specs.Walk.{WalkStandsFor}
 use Rattle.func_model.proofs.Bending.{commit_stands, commit_from, commit_within, commit_obeyed, committed_position, within_path}
 use Rattle.func_model.proofs.Reaching.{order_reach, commit_running}
 use Rattle.func_model.proofs.walk.Walk.obey.Goals as goal
 
 pub returns-in-Commit-clause-stands : goal.returns-in-Commit-clause-stands
 returns-in-Commit-clause-stands g c = λ s os h.
-    let P : Order → Type 0 = λ o. Stands s (o ∷ os) c.commit.new.self in
+    let P : Order → Type 0 = λ o. WalkStandsFor s (o ∷ os) c.commit.new.self in
     let from = commit_from c.args.order c.in-Commit.n c.args.self.now.committed c.in-Commit.is c.requires.from in
     let within = within_path s os c.args.self.now c.in-Commit.n h (commit_running c.args.order c.in-Commit.n c.args.self.now c.in-Commit.is c.requires.reach) from (commit_within c.args.order c.in-Commit.n c.args.self.now c.in-Commit.is c.requires.within) in
     subst P (sym c.in-Commit.is)

@@ -6,9 +6,9 @@ use Rattle.mono_model.specs.Arch.{Arch}
 use Rattle.mono_model.specs.Path.{path, entry, time_of}
 use Rattle.mono_model.specs.Sequence.{seq, entry_at}
 use Rattle.func_model.specs.declared.walk.Walk.{Walk}
-use Rattle.func_model.specs.Contents.{StandsFor}
+use Rattle.func_model.specs.Contents.{ContentsStandFor}
 use Rattle.func_model.specs.Undo.{undone}
-use Rattle.func_model.specs.Walk.{Stands}
+use Rattle.func_model.specs.Walk.{WalkStandsFor}
 use Rattle.func_model.proofs.Walking.{Stepping, walk_retired, step_room, note_above, noted_stands, unnoted_stands}
 use Rattle.func_model.proofs.walk.Walk.step.Given as given
 use Rattle.func_model.proofs.walk.Walk.step.Goals as goal
@@ -25,7 +25,7 @@ note-requires-clause-above g c =
     note_above c.requires.standing.setup c.requires.standing.orders c.args.self.now _ c.requires.standing.stands.holds c.if-self.true c.step.ensures.number
 
 -- the time that the instruction was given
-time_is : (g : given.Over) (c : goal.After-self-1 g) (s : RunSetup) (os : List SpecOrder) → Stands s os c.args.self.now → c.time-time.result ≡ time_of os c.args.self.now.position
+time_is : (g : given.Over) (c : goal.After-self-1 g) (s : RunSetup) (os : List SpecOrder) → WalkStandsFor s os c.args.self.now → c.time-time.result ≡ time_of os c.args.self.now.position
 time_is g c s os h = c.time-time.ensures.time ∙ h.holds.given c.args.self.now.position
 
 pub returns-clause-entry : goal.returns-clause-entry
@@ -39,7 +39,7 @@ returns-clause-entry g c = λ s os h.
 pub returns-clause-stands : goal.returns-clause-stands
 returns-clause-stands g c = λ s os h.
     let a : Arch = path s os c.args.self.now.position in
-    let P : Option ℕ → Type 0 = λ t. StandsFor s (seq s t a) c.step.new.self in
+    let P : Option ℕ → Type 0 = λ t. ContentsStandFor s (seq s t a) c.step.new.self in
     let U : Option ℕ → Type 0 = λ t. undone (ram_range s.params) c.step.result.1 (seq s t a) ≡ a in
     let made : Stepping s os c.args.self.now c.step.new.self = record {
       stands = subst P (time_is g c s os h) (c.step.ensures.stands s a h.holds.contents);
@@ -47,8 +47,8 @@ returns-clause-stands g c = λ s os h.
     } in
     let back : U (time_of os c.args.self.now.position) = subst U (time_is g c s os h) (c.step.ensures.back s a h.holds.contents) in
     elim c.if-self.branch [
-      | then-self w ↦ subst (λ (x : Walk g.row.D.Denot). Stands s os (record x { position = x.position + 1 })) (sym w.self-is)
+      | then-self w ↦ subst (λ (x : Walk g.row.D.Denot). WalkStandsFor s os (record x { position = x.position + 1 })) (sym w.self-is)
           (noted_stands s os c.args.self.now c.step.new.self w.note.new.self c.step.result.1 h c.requires.running made w.if-self.true w.note.ensures.noted c.step.ensures.number back c.step.ensures.restorable)
-      | else-self w ↦ subst (λ (x : Walk g.row.D.Denot). Stands s os (record x { position = x.position + 1 })) (sym w.self-is)
+      | else-self w ↦ subst (λ (x : Walk g.row.D.Denot). WalkStandsFor s os (record x { position = x.position + 1 })) (sym w.self-is)
           (unnoted_stands s os c.args.self.now c.step.new.self h c.requires.running made w.if-self.false)
     ]

@@ -7,9 +7,9 @@ use Rattle.in_flight.proofs.Operands.{can_start}
 use Rattle.in_flight.proofs.flight.InFlight.choose.Goals as goal
 
 -- at each place
-same : (window now : Contents) (stations : Window) → stations ≡ stations_of window.cap window.slots → window ≡ now → can_begin_at stations.stations ≡ may_start_at now.slots
+same : (window now : Contents) (stations : Window) → stations ≡ stations_of window.capacity window.slots → window ≡ now → can_begin_at stations.stations ≡ may_start_at now.slots
 same window now stations are is = λ i place.
-    (ap (λ (w : Window). can_begin_at w.stations place) are ∙ can_start window.cap window.slots place ∙ ap (λ (w : Contents). may_start_at w.slots place) is) i
+    (ap (λ (w : Window). can_begin_at w.stations place) are ∙ can_start window.capacity window.slots place ∙ ap (λ (w : Contents). may_start_at w.slots place) is) i
 
 pub returns-clause-found : goal.returns-clause-found
 returns-clause-found c =

@@ -10,13 +10,13 @@ invariant_of-self c =
     let window = c.self.inside.window in
     let slot = c.slot_at.result.1.now in
     let front = window_cut window.slots c.args.place slot c.slot_at.ensures.consecutive c.slot_at.ensures.slot in
-    let kept = c.cut_from-2.ensures.kept ∙ ap (λ slots. let now : Contents = record { cap = window.cap; slots = slots } in now) front in
+    let kept = c.cut_from-2.ensures.kept ∙ ap (λ slots. let now : Contents = record { capacity = window.capacity; slots = slots } in now) front in
     let below : Stores → Stores = λ q. record q { stores = queue.below_number slot.number q.stores } in
     let stores = stores_cut window.slots c.args.place slot c.slot_at.ensures.consecutive c.slot_at.ensures.slot in
     rw kept (record {
       limit = c.self.invariant.limit;
       stations_are = c.cut_stations.ensures.kept;
-      stores_are = c.cut_from.ensures.kept ∙ ap below c.self.invariant.stores_are ∙ ap (λ held. let now : Stores = record { cap = window.cap; stores = held } in now) stores;
+      stores_are = c.cut_from.ensures.kept ∙ ap below c.self.invariant.stores_are ∙ ap (λ held. let now : Stores = record { capacity = window.capacity; stores = held } in now) stores;
       dividing_is = omega (arith, c.self.invariant.dividing_is, c.cut_stations.ensures.divisions);
     })
 
@@ -24,7 +24,7 @@ pub returns-clause-kept : goal.returns-clause-kept
 returns-clause-kept c =
     let window = c.self.inside.window in
     let front = window_cut window.slots c.args.place c.slot_at.result.1.now c.slot_at.ensures.consecutive c.slot_at.ensures.slot in
-    c.cut_from-2.ensures.kept ∙ ap (λ slots. let now : Contents = record { cap = window.cap; slots = slots } in now) front
+    c.cut_from-2.ensures.kept ∙ ap (λ slots. let now : Contents = record { capacity = window.capacity; slots = slots } in now) front
     ∙ ap (λ (w : Contents). let now : Contents = record w { slots = take c.args.place w.slots } in now) c.self.view_is
 
 pub returns-clause-count : goal.returns-clause-count

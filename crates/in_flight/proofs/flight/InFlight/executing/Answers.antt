@@ -7,9 +7,9 @@ use Rattle.in_flight.proofs.Operands.{executes_same}
 use Rattle.in_flight.proofs.flight.InFlight.executing.Goals as goal
 
 -- at each place
-same : (window now : Contents) (stations : Window) → stations ≡ stations_of window.cap window.slots → window ≡ now → station_executes_at stations.stations ≡ executes_at now.slots
+same : (window now : Contents) (stations : Window) → stations ≡ stations_of window.capacity window.slots → window ≡ now → station_executes_at stations.stations ≡ executes_at now.slots
 same window now stations are is = λ i place.
-    (ap (λ (w : Window). station_executes_at w.stations place) are ∙ executes_same window.cap window.slots place ∙ ap (λ (w : Contents). executes_at w.slots place) is) i
+    (ap (λ (w : Window). station_executes_at w.stations place) are ∙ executes_same window.capacity window.slots place ∙ ap (λ (w : Contents). executes_at w.slots place) is) i
 
 pub returns-clause-found : goal.returns-clause-found
 returns-clause-found c =

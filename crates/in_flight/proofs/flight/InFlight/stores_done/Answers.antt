@@ -1,7 +1,7 @@
 use Rattle.std.proofs.Common.{◌↔◌, ap, ◌∙◌, subst, IsTrue}
 use Rattle.reorder_buffer.specs.Window.{Contents}
 use Rattle.load_store_queue.specs.Queue.{AreOlderDone, Contents as Stores}
-use Rattle.timing_laws.specs.Issue.{are_stores_done}
+use Rattle.timing_side.specs.Issue.{are_stores_done}
 use Rattle.in_flight.specs.Flight.{older_at}
 use Rattle.in_flight.proofs.Stores.{stores_done_at}
 use Rattle.in_flight.proofs.flight.InFlight.stores_done.Goals as goal

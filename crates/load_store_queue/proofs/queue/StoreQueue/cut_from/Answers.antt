@@ -26,5 +26,5 @@ returns c =
     let same = ap (λ (q : Contents). q.stores) c.self.view_is in
     let count : c.count_below-kept.result ≡ count_below c.args.number stores = rw same c.count_below-kept.ensures.count in
     let below : take c.count_below-kept.result stores ≡ below_number c.args.number stores = rw count (take_below c.args.number stores c.self.invariant.rising) in
-    let left = ap (λ (ring : Buffer Queued). let queue : Contents = record { cap = ring.capacity; stores = ring.items } in queue) c.truncate_back.ensures in
-    record { kept = left ∙ (λ i. record { cap = c.self.inside.stores.capacity; stores = below i }) ∙ λ i. record { cap = (c.self.view_is i).cap; stores = below_number c.args.number (c.self.view_is i).stores } }
+    let left = ap (λ (ring : Buffer Queued). let queue : Contents = record { capacity = ring.capacity; stores = ring.items } in queue) c.truncate_back.ensures in
+    record { kept = left ∙ (λ i. record { capacity = c.self.inside.stores.capacity; stores = below i }) ∙ λ i. record { capacity = (c.self.view_is i).capacity; stores = below_number c.args.number (c.self.view_is i).stores } }

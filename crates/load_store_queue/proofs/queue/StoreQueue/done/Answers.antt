@@ -41,5 +41,5 @@ returns c =
     let same = ap (λ (q : Contents). q.stores) c.self.view_is in
     let below : c.count_below-place.result ≡ count_below c.args.number ring.items = rw same c.count_below-place.ensures.count in
     let marks = finish_marks c.args.number c.count_below-place.result ring c.finish.new.stores below c.self.invariant.rising (rw same c.requires.held) c.finish.ensures.finished in
-    let seen = ap (λ (buffer : Buffer Queued). let queue : Contents = record { cap = buffer.capacity; stores = buffer.items } in queue) marks in
-    record { marked = seen ∙ λ i. record { cap = (c.self.view_is i).cap; stores = marked c.args.number (c.self.view_is i).stores } }
+    let seen = ap (λ (buffer : Buffer Queued). let queue : Contents = record { capacity = buffer.capacity; stores = buffer.items } in queue) marks in
+    record { marked = seen ∙ λ i. record { capacity = (c.self.view_is i).capacity; stores = marked c.args.number (c.self.view_is i).stores } }

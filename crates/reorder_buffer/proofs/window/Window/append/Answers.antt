@@ -11,7 +11,7 @@ invariant_of-self c =
     let s = c.args.s in
     let next : IfSome (youngest window.items) (λ last. s.number ≡ last.number + 1) =
     subst (λ (w : Contents). IfSome (youngest w.slots) (λ last. s.number ≡ last.number + 1)) (sym c.self.view_is) c.requires.next in
-    let index : c.next_index-index.result ≡ index_of window.capacity s.number = c.next_index-index.ensures.index ∙ ap (λ (w : Contents). index_of w.cap s.number) (sym c.self.view_is) in
+    let index : c.next_index-index.result ≡ index_of window.capacity s.number = c.next_index-index.ensures.index ∙ ap (λ (w : Contents). index_of w.capacity s.number) (sym c.self.view_is) in
     let first : ((length window.items ≡ 0) × (c.if-is_empty.self-inside.first ≡ index_of window.capacity s.number)) ⊎ ((1 ≤ length window.items) × (c.if-is_empty.self-inside.first ≡ c.self.inside.first)) =
     elim c.if-is_empty.branch [
       | then-is_empty w ↦ inl (search rules, search rules)
@@ -24,5 +24,5 @@ pub returns-clause-free : goal.returns-clause-free
 returns-clause-free c =
     let window = c.args.self.now in
     let same : c.self.inside.slots.items ≡ window.slots = ap (λ (w : Contents). w.slots) c.self.view_is in
-    let free = free_index window.cap window.slots c.args.s (rw same at c.self.invariant.1) c.requires.next c.requires.room in
+    let free = free_index window.capacity window.slots c.args.s (rw same at c.self.invariant.1) c.requires.next c.requires.room in
     λ k d within taken. free k d within (taken ∙ c.next_index-index.ensures.index)

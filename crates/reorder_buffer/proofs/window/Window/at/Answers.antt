@@ -8,6 +8,6 @@ returns-clause-index c =
     let window = c.self.inside.slots in
     let slot = c.unwrap-slot.result.now in
     let there : slice_get window.items c.args.place ≡ Some slot = search rules in
-    place_index c.capacity-cap.result window.capacity c.self.inside.first c.index_behind.result c.capacity-cap.ensures.capacity window.items c.args.place slot
+    place_index c.capacity-capacity.result window.capacity c.self.inside.first c.index_behind.result c.capacity-capacity.ensures.capacity window.items c.args.place slot
     c.self.invariant.1 c.self.invariant.0.1 c.index_behind.ensures.behind there
-    ∙ ap (λ (w : Contents). index_of w.cap slot.number) c.self.view_is
+    ∙ ap (λ (w : Contents). index_of w.capacity slot.number) c.self.view_is

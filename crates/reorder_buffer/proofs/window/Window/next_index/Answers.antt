@@ -9,7 +9,7 @@ returns-clause-index c =
     let next : IfSome (youngest window.items) (λ last. c.args.number ≡ last.number + 1) =
     subst (λ (w : Contents). IfSome (youngest w.slots) (λ last. c.args.number ≡ last.number + 1)) (sym c.self.view_is) c.requires.next in
     let some : 1 ≤ length window.items = search rules in
-    let behind : IsBehind c.capacity-cap.result c.self.inside.first (length window.items) c.index_behind.result = rw c.len-held.ensures.len at c.index_behind.ensures.behind in
-    next_index c.capacity-cap.result window.capacity c.self.inside.first c.index_behind.result c.capacity-cap.ensures.capacity window.items c.args.number
+    let behind : IsBehind c.capacity-capacity.result c.self.inside.first (length window.items) c.index_behind.result = rw c.len-held.ensures.len at c.index_behind.ensures.behind in
+    next_index c.capacity-capacity.result window.capacity c.self.inside.first c.index_behind.result c.capacity-capacity.ensures.capacity window.items c.args.number
     c.self.invariant.1 c.self.invariant.0.1 behind next some
-    ∙ ap (λ (w : Contents). index_of w.cap c.args.number) c.self.view_is
+    ∙ ap (λ (w : Contents). index_of w.capacity c.args.number) c.self.view_is

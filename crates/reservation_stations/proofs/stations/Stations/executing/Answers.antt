@@ -19,4 +19,4 @@ pub returns-clause-none : goal.returns-clause-none
 returns-clause-none c =
     subst (λ (test : ℕ → Bool). IfNone c.next.result ((k : ℕ) → c.args.from ≤ k → test k ≡ false))
     (λ i place. executing_at c.self.invariant.0 c.self.view_is c.self.inside.executing c.self.invariant.2.executes place i)
-    (none_on IsIssued c.self.inside.order.items c.self.inside.entries.items c.self.inside.executing c.self.invariant.2.executes c.next.result c.args.from c.len.result c.len.ensures.len c.next.ensures.none)
+    (none_on IsIssued c.self.inside.order.items c.self.inside.rows.items c.self.inside.executing c.self.invariant.2.executes c.next.result c.args.from c.len.result c.len.ensures.len c.next.ensures.none)

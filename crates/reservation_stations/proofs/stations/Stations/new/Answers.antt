@@ -1,6 +1,6 @@
 use Rattle.std.proofs.Common.{rules, arith, ap}
 use Rattle.std.proofs.lemmas.Grind.{common_steps}
-use Rattle.reservation_stations.specs.declared.entry.Entry.{Entry}
+use Rattle.reservation_stations.specs.declared.row.Row.{Row}
 use Rattle.reservation_stations.proofs.Places.{none_placed, free_idle, Keeps_none, covers_none}
 use Rattle.reservation_stations.proofs.stations.Stations.new.Goals as goal
 
@@ -10,7 +10,7 @@ invariant_of-result c =
     let masks = c.in-Ok-vec-2.ensures.items_if_clones_equal (λ y is. is) in
     let none = c.in-Ok-vec-3.ensures.items_if_clones_equal (λ y is. first_of (search rules, grind (arith, common_steps))) in
     rw (c.in-Ok.ensures, items, masks, none) (
-      Keeps_none c.args.window c.free.result c.requires.limit,
-      covers_none c.args.window c.free.result c.none.result (ap (λ (e : Entry). e.displaced) c.free.ensures.free) c.free.ensures.waits c.none.ensures.none,
-      none_placed _ c.none-2.result c.none-3.result (free_idle c.args.window c.free.result (ap (λ (e : Entry). e.mark) c.free.ensures.free)) c.none-2.ensures.none c.none-3.ensures.none,
+      Keeps_none c.args.capacity c.free.result c.requires.limit,
+      covers_none c.args.capacity c.free.result c.none.result (ap (λ (e : Row). e.displaced) c.free.ensures.free) c.free.ensures.waits c.none.ensures.none,
+      none_placed _ c.none-2.result c.none-3.result (free_idle c.args.capacity c.free.result (ap (λ (e : Row). e.mark) c.free.ensures.free)) c.none-2.ensures.none c.none-3.ensures.none,
     )

@@ -1,82 +1,82 @@
 use Rattle.std.proofs.Common.{◌≡◌, ◌≢◌, ◌∙◌, ◌∷◌, ℕ, ◌<◌, List, length, drop, ap, sym, subst, refl, arith}
 use Rattle.std.specs.Prelude.{slice_set}
 use Rattle.circular_buffer.specs.Buffer.{Buffer}
-use Rattle.reservation_stations.specs.declared.entry.Entry.{Entry}
+use Rattle.reservation_stations.specs.declared.row.Row.{Row}
 use Rattle.reservation_stations.specs.declared.station.Mark.TheVariants.{Done}
-use Rattle.reservation_stations.specs.Keeps.{Each}
+use Rattle.reservation_stations.specs.AreTables.{Each}
 use Rattle.reservation_stations.specs.Changes.{Forgets}
 use Rattle.reservation_stations.specs.Places.{ArePlaced}
-use Rattle.reservation_stations.proofs.Leaving.{is_first, first_keeps, retire_within, retire_counted, Keeps-retired, seen-retired}
-use Rattle.reservation_stations.proofs.Entering.{Keeps-other, seen-other}
+use Rattle.reservation_stations.proofs.Leaving.{is_first, first_keeps, retire_within, retire_counted, AreTables-retired, seen-retired}
+use Rattle.reservation_stations.proofs.Entering.{AreTables-other, seen-other}
 use Rattle.reservation_stations.proofs.Noted.{covered_forgotten, covered_marked}
 use Rattle.reservation_stations.proofs.Places.{freed_placed, retired_placed}
 use Rattle.reservation_stations.proofs.stations.Stations.retire.Goals as goal
 
 pub index-requires : goal.index-requires
-index-requires c = omega (arith, c.self.inside.entries.ok, retire_within c.self.invariant.0 c.self.view_is c.args.slot c.requires.oldest)
+index-requires c = omega (arith, c.self.inside.rows.ok, retire_within c.self.invariant.0 c.self.view_is c.args.index c.requires.oldest)
 
 pub forget-requires : goal.forget-requires
 forget-requires c = record {
-  within = omega (arith, c.self.inside.entries.ok, retire_within c.self.invariant.0 c.self.view_is c.args.slot c.requires.oldest);
-  limit = omega (arith, c.self.inside.entries.ok, c.self.invariant.0.limit, c.self.invariant.0.every_slot);
+  within = omega (arith, c.self.inside.rows.ok, retire_within c.self.invariant.0 c.self.view_is c.args.index c.requires.oldest);
+  limit = omega (arith, c.self.inside.rows.ok, c.self.invariant.0.limit, c.self.invariant.0.every_index);
   covered = c.self.invariant.1;
 }
 
 pub index_mut-requires : goal.index_mut-requires
 index_mut-requires c =
-    omega (arith, retire_within c.self.invariant.0 c.self.view_is c.args.slot c.requires.oldest, c.forget.ensures.forgotten.every_slot, c.forget.new.entries.ok)
+    omega (arith, retire_within c.self.invariant.0 c.self.view_is c.args.index c.requires.oldest, c.forget.ensures.forgotten.every_index, c.forget.new.rows.ok)
 
 pub uncounted-self-inside-requires : goal.uncounted-self-inside-requires
 uncounted-self-inside-requires c = record {
-  counted = retire_counted c.self.invariant.0 c.self.view_is c.args.slot c.requires.oldest c.index.result.now c.index.ensures;
+  counted = retire_counted c.self.invariant.0 c.self.view_is c.args.index c.requires.oldest c.index.result.now c.index.ensures;
 }
 
 pub invariant_of-self : goal.invariant_of-self
 invariant_of-self c =
-    let slots = c.self.inside.order.items in
-    let slot = c.args.slot in
+    let indices = c.self.inside.order.items in
+    let index = c.args.index in
     let order = c.pop_front.new.self in
-    let left = c.forget.new.entries.items in
-    let idle : Entry = record c.index_mut.result.now { mark = Done } in
-    let keeps = first_keeps c.self.invariant.0 c.self.view_is slot c.requires.oldest in
-    let within = retire_within c.self.invariant.0 c.self.view_is slot c.requires.oldest in
-    let inside : slot < length left = omega (arith, within, c.forget.ensures.forgotten.every_slot) in
-    let rest : order.items ≡ drop 1 slots = ap (λ (o : Buffer ℕ). o.items) c.pop_front.ensures.items in
-    let apart : Each (λ other. other ≢ slot) order.items = subst (Each (λ other. other ≢ slot)) (sym rest) keeps.distinct.0 in
+    let left = c.forget.new.rows.items in
+    let idle : Row = record c.index_mut.result.now { mark = Done } in
+    let keeps = first_keeps c.self.invariant.0 c.self.view_is index c.requires.oldest in
+    let within = retire_within c.self.invariant.0 c.self.view_is index c.requires.oldest in
+    let inside : index < length left = omega (arith, within, c.forget.ensures.forgotten.every_index) in
+    let rest : order.items ≡ drop 1 indices = ap (λ (o : Buffer ℕ). o.items) c.pop_front.ensures.items in
+    let apart : Each (λ other. other ≢ index) order.items = subst (Each (λ other. other ≢ index)) (sym rest) keeps.distinct.0 in
     let kept =
-    Keeps-retired c.self.invariant.0 c.self.view_is slot c.requires.oldest c.index.result.now c.index.ensures order left c.drop_producer.new.producers.items
+    AreTables-retired c.self.invariant.0 c.self.view_is index c.requires.oldest c.index.result.now c.index.ensures order left c.drop_producer.new.producers.items
     c.uncounted-self-inside.result c.pop_front.ensures.items c.forget.ensures.forgotten c.drop_producer.ensures.dropped c.uncounted-self-inside.ensures.left
     in
-    let below : slot < order.capacity = omega (arith, inside, kept.every_slot) in
-    let covered = covered_forgotten c.self.inside.entries.items c.self.inside.dependents.items slot c.self.invariant.1 left c.none.result within c.forget.ensures.forgotten c.none.ensures.none in
+    let below : index < order.capacity = omega (arith, inside, kept.every_index) in
+    let covered = covered_forgotten c.self.inside.rows.items c.self.inside.dependents.items index c.self.invariant.1 left c.none.result within c.forget.ensures.forgotten c.none.ensures.none in
     let freed =
-    freed_placed (Forgets slot) (λ a b r. ap (λ (e : Entry). e.mark) r.kept) c.self.inside.retired slots c.self.inside.entries.items left c.self.inside.ready c.self.inside.executing
+    freed_placed (Forgets index) (λ a b r. ap (λ (e : Row). e.mark) r.kept) c.self.inside.retired indices c.self.inside.rows.items left c.self.inside.ready c.self.inside.executing
     c.forget.new.ready c.self.invariant.2 c.forget.ensures.forgotten c.forget.ensures.ready
     in
-    let first = subst (λ (xs : List ℕ). ArePlaced c.self.inside.retired xs left c.forget.new.ready c.self.inside.executing) (is_first c.self.invariant.0 c.self.view_is slot c.requires.oldest) freed in (
-      Keeps-other order.capacity order.items left c.drop_producer.new.producers.items c.uncounted-self-inside.result kept slot below apart idle,
-      covered_marked left _ slot covered c.index_mut.result.now Done inside c.index_mut.ensures.value,
+    let first = subst (λ (xs : List ℕ). ArePlaced c.self.inside.retired xs left c.forget.new.ready c.self.inside.executing) (is_first c.self.invariant.0 c.self.view_is index c.requires.oldest) freed in (
+      AreTables-other order.capacity order.items left c.drop_producer.new.producers.items c.uncounted-self-inside.result kept index below apart idle,
+      covered_marked left _ index covered c.index_mut.result.now Done inside c.index_mut.ensures.value,
       rw rest
-          (retired_placed c.self.inside.retired slot (drop 1 slots) left c.forget.new.ready c.self.inside.executing c.shift.new.self c.shift-2.new.self idle first
+          (retired_placed c.self.inside.retired index (drop 1 indices) left c.forget.new.ready c.self.inside.executing c.shift.new.self c.shift-2.new.self idle first
           (omega arith) keeps.distinct.0 inside refl c.shift.ensures.shifted c.shift-2.ensures.shifted),
     )
 
 pub returns : goal.returns
 returns c =
-    let slots = c.self.inside.order.items in
-    let slot = c.args.slot in
+    let indices = c.self.inside.order.items in
+    let index = c.args.index in
     let order = c.pop_front.new.self in
-    let left = c.forget.new.entries.items in
-    let keeps = first_keeps c.self.invariant.0 c.self.view_is slot c.requires.oldest in
-    let within = retire_within c.self.invariant.0 c.self.view_is slot c.requires.oldest in
-    let rest : order.items ≡ drop 1 slots = ap (λ (o : Buffer ℕ). o.items) c.pop_front.ensures.items in
+    let left = c.forget.new.rows.items in
+    let keeps = first_keeps c.self.invariant.0 c.self.view_is index c.requires.oldest in
+    let within = retire_within c.self.invariant.0 c.self.view_is index c.requires.oldest in
+    let rest : order.items ≡ drop 1 indices = ap (λ (o : Buffer ℕ). o.items) c.pop_front.ensures.items in
     let kept =
-    Keeps-retired c.self.invariant.0 c.self.view_is slot c.requires.oldest c.index.result.now c.index.ensures order left c.drop_producer.new.producers.items
+    AreTables-retired c.self.invariant.0 c.self.view_is index c.requires.oldest c.index.result.now c.index.ensures order left c.drop_producer.new.producers.items
     c.uncounted-self-inside.result c.pop_front.ensures.items c.forget.ensures.forgotten c.drop_producer.ensures.dropped c.uncounted-self-inside.ensures.left
     in
     record {
-      retired = seen-other order.capacity order.items left c.drop_producer.new.producers.items c.uncounted-self-inside.result kept slot
-          (omega (arith, within, c.forget.ensures.forgotten.every_slot, kept.every_slot))
-          (subst (Each (λ other. other ≢ slot)) (sym rest) keeps.distinct.0) (record c.index_mut.result.now { mark = Done })
-          ∙ seen-retired c.self.invariant.0 c.self.view_is slot c.requires.oldest order left c.pop_front.ensures.items c.forget.ensures.forgotten;
+      retired = seen-other order.capacity order.items left c.drop_producer.new.producers.items c.uncounted-self-inside.result kept index
+          (omega (arith, within, c.forget.ensures.forgotten.every_index, kept.every_index))
+          (subst (Each (λ other. other ≢ index)) (sym rest) keeps.distinct.0) (record c.index_mut.result.now { mark = Done })
+          ∙ seen-retired c.self.invariant.0 c.self.view_is index c.requires.oldest order left c.pop_front.ensures.items c.forget.ensures.forgotten;
     }

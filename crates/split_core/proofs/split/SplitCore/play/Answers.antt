@@ -1,6 +1,6 @@
 use Rattle.std.proofs.Common.{ap, ◌∙◌}
 use Rattle.split_core.specs.declared.state.SplitState.{SplitState}
-use Rattle.split_core.specs.Stands.{IsStanding}
+use Rattle.split_core.specs.Standing.{IsStanding}
 use Rattle.split_core.proofs.Playing.{after_events}
 use Rattle.split_core.proofs.split.SplitCore.play.Given as given
 use Rattle.split_core.proofs.split.SplitCore.play.Goals as goal

@@ -1,6 +1,6 @@
 use Rattle.std.proofs.Common.{ap, ◌∙◌}
 use Rattle.split_core.specs.declared.state.SplitState.{SplitState}
-use Rattle.split_core.specs.Stands.{IsAtBoundary}
+use Rattle.split_core.specs.Standing.{IsAtBoundary}
 use Rattle.split_core.proofs.Playing.{at_next_boundary}
 use Rattle.split_core.proofs.split.SplitCore.to_boundary.Given as given
 use Rattle.split_core.proofs.split.SplitCore.to_boundary.Goals as goal

@@ -4,13 +4,13 @@ use Rattle.mono_model.specs.Setup.{is_setup}
 use Rattle.mono_model.specs.Split.{Split}
 use Rattle.machine_laws.specs.Reached.{IsReached}
 use Rattle.split_core.specs.declared.state.SplitState.{SplitState}
-use Rattle.split_core.specs.Stands.{StandsFor, IsAtBoundary, IsEnded}
+use Rattle.split_core.specs.Standing.{SplitStandsFor, IsAtBoundary, IsEnded}
 use Rattle.split_core.proofs.Playing.{at_the_end, stands_inside}
 use Rattle.split_core.proofs.OnDemand.{plays_standing, ends_behind}
 use Rattle.split_core.proofs.split.SplitCore.to_end.Given as given
 use Rattle.split_core.proofs.split.SplitCore.to_end.Goals as goal
 
-ended : (g : given.Over) (c : goal.After-to_end g) → (s : Setup) (x : Split) → is_setup s ≡ true → IsReached s x → StandsFor s x c.self.inside.state → IsEnded s c.to_end.new.self
+ended : (g : given.Over) (c : goal.After-to_end g) → (s : Setup) (x : Split) → is_setup s ≡ true → IsReached s x → SplitStandsFor s x c.self.inside.state → IsEnded s c.to_end.new.self
 ended g c = ends_behind c.self.inside.state c.play_on_demand.new.self c.to_end.new.self c.play_on_demand.ensures.plays c.to_end.ensures.ended
 
 arrived : (g : given.Over) (c : goal.After-to_end g) → IsAtBoundary c.to_end.new.self

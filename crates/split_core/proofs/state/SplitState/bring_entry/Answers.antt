@@ -1,5 +1,5 @@
 use Rattle.mono_model.specs.Split as split
-use Rattle.split_core.specs.Stands.{IsStanding}
+use Rattle.split_core.specs.Standing.{IsStanding}
 use Rattle.split_core.proofs.Standing.{after_event}
 use Rattle.split_core.proofs.OnDemand.{plays_none, plays_event}
 use Rattle.split_core.proofs.state.SplitState.bring_entry.Goals as goal

@@ -8,7 +8,7 @@ returns-then-is_ok g c = record {
       let taken = sym c.is_ok.ensures.value ∙ c.if-is_ok.true in
       order_sent s x c.args.self.now h c.in-Some.order c.in-Some.is c.try_push_back.new.self
       (is_accepted c.try_push_back.result _ _ taken c.try_push_back.ensures.variant)
-      (accepted c.args.self.now.listed c.try_push_back.new.self c.in-Some.order c.try_push_back.result taken c.try_push_back.ensures.ok);
+      (accepted c.args.self.now.listed_orders c.try_push_back.new.self c.in-Some.order c.try_push_back.result taken c.try_push_back.ensures.ok);
 }
 
 pub returns-else-is_ok : goal.returns-else-is_ok
@@ -17,7 +17,7 @@ returns-else-is_ok g c = record {
       let full = sym c.is_ok.ensures.value ∙ c.if-is_ok.false in
       order_kept s x c.args.self.now h c.in-Some.order c.in-Some.is c.try_push_back.new.self
       (is_refused c.try_push_back.result _ _ full c.try_push_back.ensures.variant)
-      (refused c.args.self.now.listed c.try_push_back.new.self c.in-Some.order c.try_push_back.result full c.try_push_back.ensures.err);
+      (refused c.args.self.now.listed_orders c.try_push_back.new.self c.in-Some.order c.try_push_back.result full c.try_push_back.ensures.err);
 }
 
 pub returns-in_default : goal.returns-in_default

@@ -1,5 +1,5 @@
 use Rattle.std.proofs.Common.{◌∙◌, ap}
-use Rattle.time_model.specs.Stands.{wants_in}
+use Rattle.time_model.specs.Standing.{wants_in}
 use Rattle.time_model.proofs.Owing.{stands_wants}
 use Rattle.time_model.proofs.side.TimeSide.wants.Goals as goal
 

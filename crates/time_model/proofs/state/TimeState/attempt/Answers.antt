@@ -2,10 +2,10 @@ use Rattle.std.proofs.Common.{◌≡◌, if◌then◌else◌, Bool, Option, Some
 use Rattle.trace_entry.specs.declared.Entry.{Entry}
 use Rattle.mono_model.specs.declared.setup.Setup.{Setup}
 use Rattle.mono_model.specs.Demand.{trying}
-use Rattle.timing_laws.specs.Timing.{Timing}
-use Rattle.timing_laws.specs.Fetch.{timing_try}
-use Rattle.timing_laws.specs.Turn.{timing_turn}
-use Rattle.timing_core.specs.Keeps.{Keeps}
+use Rattle.timing_side.specs.Timing.{Timing}
+use Rattle.timing_side.specs.Fetch.{timing_try}
+use Rattle.timing_side.specs.Turn.{timing_turn}
+use Rattle.timing_core.specs.CoreStandsFor.{CoreStandsFor}
 use Rattle.timing_core.specs.Small.{IsSmall}
 use Rattle.time_model.specs.declared.state.TimeState.{TimeState}
 use Rattle.time_model.specs.Turning.{IsTurned, held_by}
@@ -26,7 +26,7 @@ left c = elim c.if-tried.branch [
   | else-tried w ↦ w.self-is ∙ ap (λ (b : Bool). with_held c (if b then None else c.args.self.now.held)) (sym w.if-tried.false)
 ]
 
-is_tried : (c : goal.After-result-1) (s : Setup) (t : Timing) → Keeps s t c.args.self.now.core → IsSmall t →
+is_tried : (c : goal.After-result-1) (s : Setup) (t : Timing) → CoreStandsFor s t c.args.self.now.core → IsSmall t →
     IsTried s t c.args.allowed c.unwrap-entry.result c.fetch-tried.result c.if-tried.self
 is_tried c s t h small =
     let kept = c.fetch-tried.ensures.kept s t h small in

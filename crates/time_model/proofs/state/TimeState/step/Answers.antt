@@ -3,7 +3,7 @@ use Rattle.rollback_cmds.specs.declared.order.Order.{Order}
 use Rattle.time_model.specs.declared.state.TimeState.{TimeState}
 use Rattle.time_model.specs.At.{at_in}
 use Rattle.time_model.specs.Turns.{turn_told}
-use Rattle.time_model.specs.Stands.{IsMade}
+use Rattle.time_model.specs.Standing.{IsMade}
 use Rattle.time_model.proofs.Steps.{step_made}
 use Rattle.time_model.proofs.Sides.{waiting_step, resting_step, going_step}
 use Rattle.time_model.proofs.state.TimeState.step.Goals as goal

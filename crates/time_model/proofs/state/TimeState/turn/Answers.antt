@@ -1,8 +1,8 @@
 use Rattle.std.proofs.Common.{◌≡◌, ℕ, [], ◌∷◌, refl, ap, ◌∙◌}
 use Rattle.rollback_cmds.specs.declared.order.Order.TheVariants.{Stop}
-use Rattle.timing_laws.specs.Commit.{timing_commit}
-use Rattle.timing_laws.specs.Issue.{timing_issue}
-use Rattle.timing_laws.specs.Turn.{timing_turn, timing_tick, try_or_end}
+use Rattle.timing_side.specs.Commit.{timing_commit}
+use Rattle.timing_side.specs.Issue.{timing_issue}
+use Rattle.timing_side.specs.Turn.{timing_turn, timing_end_of_cycle, try_or_end}
 use Rattle.time_model.specs.At.{at_in}
 use Rattle.time_model.proofs.Turns.{at_turned}
 use Rattle.time_model.proofs.state.TimeState.turn.Goals as goal
@@ -34,13 +34,13 @@ returns-in-Issuing-clause-made c = λ s t e h small held.
 pub returns-in-Ending-clause-made : goal.returns-in-Ending-clause-made
 unfolding timing_turn
 returns-in-Ending-clause-made c = λ s t e h small held.
-    let kept = c.tick.ensures.kept s t h small in
-    at_turned s e t _ c.args.self.now.at _ _ c.in-Ending.is (record { core = kept; at = c.at_after_cycle-self.ensures.at s (timing_tick s t) kept; orders = c.none.ensures.none })
+    let kept = c.end_cycle.ensures.kept s t h small in
+    at_turned s e t _ c.args.self.now.at _ _ c.in-Ending.is (record { core = kept; at = c.at_after_cycle-self.ensures.at s (timing_end_of_cycle s t) kept; orders = c.none.ensures.none })
 
 pub returns-in-Stopping-clause-made : goal.returns-in-Stopping-clause-made
 unfolding timing_turn
 returns-in-Stopping-clause-made c = λ s t e h small held.
-    at_turned s e t _ c.args.self.now.at _ _ c.in-Stopping.is (record { core = h; at = refl; orders = c.one.ensures.one ∙ ap (λ (n : ℕ). Stop n ∷ []) (c.done.ensures.done s t h) })
+    at_turned s e t _ c.args.self.now.at _ _ c.in-Stopping.is (record { core = h; at = refl; orders = c.one.ensures.one ∙ ap (λ (n : ℕ). Stop n ∷ []) (c.to_commit.ensures.number s t h) })
 
 pub returns-in-Halted-clause-made : goal.returns-in-Halted-clause-made
 unfolding timing_turn

@@ -1,6 +1,6 @@
 use Rattle.std.proofs.Common.{[], ap, ◌∙◌}
 use Rattle.mono_model.specs.Demand.{commit_order}
-use Rattle.timing_laws.specs.Commit.{ending_orders, timing_commit}
+use Rattle.timing_side.specs.Commit.{ending_orders, timing_commit}
 use Rattle.timing_core.specs.Orders.{and_then}
 use Rattle.timing_core.proofs.state.TimingCore.commit.Goals as goal
 
@@ -16,5 +16,5 @@ returns-clause-orders c = λ s t k small.
     let ending = c.leave_in_order-committed.ensures.ending s t k small in
     c.in_turn.ensures.orders
     ∙ ap (and_then c.ending_order.result) (c.commit_order.ensures.order [])
-    ∙ c.ending_order.ensures.order (commit_order c.leave_in_order-committed.result.left c.leave_in_order-committed.new.self.done [])
-    ∙ (λ i. ending_orders (ending i) (kept.done i) (commit_order (left i) (kept.done i) []))
+    ∙ c.ending_order.ensures.order (commit_order c.leave_in_order-committed.result.left c.leave_in_order-committed.new.self.to_commit [])
+    ∙ (λ i. ending_orders (ending i) (kept.to_commit i) (commit_order (left i) (kept.to_commit i) []))

@@ -2,7 +2,7 @@ use Rattle.std.proofs.Common.{◌≡◌, ◌+◌, ◌-◌, ℕ, refl, ap, sym, �
 use Rattle.reorder_buffer.specs.Window.{Contents}
 use Rattle.reorder_buffer.specs.declared.slot.Slot.{Slot}
 use Rattle.mono_model.specs.Machine as machine
-use Rattle.timing_laws.specs.Timing.{cut_to}
+use Rattle.timing_side.specs.Timing.{cut_to}
 use Rattle.timing_core.proofs.Sums.{risen, removed}
 use Rattle.timing_core.proofs.state.TimingCore.flush.Goals as goal
 
@@ -20,12 +20,12 @@ returns c = record {
         params = k.params;
         cycle_limit = k.cycle_limit;
         output_limit = k.output_limit;
-        room = ap (λ (f : Contents). f.cap) c.cut_to-squashed.ensures.kept ∙ k.room;
+        room = ap (λ (f : Contents). f.capacity) c.cut_to-squashed.ensures.kept ∙ k.room;
         slots = ap (λ (f : Contents). f.slots) c.cut_to-squashed.ensures.kept ∙ ap (λ (slots : List Slot). take c.args.place slots) k.slots;
         predictor = k.predictor;
         caches = k.caches;
         cycle = k.cycle;
-        done = k.done;
+        to_commit = k.to_commit;
         resume = refl;
         paid = refl;
         counts = λ i. record (k.counts i) { squashed = squashed i };

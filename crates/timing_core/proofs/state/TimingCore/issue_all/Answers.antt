@@ -1,5 +1,5 @@
 use Rattle.std.proofs.Common.{ℕ, ◌∙◌, ap, sym, subst, arith}
-use Rattle.timing_laws.specs.Issue.{busy_divisions}
+use Rattle.timing_side.specs.Issue.{busy_divisions}
 use Rattle.timing_core.specs.Units.{used_in}
 use Rattle.timing_core.proofs.Issuing.{HasWalked, walks_from_start, walks_to, walks_on, walks_to_end, starts_there}
 use Rattle.timing_core.proofs.state.TimingCore.issue_all.Goals as goal

@@ -1,7 +1,7 @@
 use Rattle.std.proofs.Common.{◌≡◌, ◌-◌, length}
 use Rattle.mono_model.specs.declared.setup.Setup.{Setup}
-use Rattle.timing_laws.specs.Timing.{Timing}
-use Rattle.timing_core.specs.Keeps.{Keeps}
+use Rattle.timing_side.specs.Timing.{Timing}
+use Rattle.timing_core.specs.CoreStandsFor.{CoreStandsFor}
 use Rattle.timing_core.specs.Small.{IsSmall}
 use Rattle.timing_core.specs.Units.{used_in}
 use Rattle.timing_core.proofs.Issuing.{HasWalked}
@@ -10,7 +10,7 @@ use Rattle.timing_core.proofs.state.TimingCore.issue_all.Given as goal
 abbrev pub invariant-loop-from : goal.invariant-loop-from
 invariant-loop-from l = record {
   size : length l.self.flight.slots ≡ l.len;
-  walked : (s : Setup) (t : Timing) → Keeps s t l.fn.self → IsSmall t → HasWalked s t l.busy l.self l.from (used_in l.used);
+  walked : (s : Setup) (t : Timing) → CoreStandsFor s t l.fn.self → IsSmall t → HasWalked s t l.busy l.self l.from (used_in l.used);
 }
 
 abbrev pub decreases-loop-from : goal.decreases-loop-from

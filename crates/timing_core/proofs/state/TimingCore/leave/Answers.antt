@@ -1,13 +1,13 @@
 use Rattle.std.proofs.Common.{ap, sym, ◌∙◌, subst}
-use Rattle.timing_laws.specs.Commit.{Leaving}
-use Rattle.timing_core.specs.Keeps.{Keeps}
+use Rattle.timing_side.specs.Commit.{Leaving}
+use Rattle.timing_core.specs.CoreStandsFor.{CoreStandsFor}
 use Rattle.timing_core.specs.Leaving.{kind_of, behind_of}
 use Rattle.timing_core.proofs.Leaving.{leaves_done}
 use Rattle.timing_core.proofs.state.TimingCore.leave.Goals as goal
 
 pub returns-in-Some-clause-kept : goal.returns-in-Some-clause-kept
 returns-in-Some-clause-kept c = λ s t k below.
-    let P : Leaving → Type 0 = λ l. Keeps s (behind_of t l) c.leave_done.new.self in
+    let P : Leaving → Type 0 = λ l. CoreStandsFor s (behind_of t l) c.leave_done.new.self in
     subst P (sym (leaves_done s t c.args.self.now.flight.slots c.in-Some.slot c.in-Some.ensures.oldest c.in-Some.ensures.done k.slots))
     (c.leave_done.ensures.kept s t k below)
 

@@ -1,12 +1,12 @@
 use Rattle.std.proofs.Common.{◌≡◌, ℕ, ◌+◌, ◌-◌, ◌<◌, ◌^◌, Option, Some, None, ap, sym, ◌∙◌, subst, arith}
 use Rattle.mono_model.specs.declared.params.Params.{Params}
 use Rattle.mono_model.specs.declared.setup.Setup.{Setup}
-use Rattle.timing_laws.specs.Timing.{Timing}
-use Rattle.timing_laws.specs.Commit.{Committed, plain, ended_with, leaving, commits}
+use Rattle.timing_side.specs.Timing.{Timing}
+use Rattle.timing_side.specs.Commit.{Committed, plain, ended_with, leaving, commits}
 use Rattle.timing_core.specs.declared.commit.Committed.{Committed as Ended}
 use Rattle.timing_core.specs.declared.commit.Leaving.{Leaving}
 use Rattle.timing_core.specs.declared.state.TimingCore.{TimingCore}
-use Rattle.timing_core.specs.Keeps.{Keeps}
+use Rattle.timing_core.specs.CoreStandsFor.{CoreStandsFor}
 use Rattle.timing_core.specs.Small.{IsBelow, IsSmall}
 use Rattle.timing_core.specs.Leaving.{kind_of, behind_of, ended_by, ending_in}
 use Rattle.timing_core.proofs.Leaving.{IsUnderWay, go_on_by, commits_next, commits_over, below_more, leaves_below}
@@ -21,12 +21,12 @@ module _ (s : Setup) (t : Timing) (left : ℕ) (behind : Timing) (way : IsUnderW
       commits s s.params.core_commit 0 t ≡ go_on_by ended (behind_of behind (leaving s behind)) (λ later. commits s (s.params.core_commit - (left + 1)) (left + 1) later)
   goes_on most kind ended bound below is ends = way.same ∙ commits_next s behind s.params.core_commit left kind ended (omega arith) is ends
 
-bound_is : (s : Setup) (t : Timing) (core : TimingCore) → Keeps s t core → core.params.core_commit ≡ s.params.core_commit
+bound_is : (s : Setup) (t : Timing) (core : TimingCore) → CoreStandsFor s t core → core.params.core_commit ≡ s.params.core_commit
 bound_is s t core k = ap (λ (p : Params). p.core_commit) k.params
 
 -- the phase has ended
-ended_is : (c : goal.In-Some) (s : Setup) (t : Timing) → (k : Keeps s t c.args.self.now) → IsSmall t →
-    (behind : Timing) × (Keeps s behind c.leave-leaving.new.self)
+ended_is : (c : goal.In-Some) (s : Setup) (t : Timing) → (k : CoreStandsFor s t c.args.self.now) → IsSmall t →
+    (behind : Timing) × (CoreStandsFor s behind c.leave-leaving.new.self)
     × (commits s s.params.core_commit 0 t ≡ record { timing = behind; left = c.in-Some.committed.left; ending = ending_in c.in-Some.committed.ending })
 ended_is c s t k small =
     let (behind, kept, way) = c.loop-left.invariant s t k small in
@@ -40,7 +40,7 @@ ended_is c s t k small =
 pub returns-in-Some-clause-kept : goal.returns-in-Some-clause-kept
 returns-in-Some-clause-kept c = λ s t k small.
     let (behind, kept, is) = ended_is c s t k small in
-    let P : Committed → Type 0 = λ x. Keeps s x.timing c.leave-leaving.new.self in
+    let P : Committed → Type 0 = λ x. CoreStandsFor s x.timing c.leave-leaving.new.self in
     subst P (sym is) kept
 
 pub returns-in-Some-clause-left : goal.returns-in-Some-clause-left
@@ -67,8 +67,8 @@ loop-left-preserved c = λ s t k small.
     )
 
 -- all left that may
-over_is : (c : goal.After-loop-left) (s : Setup) (t : Timing) → (k : Keeps s t c.args.self.now) → IsSmall t →
-    (behind : Timing) × (Keeps s behind c.loop-left.self)
+over_is : (c : goal.After-loop-left) (s : Setup) (t : Timing) → (k : CoreStandsFor s t c.args.self.now) → IsSmall t →
+    (behind : Timing) × (CoreStandsFor s behind c.loop-left.self)
     × (commits s s.params.core_commit 0 t ≡ ended_with behind c.args.self.now.params.core_commit plain)
 over_is c s t k small =
     let (behind, kept, way) = c.loop-left.invariant s t k small in
@@ -83,7 +83,7 @@ over_is c s t k small =
 pub returns-clause-kept : goal.returns-clause-kept
 returns-clause-kept c = λ s t k small.
     let (behind, kept, is) = over_is c s t k small in
-    let P : Committed → Type 0 = λ x. Keeps s x.timing c.loop-left.self in
+    let P : Committed → Type 0 = λ x. CoreStandsFor s x.timing c.loop-left.self in
     subst P (sym is) kept
 
 pub returns-clause-left : goal.returns-clause-left

@@ -1,6 +1,6 @@
 use Rattle.std.proofs.Common.{◌&&◌, nat_lt, sym, ◌∙◌}
-use Rattle.timing_laws.specs.Fetch.{may_fetch}
-use Rattle.timing_laws.specs.Slots.{waiting_count}
+use Rattle.timing_side.specs.Fetch.{may_fetch}
+use Rattle.timing_side.specs.Slots.{waiting_count}
 use Rattle.timing_core.proofs.state.TimingCore.may_fetch.Goals as goal
 
 pub returns-then-is_ready-clause-may : goal.returns-then-is_ready-clause-may

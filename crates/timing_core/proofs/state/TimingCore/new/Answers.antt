@@ -1,14 +1,14 @@
 use Rattle.std.proofs.Common.{ap, sym, subst, refl}
 use Rattle.branch_predictor.specs.Params as predictor
 use Rattle.branch_predictor.specs.Predictor.{untrained}
-use Rattle.branch_predictor.specs.Predicts.{Predicts}
+use Rattle.branch_predictor.specs.PredictorStandsFor.{PredictorStandsFor}
 use Rattle.branch_predictor.specs.declared.params.PredParams.{PredParams}
 use Rattle.cache_timing.specs.Caches.{cold}
-use Rattle.cache_timing.specs.KeepsAll.{KeepsAll}
+use Rattle.cache_timing.specs.CachesStandFor.{CachesStandFor}
 use Rattle.cache_timing.specs.Params as caches
 use Rattle.cache_timing.specs.declared.params.AllCaches.{AllCaches}
 use Rattle.reorder_buffer.specs.Window.{Contents}
-use Rattle.timing_laws.specs.Timing.{timing_start}
+use Rattle.timing_side.specs.Timing.{timing_start}
 use Rattle.mono_model.proofs.Sound.{setup_facts}
 use Rattle.timing_core.proofs.state.TimingCore.new.Goals as goal
 
@@ -24,19 +24,19 @@ new-requires-3 c = record { in_range = subst caches.AreInRange (sym c.caches_par
 pub returns : goal.returns
 unfolding timing_start
 returns c =
-    let Learnt : PredParams → Type 0 = λ p. Predicts c.in_ok-new-2.field-0 p untrained in
-    let Kept : AllCaches → Type 0 = λ p. KeepsAll c.in_ok-new-3.field-0 p cold in
+    let Learnt : PredParams → Type 0 = λ p. PredictorStandsFor c.in_ok-new-2.field-0 p untrained in
+    let Kept : AllCaches → Type 0 = λ p. CachesStandFor c.in_ok-new-3.field-0 p cold in
     record {
       opening = record {
         params = refl;
         cycle_limit = refl;
         output_limit = refl;
-        room = ap (λ (f : Contents). f.cap) c.in_ok-new.ensures.opening;
+        room = ap (λ (f : Contents). f.capacity) c.in_ok-new.ensures.opening;
         slots = ap (λ (f : Contents). f.slots) c.in_ok-new.ensures.opening;
         predictor = subst Learnt c.predictor_params.ensures.sizes c.in_ok-new-2.ensures.untrained;
         caches = subst Kept c.caches_params.ensures.sizes c.in_ok-new-3.ensures.cold;
         cycle = refl;
-        done = refl;
+        to_commit = refl;
         resume = refl;
         paid = refl;
         counts = c.new-4.ensures.start;

@@ -1,14 +1,14 @@
 use Rattle.std.proofs.Common.{◌≡◌, ℕ, ◌+◌, ◌-◌, ◌^◌, min, drop, if◌then◌else◌, ap, ◌∙◌, subst, arith}
 use Rattle.fsim_base.specs.declared.instruction.Flow.{Flow}
 use Rattle.branch_predictor.specs.Predictor.{trained}
-use Rattle.branch_predictor.specs.Predicts.{Predicts}
+use Rattle.branch_predictor.specs.PredictorStandsFor.{PredictorStandsFor}
 use Rattle.reorder_buffer.specs.declared.slot.Slot.{Slot}
 use Rattle.reorder_buffer.specs.Window.{Contents}
 use Rattle.mono_model.specs.Commit.{branch_count, caches_after}
 use Rattle.mono_model.specs.Found.{flow_in}
 use Rattle.mono_model.specs.Machine as machine
 use Rattle.mono_model.specs.Setup.{predictor_params, caches_params}
-use Rattle.timing_laws.specs.Slots.{found_in}
+use Rattle.timing_side.specs.Slots.{found_in}
 use Rattle.timing_core.proofs.Sums.{risen}
 use Rattle.timing_core.proofs.Leaving.{branch_count_limit, sent}
 use Rattle.timing_core.proofs.state.TimingCore.retire.Goals as goal
@@ -26,7 +26,7 @@ returns c = record {
       let output : c.saturating_add-self-3.result ≡ t.output + (if slot.sends then 1 else 0) =
       risen _ _ t.output (if slot.sends then 1 else 0)
       (c.saturating_add-self-3.ensures ∙ ap (λ (n : ℕ). min (c.args.self.now.output + n) (2 ^ 64 - 1)) c.bytes_of.ensures.count) k.output below.output (omega (arith, sent slot.sends)) in
-      let Learnt : Flow → Type 0 = λ f. Predicts c.train.new.self (predictor_params s.params) (trained (predictor_params s.params) t.predictor slot.addr f slot.next) in
+      let Learnt : Flow → Type 0 = λ f. PredictorStandsFor c.train.new.self (predictor_params s.params) (trained (predictor_params s.params) t.predictor slot.addr f slot.next) in
       c.pass.ensures.kept s
       (record t {
         slots = drop 1 t.slots;
@@ -40,12 +40,12 @@ returns c = record {
         params = k.params;
         cycle_limit = k.cycle_limit;
         output_limit = k.output_limit;
-        room = ap (λ (f : Contents). f.cap) c.leave.ensures.left ∙ k.room;
+        room = ap (λ (f : Contents). f.capacity) c.leave.ensures.left ∙ k.room;
         slots = ap (λ (f : Contents). f.slots) c.leave.ensures.left ∙ ap (drop 1) k.slots;
         predictor = subst Learnt c.flow_of-flow.ensures.flow (c.train.ensures.trained (predictor_params s.params) t.predictor k.predictor);
         caches = c.store.ensures.kept (caches_params s.params) t.caches k.caches;
         cycle = k.cycle;
-        done = k.done;
+        to_commit = k.to_commit;
         resume = k.resume;
         paid = k.paid;
         counts = λ i. record (k.counts i) { branches = branches i };
@@ -55,5 +55,5 @@ returns c = record {
         cmp = k.cmp;
         end = k.end;
       })
-      below.done;
+      below.to_commit;
 }

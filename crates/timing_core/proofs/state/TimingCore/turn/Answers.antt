@@ -5,7 +5,7 @@ use Rattle.reorder_buffer.specs.declared.slot.Slot.{Slot}
 use Rattle.reorder_buffer.specs.declared.slot.SlotState.TheVariants.{Until}
 use Rattle.mono_model.specs.declared.params.Params.{Params}
 use Rattle.mono_model.specs.Issue.{latency_of, cached}
-use Rattle.timing_laws.specs.Issue.{Turned}
+use Rattle.timing_side.specs.Issue.{Turned}
 use Rattle.in_flight.specs.Flight.{older_at}
 use Rattle.timing_core.specs.Units.{used_in}
 use Rattle.timing_core.proofs.Walks.{turn_begins, turn_rests}

@@ -7,14 +7,14 @@ use mono_model::End;
 
 impl TimingCore {
     ghost use Rattle.mono_model.specs.declared.setup.Setup.{Setup};
-    ghost use Rattle.timing_laws.specs.Timing.{Timing};
-    ghost use Rattle.timing_laws.specs.Turn.{timing_tick};
+    ghost use Rattle.timing_side.specs.Timing.{Timing};
+    ghost use Rattle.timing_side.specs.Turn.{timing_end_of_cycle};
     ghost use Rattle.timing_core.specs.Small.{IsSmall};
-    ghost use Rattle.timing_core.specs.Keeps.{Keeps};
+    ghost use Rattle.timing_core.specs.CoreStandsFor.{CoreStandsFor};
 
     /// The end of a cycle. A run that has not ended ends at its limit of cycles.
-    pub fn tick(&mut self)
-        ensures kept { (s : Setup) (t : Timing) → Keeps s t self.old → IsSmall t → Keeps s (timing_tick s t) self.new }
+    pub fn end_cycle(&mut self)
+        ensures kept { (s : Setup) (t : Timing) → CoreStandsFor s t self.old → IsSmall t → CoreStandsFor s (timing_end_of_cycle s t) self.new }
     {
         self.cycle = self.cycle.saturating_add(1);
         self.end = end_after(self.end, self.cycle == self.cycle_limit);

@@ -13,8 +13,8 @@ use Rattle.reorder_buffer.specs.declared.slot.Slot.{Slot}
 use Rattle.reorder_buffer.specs.declared.slot.SlotState.TheVariants.{Waiting}
 use Rattle.mono_model.specs.declared.setup.Setup.{Setup}
 use Rattle.mono_model.specs.Setup.{predictor_params, caches_params}
-use Rattle.timing_laws.specs.Slots.{slot_from, waiting_count}
-use Rattle.timing_laws.specs.Timing.{Timing, Phase, quiet}
+use Rattle.timing_side.specs.Slots.{slot_from, waiting_count}
+use Rattle.timing_side.specs.Timing.{Timing, Phase, quiet}
 
 -- fetch isn't waiting for a miss, and window and stations have room
 unfoldable pub may_fetch : Setup → Timing → Bool
@@ -58,7 +58,7 @@ appended s e caches t = record t {
 -- where the instruction doesn't go as predicted, the functional side is made to follow the prediction
 abbrev pub path_orders : Setup → Entry → Timing → List Order
 path_orders s e t =
-    if e.next == predicted_next s e t then [] else Set (t.done + length t.slots + 1) (predicted_next s e t) ∷ []
+    if e.next == predicted_next s e t then [] else Set (t.to_commit + length t.slots + 1) (predicted_next s e t) ∷ []
 
 -- A try, and whether the next one may follow: not behind a miss, and not where the path goes elsewhere than on.
 pub record Tried : Type 0 where

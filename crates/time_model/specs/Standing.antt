@@ -8,7 +8,7 @@ use Rattle.mono_model.specs.Path.{openings}
 use Rattle.mono_model.specs.Demand.{is_try, Place, place, told, needs_entry, needed_entry}
 use Rattle.mono_model.specs.Split.{is_halted, told_by, held_after}
 use Rattle.timing_laws.specs.Seen.{seen_at}
-use Rattle.timing_core.specs.Keeps.{Keeps}
+use Rattle.timing_core.specs.CoreStandsFor.{CoreStandsFor}
 use Rattle.time_model.specs.declared.state.TimeState.{TimeState}
 use Rattle.time_model.specs.declared.turn.Turn.{Turn}
 use Rattle.time_model.specs.declared.turn.Turn.TheVariants.{Want, Halted}
@@ -22,8 +22,8 @@ owed_in (Some o) = o ∷ []
 
 -- A timing side stands behind `k` steps of the demand run: it has what can be seen of the run there, and the entry that it
 -- holds is the one that the place needs, where all orders of its turn are told.
-pub record StandsAt (s : Setup) (k : ℕ) (side : TimeState) : Type 0 where
-  pub core : Keeps s (seen_at s (place s k)).timing side.core
+pub record TimeSideStandsFor (s : Setup) (k : ℕ) (side : TimeState) : Type 0 where
+  pub core : CoreStandsFor s (seen_at s (place s k)).timing side.core
   pub at : at_in side.at ≡ (place s k).run.at
   pub owed : owed_in side.owed ≡ (seen_at s (place s k)).owed
   pub epoch : side.epoch ≡ openings (told (place s k))
@@ -34,7 +34,7 @@ pub record IsStanding (side : TimeState) : Type 0 where
   pub setup : Setup
   pub sound : is_setup setup ≡ true
   pub steps : ℕ
-  pub stands : StandsAt setup steps side
+  pub stands : TimeSideStandsFor setup steps side
 
 -- the entry of the instruction to fetch next is needed: the next step is a try, and none is held
 unfoldable pub wants_in : TimeState → Bool
@@ -46,7 +46,7 @@ is_over p = is_halted p.run.at && p.owed == 0
 
 -- one step of the demand run was made
 pub record IsMade (s : Setup) (k : ℕ) (old new : TimeState) (turn : Turn) : Type 0 where
-  pub stands : StandsAt s (suc k) new
+  pub stands : TimeSideStandsFor s (suc k) new
   pub held : new.held ≡ held_after (told_by (place s k) (place s (suc k))) (place s k) (place s (suc k)) old.held
   pub turn_is : turn ≡ turn_told (told_by (place s k) (place s (suc k))) (place s k).run.at
 
@@ -62,5 +62,5 @@ pub record IsRight (entry : Entry) (side : TimeState) : Type 0 where
   pub setup : Setup
   pub sound : is_setup setup ≡ true
   pub steps : ℕ
-  pub stands : StandsAt setup steps side
+  pub stands : TimeSideStandsFor setup steps side
   pub needed : entry.epoch ≡ side.epoch → entry ≡ needed_entry setup (place setup steps)

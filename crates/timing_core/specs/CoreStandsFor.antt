@@ -1,24 +1,24 @@
 -- What the fields of the timing side stand for.
 use Rattle.std.specs.Prelude.{◌≡◌}
-use Rattle.branch_predictor.specs.Predicts.{Predicts}
-use Rattle.cache_timing.specs.KeepsAll.{KeepsAll}
+use Rattle.branch_predictor.specs.PredictorStandsFor.{PredictorStandsFor}
+use Rattle.cache_timing.specs.CachesStandFor.{CachesStandFor}
 use Rattle.mono_model.specs.declared.setup.Setup.{Setup}
 use Rattle.mono_model.specs.Setup.{predictor_params, caches_params}
-use Rattle.timing_laws.specs.Timing.{Timing}
+use Rattle.timing_side.specs.Timing.{Timing}
 use Rattle.timing_core.specs.declared.state.TimingCore.{TimingCore}
 use Rattle.timing_core.specs.Counts.{counts_in}
 
 -- the core has the parameters and limits of this setup, and stands for this state
-pub record Keeps (s : Setup) (t : Timing) (core : TimingCore) : Type 0 where
+pub record CoreStandsFor (s : Setup) (t : Timing) (core : TimingCore) : Type 0 where
   pub params : core.params ≡ s.params
   pub cycle_limit : core.cycle_limit ≡ s.cycles
   pub output_limit : core.output_limit ≡ s.output
-  pub room : core.flight.cap ≡ s.params.core_window
+  pub room : core.flight.capacity ≡ s.params.core_window
   pub slots : core.flight.slots ≡ t.slots
-  pub predictor : Predicts core.predictor (predictor_params s.params) t.predictor
-  pub caches : KeepsAll core.caches (caches_params s.params) t.caches
+  pub predictor : PredictorStandsFor core.predictor (predictor_params s.params) t.predictor
+  pub caches : CachesStandFor core.caches (caches_params s.params) t.caches
   pub cycle : core.cycle ≡ t.cycle
-  pub done : core.done ≡ t.done
+  pub to_commit : core.to_commit ≡ t.to_commit
   pub resume : core.resume ≡ t.resume
   pub paid : core.paid ≡ t.paid
   pub counts : counts_in core.counts ≡ t.counts

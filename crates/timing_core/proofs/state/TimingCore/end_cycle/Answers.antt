@@ -1,12 +1,12 @@
 use Rattle.std.proofs.Common.{◌≡◌, ◌+◌, ◌==◌, if◌then◌else◌, ◌∙◌, arith}
 use Rattle.mono_model.specs.declared.final_state.End.TheVariants.{Limit}
 use Rattle.mono_model.specs.Final.{has_ended}
-use Rattle.timing_laws.specs.Turn.{timing_tick}
+use Rattle.timing_side.specs.Turn.{timing_end_of_cycle}
 use Rattle.timing_core.proofs.Sums.{risen}
-use Rattle.timing_core.proofs.state.TimingCore.tick.Goals as goal
+use Rattle.timing_core.proofs.state.TimingCore.end_cycle.Goals as goal
 
 pub returns : goal.returns
-unfolding timing_tick
+unfolding timing_end_of_cycle
 returns c = record {
   kept = λ s t k small.
       let cycle : c.saturating_add-self.result ≡ t.cycle + 1 = risen _ _ t.cycle 1 c.saturating_add-self.ensures k.cycle (omega arith) (omega arith) in
@@ -19,7 +19,7 @@ returns c = record {
         predictor = k.predictor;
         caches = k.caches;
         cycle = cycle;
-        done = k.done;
+        to_commit = k.to_commit;
         resume = k.resume;
         paid = k.paid;
         counts = k.counts;

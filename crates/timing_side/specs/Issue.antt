@@ -18,8 +18,8 @@ use Rattle.mono_model.specs.declared.setup.Setup.{Setup}
 use Rattle.mono_model.specs.Found.{first_source, second_source, destination_in}
 use Rattle.mono_model.specs.Window.{is_register, is_store_class}
 use Rattle.mono_model.specs.Issue.{Used, none_used, has_unit, with_used, latency_of, cached}
-use Rattle.timing_laws.specs.Slots.{found_in, is_waiting_state, is_done_state}
-use Rattle.timing_laws.specs.Timing.{Timing, cut_to, Phase, quiet, ordering}
+use Rattle.timing_side.specs.Slots.{found_in, is_waiting_state, is_done_state}
+use Rattle.timing_side.specs.Timing.{Timing, cut_to, Phase, quiet, ordering}
 
 -- the slot has passed the front of the pipeline
 abbrev pub is_past_front : Params → ℕ → Slot → Bool
@@ -32,14 +32,14 @@ gives_value Waiting cause = false
 gives_value (Until e) cause = false
 gives_value Done cause = is_none cause
 
-abbrev pub is_written : List Slot → ℕ → Bool
-is_written [] register = true
-is_written (slot ∷ older) register =
-    if is_register register (destination_in (found_in slot)) then gives_value slot.state slot.cause else is_written older register
+abbrev pub is_available : List Slot → ℕ → Bool
+is_available [] register = true
+is_available (slot ∷ older) register =
+    if is_register register (destination_in (found_in slot)) then gives_value slot.state slot.cause else is_available older register
 
 abbrev pub has_value : List Slot → Option ℕ → Bool
 has_value older None = true
-has_value older (Some register) = is_written older register
+has_value older (Some register) = is_available older register
 
 abbrev pub has_operands : List Slot → Slot → Bool
 has_operands older slot = has_value older (first_source (found_in slot)) && has_value older (second_source (found_in slot))
@@ -147,4 +147,4 @@ issued s t =
     record t { slots = w.slots; caches = w.caches }
 
 unfoldable pub timing_issue : Setup → Timing → Phase
-timing_issue s t = if wants_time s t then ordering (Time t.done t.cycle) (replayed t) else quiet (issued s t)
+timing_issue s t = if wants_time s t then ordering (Time t.to_commit t.cycle) (replayed t) else quiet (issued s t)

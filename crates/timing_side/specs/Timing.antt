@@ -14,8 +14,8 @@ use Rattle.mono_model.specs.Machine.{Counts}
 
 pub record Timing : Type 0 where
   pub cycle : ℕ
-  -- the number of the next instruction to commit; the slot at place i has number done + i
-  pub done : ℕ
+  -- the number of the next instruction to commit; the slot at place i has number to_commit + i
+  pub to_commit : ℕ
   -- the oldest slot first
   pub slots : List Slot
   -- the cycle from which on fetch goes on after a miss
@@ -38,7 +38,7 @@ pub record Timing : Type 0 where
 unfoldable pub timing_start : Timing
 timing_start = record {
   cycle = 0;
-  done = 0;
+  to_commit = 0;
   slots = [];
   resume = 0;
   paid = false;

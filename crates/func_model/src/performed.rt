@@ -15,7 +15,7 @@ pub enum Stepped {
 /// What an instruction did beside its changes of the hart: how it leaves the run, what is told of it, and what takes back
 /// its changes of memory and devices.
 #[derive(Clone, Copy, Debug, PartialEq, Eq)]
-pub struct Done {
+pub struct Performed {
     pub stepped: Stepped,
     /// The byte that it sends to the console.
     pub sent: Option<u8>,

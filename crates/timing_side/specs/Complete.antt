@@ -5,7 +5,7 @@ use Rattle.reorder_buffer.specs.declared.slot.Slot.{Slot}
 use Rattle.reorder_buffer.specs.declared.slot.SlotState.{SlotState}
 use Rattle.reorder_buffer.specs.declared.slot.SlotState.TheVariants.{Waiting, Until, Done}
 use Rattle.mono_model.specs.Demand.{redirect_orders}
-use Rattle.timing_laws.specs.Timing.{Timing, cut_to, Phase}
+use Rattle.timing_side.specs.Timing.{Timing, cut_to, Phase}
 
 -- The slots that stay, and where fetch has to go on, if a slot was mispredicted.
 pub record Completed : Type 0 where
@@ -13,10 +13,10 @@ pub record Completed : Type 0 where
   pub redirect : Option ℕ
 
 -- its latency is over in this cycle
-abbrev pub is_due : ℕ → SlotState → Bool
-is_due cycle Waiting = false
-is_due cycle (Until e) = e == cycle
-is_due cycle Done = false
+abbrev pub is_finishing : ℕ → SlotState → Bool
+is_finishing cycle Waiting = false
+is_finishing cycle (Until e) = e == cycle
+is_finishing cycle Done = false
 
 -- it went elsewhere than predicted; a slot with a cause never counts
 abbrev pub is_mispredicted : Slot → Bool
@@ -37,10 +37,10 @@ complete_next slot true rest =
 
 unfoldable pub completes : ℕ → List Slot → Completed
 completes cycle [] = record { slots = []; redirect = None }
-completes cycle (slot ∷ rest) = complete_next slot (is_due cycle slot.state) (completes cycle rest)
+completes cycle (slot ∷ rest) = complete_next slot (is_finishing cycle slot.state) (completes cycle rest)
 
 pub completes-cons : (cycle : ℕ) (slot : Slot) (rest : List Slot) →
-    completes cycle (slot ∷ rest) ≡ complete_next slot (is_due cycle slot.state) (completes cycle rest)
+    completes cycle (slot ∷ rest) ≡ complete_next slot (is_finishing cycle slot.state) (completes cycle rest)
 unfolding completes
 completes-cons cycle slot rest = refl
 
@@ -51,7 +51,7 @@ completed_by (Some addr) slots t =
 
 -- the path goes on behind the mispredicted slot where that went
 abbrev pub completed_phase : Completed → Timing → Phase
-completed_phase c t = record { timing = completed_by c.redirect c.slots t; orders = redirect_orders c.redirect (t.done + length c.slots) [] }
+completed_phase c t = record { timing = completed_by c.redirect c.slots t; orders = redirect_orders c.redirect (t.to_commit + length c.slots) [] }
 
 unfoldable pub timing_complete : Timing → Phase
 timing_complete t = completed_phase (completes t.cycle t.slots) t

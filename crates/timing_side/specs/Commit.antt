@@ -16,8 +16,8 @@ use Rattle.mono_model.specs.Found.{flow_in, is_fence_i}
 use Rattle.mono_model.specs.Final.{end_of}
 use Rattle.mono_model.specs.Commit.{caches_after, branch_count}
 use Rattle.mono_model.specs.Demand.{commit_order}
-use Rattle.timing_laws.specs.Slots.{found_in}
-use Rattle.timing_laws.specs.Timing.{Timing, cut_to, Phase}
+use Rattle.timing_side.specs.Slots.{found_in}
+use Rattle.timing_side.specs.Timing.{Timing, cut_to, Phase}
 
 -- The oldest slot, by what it does in this phase, with the state behind it.
 pub data Leaving : Type 0 where
@@ -37,7 +37,7 @@ pub data Leaving : Type 0 where
 -- a slot without a cause leaves; what it does to the timer's interrupt was told of it
 abbrev pub committed : Setup → Slot → List Slot → Timing → Timing
 committed s slot rest t = record t {
-  done = t.done + 1;
+  to_commit = t.to_commit + 1;
   slots = rest;
   predictor = trained (predictor_params s.params) t.predictor slot.addr (flow_in (found_in slot)) slot.next;
   caches = caches_after (caches_params s.params) slot.access t.caches;
@@ -52,7 +52,7 @@ committed s slot rest t = record t {
 abbrev pub faulted : Slot → List Slot → Timing → Timing
 faulted slot rest t =
     let f = cut_to [] (record t { slots = rest }) in
-    record f { done = f.done + 1; irq_on = slot.irq_on; cmp = slot.cmp; counts = record f.counts { exceptions = f.counts.exceptions + 1 } }
+    record f { to_commit = f.to_commit + 1; irq_on = slot.irq_on; cmp = slot.cmp; counts = record f.counts { exceptions = f.counts.exceptions + 1 } }
 
 abbrev pub leaving_by : Bool → Option Halt → Timing → Leaving
 leaving_by fence (Some halt) t = ends (record t { end = end_of halt })
@@ -128,7 +128,7 @@ ending_orders sync done os = Sync done ∷ os
 abbrev pub committed_phase : Committed → Phase
 committed_phase c = record {
   timing = c.timing;
-  orders = ending_orders c.ending c.timing.done (commit_order c.left c.timing.done []);
+  orders = ending_orders c.ending c.timing.to_commit (commit_order c.left c.timing.to_commit []);
 }
 
 unfoldable pub timing_commit : Setup → Timing → Phase

@@ -1,7 +1,7 @@
 use Rattle.std.proofs.Common.{◌+◌, arith}
 use Rattle.std.proofs.lemmas.Nat.{mul-le}
 use Rattle.mono_model.proofs.Sound.{setup_facts}
-use Rattle.split_core.proofs.bounds.rounds_to_boundary.Goals as goal
+use Rattle.split_core.proofs.bounds.most_rounds.Goals as goal
 
 pub overflow_add-result : goal.overflow_add-result
 overflow_add-result c = omega (arith, (setup_facts c.args.setup.now c.requires.sound).ring)

@@ -7,16 +7,16 @@ use Rattle.mono_model.specs.declared.final_state.End.TheVariants.{Limit}
 use Rattle.mono_model.specs.declared.setup.Setup.{Setup}
 use Rattle.mono_model.specs.Final.{has_ended}
 use Rattle.mono_model.specs.Demand.{At, interrupting, committing, completing, issuing, trying, ending, stopping, halted}
-use Rattle.timing_laws.specs.Timing.{Timing, Phase, quiet, ordering}
-use Rattle.timing_laws.specs.Interrupt.{timing_interrupt}
-use Rattle.timing_laws.specs.Commit.{timing_commit}
-use Rattle.timing_laws.specs.Complete.{timing_complete}
-use Rattle.timing_laws.specs.Issue.{timing_issue}
-use Rattle.timing_laws.specs.Fetch.{Tried, may_fetch, timing_try}
+use Rattle.timing_side.specs.Timing.{Timing, Phase, quiet, ordering}
+use Rattle.timing_side.specs.Interrupt.{timing_interrupt}
+use Rattle.timing_side.specs.Commit.{timing_commit}
+use Rattle.timing_side.specs.Complete.{timing_complete}
+use Rattle.timing_side.specs.Issue.{timing_issue}
+use Rattle.timing_side.specs.Fetch.{Tried, may_fetch, timing_try}
 
 -- the end of a cycle: a run that has not ended ends at the limit
-unfoldable pub timing_tick : Setup → Timing → Timing
-timing_tick s t = record t {
+unfoldable pub timing_end_of_cycle : Setup → Timing → Timing
+timing_end_of_cycle s t = record t {
   cycle = t.cycle + 1;
   end = if has_ended t.end then t.end else (if t.cycle + 1 == s.cycles then Limit else t.end);
 }
@@ -52,6 +52,6 @@ timing_turn s e committing t = let p = timing_commit s t in turned p (at_after_c
 timing_turn s e completing t = turned (timing_complete t) issuing
 timing_turn s e issuing t = let p = timing_issue s t in turned p (try_or_end s s.params.core_fetch p.timing)
 timing_turn s e (trying more) t = let f = timing_try s e t in turned f.phase (at_after_try s more f)
-timing_turn s e ending t = let behind = timing_tick s t in turned (quiet behind) (at_after_cycle behind)
-timing_turn s e stopping t = turned (ordering (Stop t.done) t) halted
+timing_turn s e ending t = let behind = timing_end_of_cycle s t in turned (quiet behind) (at_after_cycle behind)
+timing_turn s e stopping t = turned (ordering (Stop t.to_commit) t) halted
 timing_turn s e halted t = turned (quiet t) halted

@@ -2,5 +2,5 @@
 use Rattle.std.specs.Prelude.{ℕ, Bool, ◌&&◌, nat_le}
 
 -- interrupts are on, and the time has reached mtimecmp
-abbrev pub is_due : Bool → ℕ → ℕ → Bool
-is_due on cmp cycle = on && nat_le cmp cycle
+abbrev pub is_pending : Bool → ℕ → ℕ → Bool
+is_pending on cmp cycle = on && nat_le cmp cycle

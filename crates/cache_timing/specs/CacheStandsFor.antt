@@ -31,7 +31,7 @@ abbrev pub age_at : Cache → ℕ → ℕ → ℕ
 age_at it set way = age_of (slice_index it.ages.items set) way
 
 -- the cache has these sizes and this policy, and its sets stand for these lists
-pub record Keeps (it : Cache) (p : CacheParams) (back : Bool) (sets : ℕ → List Line) : Type 0 where
+pub record CacheStandsFor (it : Cache) (p : CacheParams) (back : Bool) (sets : ℕ → List Line) : Type 0 where
   pub sizes : it.params ≡ p
   pub policy : it.back ≡ back
   pub lists : (i : ℕ) → i < p.sets → IsSet p (line_at it i) (age_at it i) (sets i)

@@ -5,7 +5,7 @@ use Rattle.branch_predictor.specs.declared.predictor.Predictor.{Predictor}
 use Rattle.branch_predictor.specs.Predictor.{Predicting, history_number}
 
 -- the predictor has these sizes, and stands for what was learnt so far
-pub record Predicts (it : Predictor) (p : PredParams) (s : Predicting) : Type 0 where
+pub record PredictorStandsFor (it : Predictor) (p : PredParams) (s : Predicting) : Type 0 where
   pub params : it.params ≡ p
   pub counters : (i : ℕ) → i < p.counters → slice_get it.counters.items i ≡ Some (s.counters i)
   pub targets : (i : ℕ) → i < p.targets → slice_get it.targets.items i ≡ Some (s.targets i)

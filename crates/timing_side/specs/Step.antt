@@ -5,8 +5,8 @@ use Rattle.rollback_cmds.specs.Order.{opens_epoch_of}
 use Rattle.trace_entry.specs.declared.Entry.{Entry}
 use Rattle.mono_model.specs.declared.setup.Setup.{Setup}
 use Rattle.mono_model.specs.Demand.{At, interrupting, is_try}
-use Rattle.timing_laws.specs.Timing.{Timing, timing_start}
-use Rattle.timing_laws.specs.Turn.{timing_turn}
+use Rattle.timing_side.specs.Timing.{Timing, timing_start}
+use Rattle.timing_side.specs.Turn.{timing_turn}
 
 -- A place of the timing side.
 pub record TimingPlace : Type 0 where

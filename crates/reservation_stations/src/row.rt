@@ -1,34 +1,34 @@
 use crate::mask::Mask;
 use crate::station::Mark;
 
-/// What a slot of the window keeps of the record that holds it.
+/// What an index of the window keeps of the record that holds it.
 #[derive(Clone, Copy, Debug, PartialEq, Eq)]
-pub struct Entry {
+pub struct Row {
     pub first: Option<u8>,
     pub second: Option<u8>,
     pub destination: Option<u8>,
     pub mark: Mark,
-    /// The slots that it still waits for: the producers of its sources that aren't done.
+    /// The indices that it still waits for: the producers of its sources that aren't done.
     pub waits: Mask,
-    /// The slot that was its destination's producer before it, while that record stands in the window.
+    /// The index that was its destination's producer before it, while that record stands in the window.
     pub displaced: Option<u32>,
     /// Its place plus how many records retired, modulo 256.
     pub turn: u8,
 }
 
-impl Entry {
+impl Row {
     ghost use Rattle.std.specs.Prelude.{◌≡◌, ◌↔◌, ◌+◌, ◌-◌, ◌%◌, ◌<◌, ℕ, false, IsTrue};
     ghost use Rattle.reservation_stations.specs.Mask.{holds};
-    ghost use Rattle.reservation_stations.specs.Keeps.{free_entry};
+    ghost use Rattle.reservation_stations.specs.AreTables.{free_row};
     ghost use Rattle.reservation_stations.specs.Changes.{Releases, Forgets};
     ghost use Rattle.reservation_stations.specs.Places.{IsReady, place_in};
 
-    /// That of a slot that no record held yet.
-    pub fn free() -> Entry
-        ensures free { record result { waits = free_entry.waits } ≡ free_entry }
-        ensures waits { (slot : ℕ) → holds result.waits slot ≡ false }
+    /// That of an index that no record held yet.
+    pub fn free() -> Row
+        ensures free { record result { waits = free_row.waits } ≡ free_row }
+        ensures waits { (index : ℕ) → holds result.waits index ≡ false }
     {
-        Entry {
+        Row {
             first: None,
             second: None,
             destination: None,
@@ -54,21 +54,21 @@ impl Entry {
         u32::from(self.turn.wrapping_sub(retired))
     }
 
-    /// Waits no longer for a slot.
-    pub fn release(&mut self, slot: u32)
-        requires within { slot < 256 }
-        ensures released { Releases slot self.old self.new }
+    /// Waits no longer for an index.
+    pub fn release(&mut self, index: u32)
+        requires within { index < 256 }
+        ensures released { Releases index self.old self.new }
     {
-        self.waits.remove(slot);
+        self.waits.remove(index);
     }
 
-    /// Waits no longer for a slot whose record leaves the window, and puts it back no more.
-    pub fn forget(&mut self, slot: u32)
-        requires within { slot < 256 }
-        ensures forgotten { Forgets slot self.old self.new }
+    /// Waits no longer for an index whose record leaves the window, and puts it back no more.
+    pub fn forget(&mut self, index: u32)
+        requires within { index < 256 }
+        ensures forgotten { Forgets index self.old self.new }
     {
-        self.release(slot);
-        if self.displaced == Some(slot) {
+        self.release(index);
+        if self.displaced == Some(index) {
             self.displaced = None;
         }
     }

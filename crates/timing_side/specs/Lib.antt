@@ -1,0 +1,9 @@
+pub mod Slots
+pub mod Timing
+pub mod Interrupt
+pub mod Commit
+pub mod Complete
+pub mod Issue
+pub mod Fetch
+pub mod Turn
+pub mod Step
