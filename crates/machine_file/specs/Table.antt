@@ -22,13 +22,19 @@ pub record Row : Type 0 where
 
 abbrev pub row : List ℕ → List ℕ → Wanted → ℕ → Row
 row section name wanted default =
-    record { key = record { top = section; inside = Some name }; wanted = wanted;
-    default = default }
+    record {
+      key = record { top = section; inside = Some name };
+      wanted = wanted;
+      default = default;
+    }
 
 abbrev pub version_row : Row
 version_row =
-    record { key = record { top = codes "version"; inside = None }; wanted = number 1 2;
-    default = 1 }
+    record {
+      key = record { top = codes "version"; inside = None };
+      wanted = number 1 2;
+      default = 1;
+    }
 
 -- the keys of both versions
 unfoldable pub first_rows : List Row

@@ -362,6 +362,8 @@ fn comment_of_65_537_bytes_is_the_plain_machine(rt: HostRuntime) -> Result<(), F
     for _ in 0..65_537 {
         comment.push(b'#')?;
     }
-    assert!(rt; matches!(read(rt.alloc(), comment.as_slice()), Ok(params) if params == Params::plain()));
+    assert!(rt;
+        matches!(read(rt.alloc(), comment.as_slice()), Ok(params) if params == Params::plain())
+    );
     Ok(())
 }

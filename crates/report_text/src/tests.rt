@@ -183,8 +183,7 @@ fn bytes_of(alloc: Global, text: &[u8]) -> Result<Bytes, AllocError> {
 #[test]
 fn lines_of_words_and_commands(rt: HostRuntime) -> Result<(), Fail> {
     let alloc = rt.alloc();
-    let text =
-        b"fast: usage: fast func IMAGE, run IMAGE MACHINE, sched IMAGE MACHINE PLAN, \
+    let text = b"fast: usage: fast func IMAGE, run IMAGE MACHINE, sched IMAGE MACHINE PLAN, \
           soak SEED, back IMAGE SCRIPT, inorder IMAGE MACHINE PLAN, sweep IMAGE MACHINES\n";
     check(&rt, alloc, Status::Usage, 10, text)?;
     let text = b"fast: no memory\n";
