@@ -4,12 +4,13 @@ use Rattle.rollback_cmds.specs.declared.order.Order.{Order}
 use Rattle.mono_model.specs.declared.setup.Setup.{Setup}
 use Rattle.mono_model.specs.Final.{has_ended}
 use Rattle.mono_model.specs.Machine.{Machine, machine_start}
-use Rattle.mono_model.specs.Commit.{Leaving, stays, full, leaves, faults, syncs, ends, leaving, Committed, after_leaving, commits, commit_phase}
+use Rattle.mono_model.specs.Commit.{Leaving, stays, full, leaves, faults, syncs, ends, leaving, commit_phase}
 use Rattle.mono_model.specs.Fetch.{Try, misses, appends, turns, may_fetch, fetch_try}
 use Rattle.mono_model.specs.Cycle.{end_of_cycle}
 use Rattle.mono_model.specs.Split.{told_by}
 use Rattle.mono_model.specs.Demand.{Demand, demand_commit, demand_try, At, interrupting, committing, completing, issuing, trying, ending, stopping, halted, try_or_end, at_after_cycle, tried_turn, turn_at, place, told}
 use Rattle.rollback_cmds.specs.declared.order.Order.TheVariants.{Set, Commit, Interrupt, Time, Stop, Sync}
+use Rattle.mono_model.proofs.Commits.{GoesOn, every_commit}
 use Rattle.machine_laws.specs.Numbers.{last_commit, IsNumbered, AreNumbered, AreAtMost, IsBounded}
 use Rattle.machine_laws.proofs.Numbering.{orders_numbered}
 use Rattle.machine_laws.proofs.Staying.{done_told}
@@ -21,22 +22,20 @@ use Rattle.machine_laws.proofs.Halting.{cycle_end_at_limit}
 use Rattle.machine_laws.proofs.Telling.{step_told}
 
 -- no more records leave than may
-after_most : (l : Leaving) (m : Machine) (left more : ℕ) (go_on : Machine → Committed) → ((behind : Machine) → (go_on behind).left ≤ left + 1 + more) → (after_leaving l m left go_on).left ≤ left + suc more
-after_most stays m left more go_on on = omega arith
-after_most (full behind) m left more go_on on = omega arith
-after_most (leaves behind) m left more go_on on = omega (arith, on behind)
-after_most (faults behind) m left more go_on on = omega arith
-after_most (syncs behind) m left more go_on on = omega arith
-after_most (ends behind) m left more go_on on = omega arith
-
-commits_most : (s : Setup) (more left : ℕ) (m : Machine) → (commits s more left m).left ≤ left + more
-unfolding commits
-commits_most s zero left m = omega arith
-commits_most s (suc more) left m = after_most (leaving s m) m left more (λ behind. commits s more (left + 1) behind) (λ behind. commits_most s more (left + 1) behind)
+goes_on_most : (most more left : ℕ) (m : Machine) (l : Leaving) → left + suc more ≤ most → GoesOn (λ left m. left + more ≤ most) (λ c. c.left ≤ most) left m l
+goes_on_most most more left m stays within = omega arith
+goes_on_most most more left m (full behind) within = omega arith
+goes_on_most most more left m (leaves behind) within = omega arith
+goes_on_most most more left m (faults behind) within = omega arith
+goes_on_most most more left m (syncs behind) within = omega arith
+goes_on_most most more left m (ends behind) within = omega arith
 
 commit_most : (s : Setup) (m : Machine) → (commit_phase s m).left ≤ s.params.core_commit
 unfolding commit_phase
-commit_most s m = omega (arith, commits_most s s.params.core_commit 0 m)
+commit_most s m =
+    let most = s.params.core_commit in
+    every_commit s (λ more left m. left + more ≤ most) (λ c. c.left ≤ most) (λ left m within. omega arith)
+    (λ more left m within. goes_on_most most more left m (leaving s m) within) most 0 m (omega arith)
 
 -- whether the turn stands in a cycle, and behind its commit
 abbrev in_cycle : At → ℕ

@@ -1,24 +1,24 @@
 -- The relation through commit: a record that leaves makes the path's next state.
-use Rattle.std.proofs.Common.{◌≡◌, ℕ, zero, suc, ◌+◌, Bool, true, false, if◌then◌else◌, is_none, Option, Some, None, List, [], ◌∷◌, length, refl, ap, sym, ◌∙◌, subst, arith}
+use Rattle.std.proofs.Common.{◌≡◌, ℕ, zero, suc, ◌+◌, true, is_none, Option, None, List, ◌∷◌, length, refl, ap, sym, ◌∙◌, subst, arith}
 use Rattle.fsim_base.specs.declared.cause.Cause.{Cause}
 use Rattle.rollback_cmds.specs.declared.order.Order.{Order}
 use Rattle.rollback_cmds.specs.declared.order.Order.TheVariants.{Set, Commit, Sync}
-use Rattle.device_bus.specs.declared.undo.Note.{Note}
-use Rattle.device_bus.specs.declared.undo.Note.TheVariants as note
 use Rattle.mono_model.specs.declared.setup.Setup.{Setup}
-use Rattle.mono_model.specs.declared.final_state.End.TheVariants.{OutputFull}
+use Rattle.mono_model.specs.declared.final_state.End.{End}
 use Rattle.mono_model.specs.Arch.{Arch, synced}
-use Rattle.mono_model.specs.Found.{Found, is_fence_i}
+use Rattle.mono_model.specs.Found.{Found}
+use Rattle.mono_model.specs.Final.{end_of}
 use Rattle.mono_model.specs.Result.{Result}
-use Rattle.mono_model.specs.Effect.{effect, note_of}
+use Rattle.mono_model.specs.Effect.{effect}
 use Rattle.mono_model.specs.Sequence.{seq, found_next, result_at}
 use Rattle.mono_model.specs.Path.{path, time_of, GoesOn}
-use Rattle.mono_model.specs.Alone.{has_no_room}
-use Rattle.mono_model.specs.Window.{Record, Stage, waiting, until, done}
+use Rattle.mono_model.specs.Window.{Record, Stage, done}
 use Rattle.mono_model.specs.Machine.{Machine, flushed}
 use Rattle.mono_model.specs.Commit as commit
 use Rattle.mono_model.specs.Demand.{Demand, ending_orders, commit_order, demand_commit}
 use Rattle.machine_laws.specs.Relation.{Tracked, Tracks, Related, Within}
+use Rattle.mono_model.proofs.Commits as commits
+use Rattle.mono_model.proofs.Commits.{IsDone, InEachCase, leaving_case}
 use Rattle.mono_model.proofs.Path.{path_at_set, path_at_sync, path_commit}
 use Rattle.machine_laws.proofs.Path.{Follows, path_steps, time_none, within_after}
 use Rattle.machine_laws.proofs.Changes.{behind_next}
@@ -110,44 +110,30 @@ module _ (s : Setup) (m : Machine) (n : ℕ) (os : List Order) (rec : Record) (r
         within = (omega arith, within_after os n (suc n) (omega arith) within);
       }
 
-  by_note : (fence : Bool) (what : Note) → r.cause ≡ None → KeptBy s n os (commit.leaving_by s fence what (commit.committed s rec rest r m))
-  by_note true (note.End halt) none = let k = committed_kept none in record { arch = k.arch; window = k.window; on = k.on; within = k.within }
-  by_note false (note.End halt) none = let k = committed_kept none in record { arch = k.arch; window = k.window; on = k.on; within = k.within }
-  by_note true note.Nothing none = fenced_kept none
-  by_note true (note.Out byte) none = fenced_kept none
-  by_note false note.Nothing none = committed_kept none
-  by_note false (note.Out byte) none = committed_kept none
+  ended_kept : (end : End) → r.cause ≡ None → Related s (numbered (record (commit.committed s rec rest r m) { end = end }) (suc n) os)
+  ended_kept end none = let k = committed_kept none in record { arch = k.arch; window = k.window; on = k.on; within = k.within }
 
-  by_cause : (cause : Option Cause) → r.cause ≡ cause → Related s (numbered m n os) → KeptBy s n os (commit.leaving_done s rec rest r cause m)
-  by_cause (Some cause) is related = faulted_kept
-  by_cause None is related = by_test (has_no_room s (note_of r m.arch) m.arch)
-    where
-      by_test : (b : Bool) → KeptBy s n os
-          (if b then commit.full (record m { end = OutputFull }) else commit.leaving_by s (is_fence_i rec.found) (note_of r m.arch) (commit.committed s rec rest r m))
-      by_test true = record { arch = related.arch; window = related.window; on = related.on; within = related.within }
-      by_test false = by_note (is_fence_i rec.found) (note_of r m.arch) is
+  each_kept : Related s (numbered m n os) → InEachCase s m rec rest r (KeptBy s n os)
+  each_kept related = record {
+    if_faults = λ cause why. faulted_kept;
+    if_full = λ none room. record { arch = related.arch; window = related.window; on = related.on; within = related.within };
+    if_ends = λ halt passes. ended_kept (end_of halt) passes.cause;
+    if_syncs = λ passes fence. fenced_kept passes.cause;
+    if_leaves = λ passes fence. committed_kept passes.cause;
+  }
 
 -- the oldest record leaves, or it stays
-stage_kept : (s : Setup) (m : Machine) (n : ℕ) (os : List Order) (rec : Record) (rest : List Record) (stage : Stage) → rec.stage ≡ stage → m.window ≡ rec ∷ rest →
-    Related s (numbered m n os) → KeptBy s n os (commit.leaving_stage s rec rest stage m)
-stage_kept s m n os rec rest waiting is there related = tt
-stage_kept s m n os rec rest (until e r) is there related = tt
-stage_kept s m n os rec rest (done r) is there related =
-    let P : List Record → Type 0 = λ w. Tracks s (time_of os) (path s os) n w m.fetch_addr m.kept in
-    let Q : Stage → Type 0 = λ stage. Tracked s (time_of os n) (path s os n) (path s os (suc n)).pc (record rec { stage = stage }) in
-    let R : List Record → Type 0 = λ w. GoesOn os (n + length w) in
-    let tracks : Tracks s (time_of os) (path s os) n (rec ∷ rest) m.fetch_addr m.kept = subst P there related.window in
-    let e : n + length (rec ∷ rest) ≡ suc n + length rest = omega arith in
-    by_cause s m n os rec rest r related.arch (subst Q is tracks.0) tracks.1 (subst (λ (k : ℕ). GoesOn os k) e (subst R there related.on)) related.within r.cause refl related
-
-first_kept : (s : Setup) (m : Machine) (n : ℕ) (os : List Order) (window : List Record) → m.window ≡ window → Related s (numbered m n os) →
-    KeptBy s n os (commit.leaving_first s window m)
-first_kept s m n os [] there related = tt
-first_kept s m n os (rec ∷ rest) there related = stage_kept s m n os rec rest rec.stage refl there related
-
 pub leaving_kept : (s : Setup) (m : Machine) (n : ℕ) (os : List Order) → Related s (numbered m n os) → KeptBy s n os (commit.leaving s m)
-unfolding commit.leaving
-leaving_kept s m n os related = first_kept s m n os m.window refl related
+leaving_kept s m n os related = leaving_case s m (KeptBy s n os) tt each
+  where
+    each : (rec : Record) (rest : List Record) (r : Result) → IsDone m rec rest r → InEachCase s m rec rest r (KeptBy s n os)
+    each rec rest r is =
+        let P : List Record → Type 0 = λ w. Tracks s (time_of os) (path s os) n w m.fetch_addr m.kept in
+        let Q : Stage → Type 0 = λ stage. Tracked s (time_of os n) (path s os n) (path s os (suc n)).pc (record rec { stage = stage }) in
+        let R : List Record → Type 0 = λ w. GoesOn os (n + length w) in
+        let tracks : Tracks s (time_of os) (path s os) n (rec ∷ rest) m.fetch_addr m.kept = subst P is.window related.window in
+        let e : n + length (rec ∷ rest) ≡ suc n + length rest = omega arith in
+        each_kept s m n os rec rest r related.arch (subst Q is.stage tracks.0) tracks.1 (subst (λ (k : ℕ). GoesOn os k) e (subst R is.window related.on)) related.within related
 
 -- what the phase leaves behind it
 abbrev EndedBy : Setup → ℕ → List Order → commit.Committed → Type 0
@@ -157,28 +143,27 @@ EndedBy s start os c =
 pub related_number : (s : Setup) (m : Machine) (n k : ℕ) (os : List Order) → n ≡ k → Related s (numbered m n os) → Related s (numbered m k os)
 related_number s m n k os is related = subst (λ (j : ℕ). Related s (numbered m j os)) is related
 
-ended_by : (s : Setup) (start left : ℕ) (m : Machine) (os : List Order) (l : commit.Leaving) (go_on : Machine → commit.Committed) → Related s (numbered m (start + left) os) →
-    KeptBy s (start + left) os l → ((behind : Machine) → Related s (numbered behind (start + (left + 1)) os) → EndedBy s start os (go_on behind)) →
-    EndedBy s start os (commit.after_leaving l m left go_on)
-ended_by s start left m os commit.stays go_on related kept on = related
-ended_by s start left m os (commit.full behind) go_on related kept on = kept
-ended_by s start left m os (commit.leaves behind) go_on related kept on =
-    on behind (related_number s behind (suc (start + left)) (start + (left + 1)) os (omega arith) kept)
-ended_by s start left m os (commit.faults behind) go_on related kept on =
+-- where `start` records had left before the phase
+abbrev IsOn : Setup → ℕ → List Order → ℕ → Machine → Type 0
+IsOn s start os left m = Related s (numbered m (start + left) os)
+
+goes_on_kept : (s : Setup) (start left : ℕ) (os : List Order) (m : Machine) (l : commit.Leaving) → IsOn s start os left m → KeptBy s (start + left) os l →
+    commits.GoesOn (IsOn s start os) (EndedBy s start os) left m l
+goes_on_kept s start left os m commit.stays related kept = related
+goes_on_kept s start left os m (commit.full behind) related kept = kept
+goes_on_kept s start left os m (commit.leaves behind) related kept = related_number s behind (suc (start + left)) (start + (left + 1)) os (omega arith) kept
+goes_on_kept s start left os m (commit.faults behind) related kept =
     let e : suc (start + left) ≡ start + (left + 1) = omega arith in
     subst (λ (k : ℕ). Related s (numbered behind k (Set k behind.arch.pc ∷ os))) e kept
-ended_by s start left m os (commit.syncs behind) go_on related kept on =
+goes_on_kept s start left os m (commit.syncs behind) related kept =
     let e : suc (start + left) ≡ start + (left + 1) = omega arith in
     subst (λ (k : ℕ). Related s (numbered behind k (Sync k ∷ os))) e kept
-ended_by s start left m os (commit.ends behind) go_on related kept on =
-    related_number s behind (suc (start + left)) (start + (left + 1)) os (omega arith) kept
+goes_on_kept s start left os m (commit.ends behind) related kept = related_number s behind (suc (start + left)) (start + (left + 1)) os (omega arith) kept
 
 commits_kept : (s : Setup) (start : ℕ) (os : List Order) (more left : ℕ) (m : Machine) → Related s (numbered m (start + left) os) → EndedBy s start os (commit.commits s more left m)
-unfolding commit.commits
-commits_kept s start os zero left m related = related
-commits_kept s start os (suc more) left m related =
-    ended_by s start left m os (commit.leaving s m) (λ behind. commit.commits s more (left + 1) behind) related (leaving_kept s m (start + left) os related)
-    (λ behind kept. commits_kept s start os more (left + 1) behind kept)
+commits_kept s start os =
+    commits.every_commit s (λ more. IsOn s start os) (EndedBy s start os) (λ left m related. related)
+    (λ more left m related. goes_on_kept s start left os m (commit.leaving s m) related (leaving_kept s m (start + left) os related))
 
 -- an order Commit changes nothing
 pub commit_related : (s : Setup) (m : Machine) (n k : ℕ) (os : List Order) → Related s (numbered m n os) → Related s (numbered m n (Commit k ∷ os))

@@ -1,28 +1,26 @@
 -- What each turn adds to the counts of a run.
-use Rattle.std.proofs.Common.{◌≡◌, ℕ, zero, suc, ◌+◌, ◌≤◌, ◌==◌, nat_lt, if◌then◌else◌, Bool, true, false, Option, Some, None, List, [], ◌∷◌, length, refl, ap, subst, arith, length-append}
+use Rattle.std.proofs.Common.{◌≡◌, ℕ, suc, ◌+◌, ◌≤◌, ◌==◌, nat_lt, if◌then◌else◌, Option, Some, None, List, [], ◌∷◌, length, refl, ap, arith, length-append}
 use Rattle.std.proofs.lemmas.Bool.{cond_both}
-use Rattle.fsim_base.specs.declared.cause.Cause.{Cause}
 use Rattle.fsim_base.specs.declared.instruction.Flow.{Flow}
 use Rattle.fsim_base.specs.declared.instruction.Flow.TheVariants as flow
 use Rattle.fsim_base.specs.Number.{wrap_sum}
-use Rattle.device_bus.specs.declared.undo.Note.{Note}
-use Rattle.device_bus.specs.declared.undo.Note.TheVariants as note
 use Rattle.cache_timing.specs.Caches.{Served}
 use Rattle.mono_model.specs.declared.setup.Setup.{Setup}
+use Rattle.mono_model.specs.declared.final_state.End.{End}
 use Rattle.mono_model.specs.declared.final_state.End.TheVariants.{OutputFull}
-use Rattle.mono_model.specs.Found.{flow_in, is_fence_i}
+use Rattle.mono_model.specs.Found.{flow_in}
+use Rattle.mono_model.specs.Final.{end_of}
 use Rattle.mono_model.specs.Result.{Result}
-use Rattle.mono_model.specs.Effect.{note_of}
-use Rattle.mono_model.specs.Alone.{has_no_room}
-use Rattle.mono_model.specs.Window.{Record, Stage, waiting, until, done}
+use Rattle.mono_model.specs.Window.{Record}
 use Rattle.mono_model.specs.Machine.{Counts, Machine, machine_start, flushed}
 use Rattle.mono_model.specs.Interrupt.{is_interrupted, take_interrupt, interrupt_phase}
-use Rattle.mono_model.specs.Commit.{Leaving, stays, full, leaves, faults, syncs, ends, branch_count, committed, faulted, fenced, leaving_by, leaving_done, leaving_stage, leaving_first, leaving, Committed, after_leaving, commits, commit_phase}
+use Rattle.mono_model.specs.Commit.{branch_count, committed, faulted, fenced, leaving, commit_phase}
 use Rattle.mono_model.specs.Complete.{completes, completed_by, complete_phase}
 use Rattle.mono_model.specs.Issue.{none_passed, wants_time, replayed, issued, issue_phase}
 use Rattle.mono_model.specs.Fetch.{Try, misses, appends, turns, cache_read, missed, appended, new_record, predicted_next, tried, fetch_try}
 use Rattle.mono_model.specs.Cycle.{end_of_cycle}
 use Rattle.mono_model.specs.Demand.{Demand, At, interrupting, committing, completing, issuing, trying, ending, stopping, halted, tried_turn, turn_at, turn, place}
+use Rattle.mono_model.proofs.Commits.{GoesOn, leaving_case, every_commit}
 use Rattle.machine_laws.specs.Counts.{AreCounted}
 use Rattle.machine_laws.proofs.Always.{at_each_turn}
 use Rattle.machine_laws.proofs.Phases.{completes_from, walk_length}
@@ -71,14 +69,6 @@ interrupt_counts m =
     (λ e. same_counts m m 1 refl refl)
 
 -- commit
-abbrev LeftCounts : Machine → Leaving → Type 0
-LeftCounts m stays = Unit {0}
-LeftCounts m (full behind) = CountsOn m 0 0 behind
-LeftCounts m (leaves behind) = CountsOn m 1 0 behind
-LeftCounts m (faults behind) = CountsOn m 1 0 behind
-LeftCounts m (syncs behind) = CountsOn m 1 0 behind
-LeftCounts m (ends behind) = CountsOn m 1 0 behind
-
 branch_most : (f : Flow) → branch_count f ≤ 1
 branch_most flow.Plain = omega arith
 branch_most flow.Branch = omega arith
@@ -103,9 +93,21 @@ faulted_counts rec rest r m is =
     let count : length m.window ≡ suc (length rest) = ap (λ (w : List Record). length w) is in
     record { records = omega arith; fetched = omega arith; interrupts = omega arith; replays = omega arith; mispredicted = omega arith; exceptions = omega arith; branches = omega arith }
 
-fenced_counts : (s : Setup) (m behind : Machine) → CountsOn m 1 0 behind → CountsOn m 1 0 (fenced s behind)
+-- the end changes no count, and a FENCE.I flushes
+ended_counts : (m behind : Machine) (left : ℕ) (end : End) → CountsOn m left 0 behind → CountsOn m left 0 (record behind { end = end })
+ended_counts m behind left end on = record {
+  records = on.records;
+  fetched = on.fetched;
+  interrupts = on.interrupts;
+  replays = on.replays;
+  mispredicted = on.mispredicted;
+  exceptions = on.exceptions;
+  branches = on.branches;
+}
+
+fenced_counts : (s : Setup) (m behind : Machine) (left : ℕ) → CountsOn m left 0 behind → CountsOn m left 0 (fenced s behind)
 unfolding flushed
-fenced_counts s m behind on = record {
+fenced_counts s m behind left on = record {
   records = omega (arith, on.records);
   fetched = on.fetched;
   interrupts = on.interrupts;
@@ -115,69 +117,26 @@ fenced_counts s m behind on = record {
   branches = on.branches;
 }
 
-by_counts : (s : Setup) (fence : Bool) (what : Note) (m behind : Machine) → CountsOn m 1 0 behind → LeftCounts m (leaving_by s fence what behind)
-by_counts s fence (note.End halt) m behind on = record {
-  records = on.records;
-  fetched = on.fetched;
-  interrupts = on.interrupts;
-  replays = on.replays;
-  mispredicted = on.mispredicted;
-  exceptions = on.exceptions;
-  branches = on.branches;
-}
-by_counts s true note.Nothing m behind on = fenced_counts s m behind on
-by_counts s true (note.Out byte) m behind on = fenced_counts s m behind on
-by_counts s false note.Nothing m behind on = on
-by_counts s false (note.Out byte) m behind on = on
-
-done_counts : (s : Setup) (rec : Record) (rest : List Record) (r : Result) (cause : Option Cause) (m : Machine) → m.window ≡ rec ∷ rest → LeftCounts m (leaving_done s rec rest r cause m)
-done_counts s rec rest r (Some cause) m is = faulted_counts rec rest r m is
-done_counts s rec rest r None m is =
-    cond_both (has_no_room s (note_of r m.arch) m.arch) (full (record m { end = OutputFull }))
-    (leaving_by s (is_fence_i rec.found) (note_of r m.arch) (committed s rec rest r m)) (LeftCounts m)
-    (λ room. same_counts m (record m { end = OutputFull }) 0 refl refl)
-    (λ room. by_counts s (is_fence_i rec.found) (note_of r m.arch) m (committed s rec rest r m) (committed_counts s rec rest r m is))
-
-stage_counts : (s : Setup) (rec : Record) (rest : List Record) (stage : Stage) (m : Machine) → m.window ≡ rec ∷ rest → LeftCounts m (leaving_stage s rec rest stage m)
-stage_counts s rec rest waiting m is = tt
-stage_counts s rec rest (until e r) m is = tt
-stage_counts s rec rest (done r) m is = done_counts s rec rest r r.cause m is
-
-first_counts : (s : Setup) (w : List Record) (m : Machine) → m.window ≡ w → LeftCounts m (leaving_first s w m)
-first_counts s [] m is = tt
-first_counts s (rec ∷ rest) m is = stage_counts s rec rest rec.stage m is
-
-leaving_counts : (s : Setup) (m : Machine) → LeftCounts m (leaving s m)
-unfolding leaving
-leaving_counts s m = first_counts s m.window m refl
-
--- a phase of commit, where `left` records had left before
-record CommitCounts (m : Machine) (left : ℕ) (c : Committed) : Type 0 where
-  more : ℕ
-  left_is : c.left ≡ left + more
-  counts : CountsOn m more 0 c.machine
-
-after_counts : (l : Leaving) (m : Machine) (left : ℕ) (go_on : Machine → Committed) → LeftCounts m l → ((behind : Machine) → CommitCounts behind (left + 1) (go_on behind)) → CommitCounts m left (after_leaving l m left go_on)
-after_counts stays m left go_on is on = record { more = 0; left_is = omega arith; counts = same_counts m m 0 refl refl }
-after_counts (full behind) m left go_on is on = record { more = 0; left_is = omega arith; counts = is }
-after_counts (leaves behind) m left go_on is on =
-    let c = on behind in
-    record { more = 1 + c.more; left_is = omega (arith, c.left_is); counts = counts_then m behind (go_on behind).machine 1 c.more 0 is c.counts }
-after_counts (faults behind) m left go_on is on = record { more = 1; left_is = refl; counts = is }
-after_counts (syncs behind) m left go_on is on = record { more = 1; left_is = refl; counts = is }
-after_counts (ends behind) m left go_on is on = record { more = 1; left_is = refl; counts = is }
-
-commits_count : (s : Setup) (more left : ℕ) (m : Machine) → CommitCounts m left (commits s more left m)
-unfolding commits
-commits_count s zero left m = record { more = 0; left_is = omega arith; counts = same_counts m m 0 refl refl }
-commits_count s (suc more) left m = after_counts (leaving s m) m left (λ behind. commits s more (left + 1) behind) (leaving_counts s m) (λ behind. commits_count s more (left + 1) behind)
+-- what each record adds that leaves
+one_counts : (s : Setup) (m between : Machine) (left : ℕ) → CountsOn m left 0 between →
+    GoesOn (λ left behind. CountsOn m left 0 behind) (λ c. CountsOn m c.left 0 c.machine) left between (leaving s between)
+one_counts s m between left on =
+    leaving_case s between (GoesOn (λ left behind. CountsOn m left 0 behind) (λ c. CountsOn m c.left 0 c.machine) left between) on (λ rec rest r is.
+    let behind = committed s rec rest r between in
+    let more : CountsOn m (left + 1) 0 behind = counts_then m between behind left 1 0 on (committed_counts s rec rest r between is.window) in
+    record {
+      if_faults = λ cause why. counts_then m between (faulted rec rest r between) left 1 0 on (faulted_counts rec rest r between is.window);
+      if_full = λ none room. ended_counts m between left OutputFull on;
+      if_ends = λ halt passes. ended_counts m behind (left + 1) (end_of halt) more;
+      if_syncs = λ passes fence. fenced_counts s m behind (left + 1) more;
+      if_leaves = λ passes fence. more;
+    })
 
 commit_counts : (s : Setup) (m : Machine) → CountsOn m (commit_phase s m).left 0 (commit_phase s m).machine
 unfolding commit_phase
 commit_counts s m =
-    let c = commits_count s s.params.core_commit 0 m in
-    let e : c.more ≡ (commits s s.params.core_commit 0 m).left = omega (arith, c.left_is) in
-    subst (λ (n : ℕ). CountsOn m n 0 (commits s s.params.core_commit 0 m).machine) e c.counts
+    every_commit s (λ more left behind. CountsOn m left 0 behind) (λ c. CountsOn m c.left 0 c.machine) (λ left behind on. on)
+    (λ more left between on. one_counts s m between left on) s.params.core_commit 0 m (same_counts m m 0 refl refl)
 
 -- complete, issue and fetch
 by_complete : (redirect : Option ℕ) (records : List Record) (m : Machine) → length records ≤ length m.window → (redirect ≡ None → length records ≡ length m.window) → CountsOn m 0 1 (completed_by redirect records m)

@@ -87,7 +87,7 @@ may_room s m may =
     (and_parts (nat_le m.resume m.cycle) (nat_lt (length m.window) s.params.core_window)
     (and_parts (nat_le m.resume m.cycle && nat_lt (length m.window) s.params.core_window) (nat_lt (waiting_count m.window) s.params.core_stations) may).0).1
 
-commit_within : (s : Setup) (d : Demand) (c : Committed) → CommittedFrom s d.machine 0 c → IsWithin s committing d → (b : Bool) → IsWithin s (if b then ending else completing) (demand_committed c d)
+commit_within : (s : Setup) (d : Demand) (c : Committed) → CommittedFrom s d.machine c → IsWithin s committing d → (b : Bool) → IsWithin s (if b then ending else completing) (demand_committed c d)
 commit_within s d c from is b = by_test b
   where
     ordered : IsOrderly s (d.to_commit + c.left) (ending_orders c.ending c.machine.arch.pc (d.to_commit + c.left) (commit_order c.left (d.to_commit + c.left) d.orders))

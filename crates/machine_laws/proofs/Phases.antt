@@ -1,5 +1,5 @@
 -- What each phase of a cycle leaves of the cycle number, of how many records the window has, and of the output's limit.
-use Rattle.std.proofs.Common.{◌≡◌, ℕ, zero, suc, ◌+◌, ◌≤◌, ◌<◌, nat_lt, ◌==◌, if◌then◌else◌, Bool, true, false, Option, Some, None, List, [], ◌∷◌, length, refl, ap, sym, ◌∙◌, subst, arith, length-append, leb-false}
+use Rattle.std.proofs.Common.{◌≡◌, ℕ, ◌+◌, ◌≤◌, ◌<◌, nat_lt, ◌==◌, if◌then◌else◌, true, false, Option, Some, None, List, [], ◌∷◌, length, refl, ap, sym, ◌∙◌, subst, arith, length-append, leb-false}
 use Rattle.std.proofs.lemmas.Bool.{cond_both, cond-true}
 use Rattle.fsim_base.specs.declared.cause.Cause.{Cause}
 use Rattle.fsim_base.specs.Number.{wrap_sum}
@@ -7,19 +7,20 @@ use Rattle.device_bus.specs.declared.undo.Note.{Note}
 use Rattle.device_bus.specs.declared.undo.Note.TheVariants as note
 use Rattle.cache_timing.specs.Caches.{CachesState, Served}
 use Rattle.mono_model.specs.declared.setup.Setup.{Setup}
-use Rattle.mono_model.specs.declared.final_state.End.TheVariants.{OutputFull}
 use Rattle.mono_model.specs.Arch.{Arch, trapped, synced}
-use Rattle.mono_model.specs.Found.{Found, is_fence_i}
+use Rattle.mono_model.specs.Found.{Found}
+use Rattle.mono_model.specs.Final.{end_of}
 use Rattle.mono_model.specs.Result.{Result}
 use Rattle.mono_model.specs.Effect.{effect, effect_by, retired, note_of, with_note}
 use Rattle.mono_model.specs.Alone.{has_no_room}
-use Rattle.mono_model.specs.Window.{Record, Stage, waiting, until, done}
+use Rattle.mono_model.specs.Window.{Record, done}
 use Rattle.mono_model.specs.Machine.{Machine, flushed}
 use Rattle.mono_model.specs.Interrupt.{is_interrupted, take_interrupt, interrupt_phase}
-use Rattle.mono_model.specs.Commit.{Leaving, stays, full, leaves, faults, syncs, ends, committed, faulted, fenced, leaving_by, leaving_done, leaving_stage, leaving_first, leaving, Ending, plain, trap, sync, Committed, after_leaving, commits, commit_phase}
+use Rattle.mono_model.specs.Commit.{committed, faulted, fenced, leaving, Ending, plain, trap, sync, Committed, ended_with, commit_phase}
 use Rattle.mono_model.specs.Complete.{Completed, due, is_mispredicted, complete_next, completes, completed_by, complete_phase}
 use Rattle.mono_model.specs.Issue.{Passed, none_passed, turn_of, passed, walk, wants_time, replayed, issued, issue_phase}
 use Rattle.mono_model.specs.Fetch.{Try, misses, appends, turns, cache_read, missed, appended, new_record, predicted_next, tried, fetch_try}
+use Rattle.mono_model.proofs.Commits.{GoesOn, leaving_case, every_commit}
 
 -- The interrupt.
 pub interrupt_cycle : (m : Machine) → (interrupt_phase m).cycle ≡ m.cycle
@@ -43,19 +44,6 @@ pub record GoneFrom (s : Setup) (m behind : Machine) : Type 0 where
   pub cycle : behind.cycle ≡ m.cycle
   pub window : length behind.window < length m.window
   pub output : length m.arch.output ≤ s.output → length behind.arch.output ≤ s.output
-
-pub record StoppedAt (m behind : Machine) : Type 0 where
-  pub cycle : behind.cycle ≡ m.cycle
-  pub window : behind.window ≡ m.window
-  pub output : behind.arch.output ≡ m.arch.output
-
-abbrev pub Left : Setup → Machine → Leaving → Type 0
-Left s m stays = Unit {0}
-Left s m (full behind) = StoppedAt m behind
-Left s m (leaves behind) = GoneFrom s m behind
-Left s m (faults behind) = GoneFrom s m behind × (length behind.window ≡ 0)
-Left s m (syncs behind) = GoneFrom s m behind × (length behind.window ≡ 0)
-Left s m (ends behind) = GoneFrom s m behind
 
 -- an instruction that has room for its byte keeps the output within its limit
 with_note_room : (s : Setup) (what : Note) (a : Arch) → has_no_room s what a ≡ false → length a.output ≤ s.output → length (with_note what a.output) ≤ s.output
@@ -87,94 +75,71 @@ committed_gone s rec rest r m is none room = record {
   output = effect_room s r.cause rec.found r rec.time rec.addr m.arch none room;
 }
 
-faulted_gone : (s : Setup) (rec : Record) (rest : List Record) (r : Result) (why : Cause) (m : Machine) → m.window ≡ rec ∷ rest → r.cause ≡ Some why → Left s m (faults (faulted rec rest r m))
+faulted_gone : (s : Setup) (rec : Record) (rest : List Record) (r : Result) (why : Cause) (m : Machine) → m.window ≡ rec ∷ rest → r.cause ≡ Some why → GoneFrom s m (faulted rec rest r m)
 unfolding effect flushed
-faulted_gone s rec rest r why m is some = (
-  record {
-    cycle = refl;
-    window = omega (arith, shorter m.window rest rec is);
-    output = λ within. subst (λ (x : List ℕ). length x ≤ s.output) (sym (fault_output r.cause why rec.found r rec.time rec.addr m.arch some)) within;
-  },
-  refl,
-)
+faulted_gone s rec rest r why m is some = record {
+  cycle = refl;
+  window = omega (arith, shorter m.window rest rec is);
+  output = λ within. subst (λ (x : List ℕ). length x ≤ s.output) (sym (fault_output r.cause why rec.found r rec.time rec.addr m.arch some)) within;
+}
 
-fenced_gone : (s : Setup) (m behind : Machine) → GoneFrom s m behind → Left s m (syncs (fenced s behind))
+fenced_gone : (s : Setup) (m behind : Machine) → GoneFrom s m behind → GoneFrom s m (fenced s behind)
 unfolding flushed synced
-fenced_gone s m behind gone = (record { cycle = gone.cycle; window = omega (arith, gone.window); output = gone.output }, refl)
+fenced_gone s m behind gone = record { cycle = gone.cycle; window = omega (arith, gone.window); output = gone.output }
 
-by_left : (s : Setup) (fence : Bool) (what : Note) (m behind : Machine) → GoneFrom s m behind → Left s m (leaving_by s fence what behind)
-by_left s fence (note.End halt) m behind gone = record { cycle = gone.cycle; window = gone.window; output = gone.output }
-by_left s true note.Nothing m behind gone = fenced_gone s m behind gone
-by_left s true (note.Out byte) m behind gone = fenced_gone s m behind gone
-by_left s false note.Nothing m behind gone = gone
-by_left s false (note.Out byte) m behind gone = gone
+faulted_empty : (rec : Record) (rest : List Record) (r : Result) (m : Machine) → length (faulted rec rest r m).window ≡ 0
+unfolding flushed
+faulted_empty rec rest r m = refl
 
-done_left : (s : Setup) (rec : Record) (rest : List Record) (r : Result) (cause : Option Cause) (m : Machine) → m.window ≡ rec ∷ rest → r.cause ≡ cause → Left s m (leaving_done s rec rest r cause m)
-done_left s rec rest r (Some cause) m is e = faulted_gone s rec rest r cause m is e
-done_left s rec rest r None m is e =
-    cond_both (has_no_room s (note_of r m.arch) m.arch) (full (record m { end = OutputFull }))
-    (leaving_by s (is_fence_i rec.found) (note_of r m.arch) (committed s rec rest r m)) (Left s m)
-    (λ room. record { cycle = refl; window = refl; output = refl })
-    (λ room. by_left s (is_fence_i rec.found) (note_of r m.arch) m (committed s rec rest r m) (committed_gone s rec rest r m is e room))
+fenced_empty : (s : Setup) (m : Machine) → length (fenced s m).window ≡ 0
+unfolding flushed
+fenced_empty s m = refl
 
-stage_left : (s : Setup) (rec : Record) (rest : List Record) (stage : Stage) (m : Machine) → m.window ≡ rec ∷ rest → Left s m (leaving_stage s rec rest stage m)
-stage_left s rec rest waiting m is = tt
-stage_left s rec rest (until e r) m is = tt
-stage_left s rec rest (done r) m is = done_left s rec rest r r.cause m is refl
-
-first_left : (s : Setup) (w : List Record) (m : Machine) → m.window ≡ w → Left s m (leaving_first s w m)
-first_left s [] m is = tt
-first_left s (rec ∷ rest) m is = stage_left s rec rest rec.stage m is
-
-pub leaving_left : (s : Setup) (m : Machine) → Left s m (leaving s m)
-unfolding leaving
-leaving_left s m = first_left s m.window m refl
-
--- What the phase of commit leaves, where `left` records had left before.
+-- What the phase of commit leaves.
 abbrev pub EndingLeft : Ending → ℕ → List Record → Type 0
 EndingLeft plain left w = Unit {0}
 EndingLeft trap left w = (0 < left) × (length w ≡ 0)
 EndingLeft sync left w = (0 < left) × (length w ≡ 0)
 
-pub record CommittedFrom (s : Setup) (m : Machine) (left : ℕ) (c : Committed) : Type 0 where
+pub record CommittedFrom (s : Setup) (m : Machine) (c : Committed) : Type 0 where
   pub cycle : c.machine.cycle ≡ m.cycle
-  pub window : c.left + length c.machine.window ≤ left + length m.window
-  pub more : left ≤ c.left
+  pub window : c.left + length c.machine.window ≤ length m.window
   pub output : length m.arch.output ≤ s.output → length c.machine.arch.output ≤ s.output
   pub ending : EndingLeft c.ending c.left c.machine.window
 
-gone_on : (s : Setup) (m behind : Machine) (left : ℕ) (c : Committed) → GoneFrom s m behind → CommittedFrom s behind (left + 1) c → CommittedFrom s m left c
-gone_on s m behind left c gone on = record {
-  cycle = on.cycle ∙ gone.cycle;
+gone_on : (s : Setup) (m between behind : Machine) (left : ℕ) (ending : Ending) → CommittedFrom s m (ended_with between left plain) → GoneFrom s between behind →
+    EndingLeft ending (left + 1) behind.window → CommittedFrom s m (ended_with behind (left + 1) ending)
+gone_on s m between behind left ending on gone empty = record {
+  cycle = gone.cycle ∙ on.cycle;
   window = omega (arith, on.window, gone.window);
-  more = omega (arith, on.more);
-  output = λ within. on.output (gone.output within);
-  ending = on.ending;
+  output = λ within. gone.output (on.output within);
+  ending = empty;
 }
 
-after_left : (s : Setup) (l : Leaving) (m : Machine) (left : ℕ) (go_on : Machine → Committed) → Left s m l → ((behind : Machine) → CommittedFrom s behind (left + 1) (go_on behind)) →
-    CommittedFrom s m left (after_leaving l m left go_on)
-after_left s stays m left go_on is on = record { cycle = refl; window = omega arith; more = omega arith; output = λ within. within; ending = tt }
-after_left s (full behind) m left go_on is on = record {
-  cycle = is.cycle;
-  window = subst (λ (w : List Record). left + length w ≤ left + length m.window) (sym is.window) (omega arith);
-  more = omega arith;
-  output = λ within. subst (λ (x : List ℕ). length x ≤ s.output) (sym is.output) within;
-  ending = tt;
-}
-after_left s (leaves behind) m left go_on is on = gone_on s m behind left (go_on behind) is (on behind)
-after_left s (faults behind) m left go_on is on = record { cycle = is.0.cycle; window = omega (arith, is.0.window); more = omega arith; output = is.0.output; ending = (omega arith, is.1) }
-after_left s (syncs behind) m left go_on is on = record { cycle = is.0.cycle; window = omega (arith, is.0.window); more = omega arith; output = is.0.output; ending = (omega arith, is.1) }
-after_left s (ends behind) m left go_on is on = record { cycle = is.cycle; window = omega (arith, is.window); more = omega arith; output = is.output; ending = tt }
+-- the same, record by record
+abbrev IsOn : Setup → Machine → ℕ → Machine → Type 0
+IsOn s m left between = CommittedFrom s m (ended_with between left plain)
 
-pub commits_from : (s : Setup) (more left : ℕ) (m : Machine) → CommittedFrom s m left (commits s more left m)
-unfolding commits
-commits_from s zero left m = record { cycle = refl; window = omega arith; more = omega arith; output = λ within. within; ending = tt }
-commits_from s (suc more) left m = after_left s (leaving s m) m left (λ behind. commits s more (left + 1) behind) (leaving_left s m) (λ behind. commits_from s more (left + 1) behind)
+one_from : (s : Setup) (m between : Machine) (left : ℕ) → IsOn s m left between → GoesOn (IsOn s m) (CommittedFrom s m) left between (leaving s between)
+one_from s m between left on =
+    leaving_case s between (GoesOn (IsOn s m) (CommittedFrom s m) left between) on (λ rec rest r is.
+    let behind = committed s rec rest r between in
+    record {
+      if_faults = λ cause why.
+          gone_on s m between (faulted rec rest r between) left trap on (faulted_gone s rec rest r cause between is.window why) (omega arith, faulted_empty rec rest r between);
+      if_full = λ none room. record { cycle = on.cycle; window = on.window; output = on.output; ending = tt };
+      if_ends = λ halt passes.
+          let gone = committed_gone s rec rest r between is.window passes.cause passes.room in
+          gone_on s m between (record behind { end = end_of halt }) left plain on (record { cycle = gone.cycle; window = gone.window; output = gone.output }) tt;
+      if_syncs = λ passes fence. gone_on s m between (fenced s behind) left sync on (fenced_gone s between behind (committed_gone s rec rest r between is.window passes.cause passes.room)) (omega arith, fenced_empty s behind);
+      if_leaves = λ passes fence. gone_on s m between behind left plain on (committed_gone s rec rest r between is.window passes.cause passes.room) tt;
+    })
 
-pub commit_from : (s : Setup) (m : Machine) → CommittedFrom s m 0 (commit_phase s m)
+pub commit_from : (s : Setup) (m : Machine) → CommittedFrom s m (commit_phase s m)
 unfolding commit_phase
-commit_from s m = commits_from s s.params.core_commit 0 m
+commit_from s m =
+    every_commit s (λ more. IsOn s m) (CommittedFrom s m) (λ left between on. on) (λ more left between on. one_from s m between left on)
+    s.params.core_commit 0 m (record { cycle = refl; window = omega arith; output = λ within. within; ending = tt })
 
 -- Complete: records stay, and where fetch has to go on elsewhere, the mispredicted one is among them.
 pub record CompletedFrom (w : List Record) (c : Completed) : Type 0 where

@@ -1,20 +1,14 @@
 -- Each turn leaves time reads served.
-use Rattle.std.proofs.Common.{◌≡◌, ℕ, zero, suc, ◌+◌, ◌≤◌, nat_lt, ◌==◌, ◌&&◌, Bool, true, false, if◌then◌else◌, is_none, Option, Some, None, List, [], ◌∷◌, ◌++◌, refl, subst}
+use Rattle.std.proofs.Common.{◌≡◌, ℕ, ◌≤◌, nat_lt, ◌==◌, ◌&&◌, Bool, true, false, if◌then◌else◌, is_none, Option, Some, None, List, [], ◌∷◌, ◌++◌, refl, subst}
 use Rattle.std.proofs.lemmas.Bool.{cond_both}
 use Rattle.fsim_base.specs.Number.{wrap_sum}
-use Rattle.fsim_base.specs.declared.cause.Cause.{Cause}
-use Rattle.device_bus.specs.declared.undo.Note.{Note}
-use Rattle.device_bus.specs.declared.undo.Note.TheVariants as note
 use Rattle.cache_timing.specs.Caches.{Served}
 use Rattle.mono_model.specs.declared.setup.Setup.{Setup}
-use Rattle.mono_model.specs.declared.final_state.End.TheVariants.{OutputFull}
 use Rattle.mono_model.specs.Setup.{ram_range, is_setup}
 use Rattle.mono_model.specs.Arch.{Arch}
-use Rattle.mono_model.specs.Found.{first_source, second_source, is_fence_i}
+use Rattle.mono_model.specs.Found.{first_source, second_source}
 use Rattle.mono_model.specs.Result.{Result, is_time_read}
-use Rattle.mono_model.specs.Effect.{note_of}
 use Rattle.mono_model.specs.Sequence.{is_unserved}
-use Rattle.mono_model.specs.Alone.{has_no_room}
 use Rattle.mono_model.specs.Window.{Record, Stage, waiting, until, done, class_at}
 use Rattle.mono_model.specs.Machine.{Machine, machine_start, flushed}
 use Rattle.mono_model.specs.Interrupt.{is_interrupted, take_interrupt, interrupt_phase}
@@ -28,6 +22,7 @@ use Rattle.mono_model.proofs.Issue.{issues_all}
 use Rattle.machine_laws.specs.Served.{IsServed, AreServed}
 use Rattle.machine_laws.proofs.Always.{always}
 use Rattle.machine_laws.proofs.TimeReads.{time_read_oldest}
+use Rattle.mono_model.proofs.Commits as commits
 use Rattle.mono_model.proofs.Sound.{setup_facts}
 
 -- interrupt
@@ -40,66 +35,27 @@ interrupt_served m served = by_test (is_interrupted m)
     by_test false = served
 
 -- commit
-abbrev ServedBy : commit.Leaving → Type 0
-ServedBy commit.stays = Unit {0}
-ServedBy (commit.full m) = AreServed m.window
-ServedBy (commit.leaves m) = AreServed m.window
-ServedBy (commit.faults m) = AreServed m.window
-ServedBy (commit.syncs m) = AreServed m.window
-ServedBy (commit.ends m) = AreServed m.window
+abbrev IsOn : ℕ → Machine → Type 0
+IsOn left m = AreServed m.window
 
-module _ (s : Setup) (m : Machine) (rec : Record) (rest : List Record) (r : Result) (whole : AreServed m.window) (served : AreServed rest) where
-  note_served : (fence : Bool) (what : Note) → ServedBy (commit.leaving_by s fence what (commit.committed s rec rest r m))
-  unfolding flushed
-  note_served true (note.End halt) = served
-  note_served false (note.End halt) = served
-  note_served true note.Nothing = tt
-  note_served true (note.Out byte) = tt
-  note_served false note.Nothing = served
-  note_served false (note.Out byte) = served
-
-  cause_served : (cause : Option Cause) → ServedBy (commit.leaving_done s rec rest r cause m)
-  unfolding flushed
-  cause_served (Some cause) = tt
-  cause_served None = by_test (has_no_room s (note_of r m.arch) m.arch)
-    where
-      by_test : (b : Bool) →
-          ServedBy (if b then commit.full (record m { end = OutputFull }) else commit.leaving_by s (is_fence_i rec.found) (note_of r m.arch) (commit.committed s rec rest r m))
-      by_test true = whole
-      by_test false = note_served (is_fence_i rec.found) (note_of r m.arch)
-
-stage_served : (s : Setup) (m : Machine) (rec : Record) (rest : List Record) (stage : Stage) → AreServed m.window → AreServed rest → ServedBy (commit.leaving_stage s rec rest stage m)
-stage_served s m rec rest waiting whole served = tt
-stage_served s m rec rest (until e r) whole served = tt
-stage_served s m rec rest (done r) whole served = cause_served s m rec rest r whole served r.cause
-
-first_served : (s : Setup) (m : Machine) (window : List Record) → AreServed m.window → AreServed window → ServedBy (commit.leaving_first s window m)
-first_served s m [] whole served = tt
-first_served s m (rec ∷ rest) whole served = stage_served s m rec rest rec.stage whole served.1
-
-leaving_served : (s : Setup) (m : Machine) → AreServed m.window → ServedBy (commit.leaving s m)
-unfolding commit.leaving
-leaving_served s m served = first_served s m m.window served served
-
-after_served : (m : Machine) (left : ℕ) (l : commit.Leaving) (go_on : Machine → commit.Committed) → AreServed m.window → ServedBy l →
-    ((behind : Machine) → AreServed behind.window → AreServed (go_on behind).machine.window) → AreServed (commit.after_leaving l m left go_on).machine.window
-after_served m left commit.stays go_on served kept on = served
-after_served m left (commit.full behind) go_on served kept on = kept
-after_served m left (commit.leaves behind) go_on served kept on = on behind kept
-after_served m left (commit.faults behind) go_on served kept on = kept
-after_served m left (commit.syncs behind) go_on served kept on = kept
-after_served m left (commit.ends behind) go_on served kept on = kept
-
-commits_served : (s : Setup) (more left : ℕ) (m : Machine) → AreServed m.window → AreServed (commit.commits s more left m).machine.window
-unfolding commit.commits
-commits_served s zero left m served = served
-commits_served s (suc more) left m served =
-    after_served m left (commit.leaving s m) (λ behind. commit.commits s more (left + 1) behind) served (leaving_served s m served)
-    (λ behind kept. commits_served s more (left + 1) behind kept)
+one_served : (s : Setup) (m : Machine) (left : ℕ) → AreServed m.window → commits.GoesOn IsOn (λ c. AreServed c.machine.window) left m (commit.leaving s m)
+unfolding flushed
+one_served s m left served =
+    commits.leaving_case s m (commits.GoesOn IsOn (λ c. AreServed c.machine.window) left m) served (λ rec rest r is.
+    let rest_served : AreServed rest = (subst AreServed is.window served).1 in
+    record {
+      if_faults = λ cause why. tt;
+      if_full = λ none room. served;
+      if_ends = λ halt passes. rest_served;
+      if_syncs = λ passes fence. tt;
+      if_leaves = λ passes fence. rest_served;
+    })
 
 commit_served : (s : Setup) (m : Machine) → AreServed m.window → AreServed (commit.commit_phase s m).machine.window
 unfolding commit.commit_phase
-commit_served s m served = commits_served s s.params.core_commit 0 m served
+commit_served s m served =
+    commits.every_commit s (λ more. IsOn) (λ c. AreServed c.machine.window) (λ left m served. served) (λ more left m served. one_served s m left served)
+    s.params.core_commit 0 m served
 
 -- complete
 done_served : (rec : Record) (r : Result) (rest : Completed) → is_unserved rec.found r rec.time ≡ false → AreServed rest.records → AreServed (complete_next rec (Some r) rest).records

@@ -1,25 +1,18 @@
 -- What each turn makes of the list of orders, of the number of the record to fetch and of the count of records fetched.
 use Rattle.std.proofs.Common.{◌≡◌, ℕ, zero, suc, ◌+◌, ◌≤◌, nat_lt, ◌==◌, if◌then◌else◌, Bool, true, false, Option, Some, None, List, [], ◌∷◌, length, refl, ap, sym, ◌∙◌, subst, arith, length-append}
 use Rattle.std.proofs.lemmas.Bool.{cond_both, cond-false}
-use Rattle.fsim_base.specs.declared.cause.Cause.{Cause}
 use Rattle.fsim_base.specs.Number.{wrap_sum}
 use Rattle.rollback_cmds.specs.declared.order.Order.{Order}
 use Rattle.rollback_cmds.specs.declared.order.Order.TheVariants.{Set, Commit, Interrupt, Time, Stop, Sync}
 use Rattle.rollback_cmds.specs.Order.{opens_epoch_of}
-use Rattle.device_bus.specs.declared.undo.Note.{Note}
-use Rattle.device_bus.specs.declared.undo.Note.TheVariants as note
 use Rattle.cache_timing.specs.Caches.{Served}
 use Rattle.mono_model.specs.declared.setup.Setup.{Setup}
-use Rattle.mono_model.specs.declared.final_state.End.TheVariants.{OutputFull}
 use Rattle.mono_model.specs.Final.{has_ended}
-use Rattle.mono_model.specs.Found.{is_fence_i}
 use Rattle.mono_model.specs.Result.{Result}
-use Rattle.mono_model.specs.Effect.{note_of}
-use Rattle.mono_model.specs.Alone.{has_no_room}
-use Rattle.mono_model.specs.Window.{Record, Stage, waiting, until, done}
+use Rattle.mono_model.specs.Window.{Record, done}
 use Rattle.mono_model.specs.Machine.{Machine, flushed}
 use Rattle.mono_model.specs.Interrupt.{is_interrupted, take_interrupt, interrupt_phase}
-use Rattle.mono_model.specs.Commit.{Leaving, stays, full, leaves, faults, syncs, ends, committed, leaving_by, leaving_done, leaving_stage, leaving_first, leaving, Ending, plain, trap, sync, Committed, after_leaving, commits, commit_phase}
+use Rattle.mono_model.specs.Commit.{leaving, Ending, plain, trap, sync, Committed, ended_with, commit_phase}
 use Rattle.mono_model.specs.Complete.{Completed, due, is_mispredicted, complete_next, completes, completed_by, complete_phase}
 use Rattle.mono_model.specs.Issue.{none_passed, wants_time, replayed, issued, issue_phase}
 use Rattle.mono_model.specs.Fetch.{Try, misses, appends, turns, may_fetch, cache_read, missed, appended, new_record, predicted_next, tried, fetch_try}
@@ -27,82 +20,40 @@ use Rattle.mono_model.specs.Cycle.{end_of_cycle}
 use Rattle.mono_model.specs.Path.{entry, stops}
 use Rattle.mono_model.specs.Demand.{Demand, next, ending_orders, commit_order, redirect_orders, path_orders, demand_interrupt, demand_commit, demand_complete, demand_issue, demand_try, At, interrupting, committing, completing, issuing, trying, ending, stopping, halted, is_try, try_or_end, at_after_commit, Run, tried_turn, turn_at, number_of}
 use Rattle.mono_model.specs.Split.{is_halted}
+use Rattle.mono_model.proofs.Commits.{GoesOn, leaving_case, every_commit}
 use Rattle.machine_laws.proofs.Phases.{walk_length, interrupt_flushes, interrupt_window, EndingLeft, commit_from, completes_from, complete_window, replay_flushes}
 
 -- Commit without a flush: the records that leave and those that stay are all there were.
-record Went (m behind : Machine) : Type 0 where
-  window : suc (length behind.window) ≡ length m.window
-  fetched : behind.counts.fetched ≡ m.counts.fetched
-
-abbrev LeftAll : Machine → Leaving → Type 0
-LeftAll m stays = Unit {0}
-LeftAll m (full behind) = (length behind.window ≡ length m.window) × (behind.counts.fetched ≡ m.counts.fetched)
-LeftAll m (leaves behind) = Went m behind
-LeftAll m (faults behind) = behind.counts.fetched ≡ m.counts.fetched
-LeftAll m (syncs behind) = behind.counts.fetched ≡ m.counts.fetched
-LeftAll m (ends behind) = Went m behind
-
-by_all : (s : Setup) (fence : Bool) (what : Note) (m behind : Machine) → Went m behind → LeftAll m (leaving_by s fence what behind)
-unfolding flushed
-by_all s fence (note.End halt) m behind went = record { window = went.window; fetched = went.fetched }
-by_all s true note.Nothing m behind went = went.fetched
-by_all s true (note.Out byte) m behind went = went.fetched
-by_all s false note.Nothing m behind went = went
-by_all s false (note.Out byte) m behind went = went
-
-done_all : (s : Setup) (rec : Record) (rest : List Record) (r : Result) (cause : Option Cause) (m : Machine) → m.window ≡ rec ∷ rest → LeftAll m (leaving_done s rec rest r cause m)
-unfolding flushed
-done_all s rec rest r (Some cause) m is = refl
-done_all s rec rest r None m is =
-    cond_both (has_no_room s (note_of r m.arch) m.arch) (full (record m { end = OutputFull }))
-    (leaving_by s (is_fence_i rec.found) (note_of r m.arch) (committed s rec rest r m)) (LeftAll m)
-    (λ room. (refl, refl))
-    (λ room. by_all s (is_fence_i rec.found) (note_of r m.arch) m (committed s rec rest r m) (record { window = sym (ap (λ (w : List Record). length w) is); fetched = refl }))
-
-stage_all : (s : Setup) (rec : Record) (rest : List Record) (stage : Stage) (m : Machine) → m.window ≡ rec ∷ rest → LeftAll m (leaving_stage s rec rest stage m)
-stage_all s rec rest waiting m is = tt
-stage_all s rec rest (until e r) m is = tt
-stage_all s rec rest (done r) m is = done_all s rec rest r r.cause m is
-
-first_all : (s : Setup) (w : List Record) (m : Machine) → m.window ≡ w → LeftAll m (leaving_first s w m)
-first_all s [] m is = tt
-first_all s (rec ∷ rest) m is = stage_all s rec rest rec.stage m is
-
-leaving_all : (s : Setup) (m : Machine) → LeftAll m (leaving s m)
-unfolding leaving
-leaving_all s m = first_all s m.window m refl
-
 abbrev IsWhole : Ending → ℕ → ℕ → Type 0
 IsWhole plain count all = count ≡ all
 IsWhole trap count all = Unit {0}
 IsWhole sync count all = Unit {0}
 
-record Whole (m : Machine) (left : ℕ) (c : Committed) : Type 0 where
-  window : IsWhole c.ending (c.left + length c.machine.window) (left + length m.window)
+record Whole (m : Machine) (c : Committed) : Type 0 where
+  window : IsWhole c.ending (c.left + length c.machine.window) (length m.window)
   fetched : c.machine.counts.fetched ≡ m.counts.fetched
 
-after_all : (l : Leaving) (m : Machine) (left : ℕ) (go_on : Machine → Committed) → LeftAll m l → ((behind : Machine) → Whole behind (left + 1) (go_on behind)) →
-    Whole m left (after_leaving l m left go_on)
-after_all stays m left go_on is on = record { window = refl; fetched = refl }
-after_all (full behind) m left go_on is on = record { window = ap (λ (k : ℕ). left + k) is.0; fetched = is.1 }
-after_all (leaves behind) m left go_on is on =
-    let e : left + 1 + length behind.window ≡ left + length m.window = omega (arith, is.window) in
+abbrev IsOn : Machine → ℕ → Machine → Type 0
+IsOn m left between = Whole m (ended_with between left plain)
+
+one_whole : (s : Setup) (m between : Machine) (left : ℕ) → IsOn m left between → GoesOn (IsOn m) (Whole m) left between (leaving s between)
+unfolding flushed
+one_whole s m between left on =
+    leaving_case s between (GoesOn (IsOn m) (Whole m) left between) on (λ rec rest r is.
+    let count : length between.window ≡ suc (length rest) = ap (λ (w : List Record). length w) is.window in
     record {
-      window = subst (IsWhole (go_on behind).ending ((go_on behind).left + length (go_on behind).machine.window)) e (on behind).window;
-      fetched = (on behind).fetched ∙ is.fetched;
-    }
-after_all (faults behind) m left go_on is on = record { window = tt; fetched = is }
-after_all (syncs behind) m left go_on is on = record { window = tt; fetched = is }
-after_all (ends behind) m left go_on is on = record { window = omega (arith, is.window); fetched = is.fetched }
+      if_faults = λ cause why. record { window = tt; fetched = on.fetched };
+      if_full = λ none room. record { window = on.window; fetched = on.fetched };
+      if_ends = λ halt passes. record { window = omega (arith, on.window); fetched = on.fetched };
+      if_syncs = λ passes fence. record { window = tt; fetched = on.fetched };
+      if_leaves = λ passes fence. record { window = omega (arith, on.window); fetched = on.fetched };
+    })
 
-commits_all : (s : Setup) (more left : ℕ) (m : Machine) → Whole m left (commits s more left m)
-unfolding commits
-commits_all s zero left m = record { window = refl; fetched = refl }
-commits_all s (suc more) left m = after_all (leaving s m) m left (λ behind. commits s more (left + 1) behind) (leaving_all s m) (λ behind. commits_all s more (left + 1) behind)
-
-commit_all : (s : Setup) (m : Machine) → Whole m 0 (commit_phase s m)
+commit_all : (s : Setup) (m : Machine) → Whole m (commit_phase s m)
 unfolding commit_phase
-commit_all s m = commits_all s s.params.core_commit 0 m
+commit_all s m =
+    every_commit s (λ more. IsOn m) (Whole m) (λ left between on. on) (λ more left between on. one_whole s m between left on)
+    s.params.core_commit 0 m (record { window = omega arith; fetched = refl })
 
 -- What a turn makes: `n` is the number of the record to fetch before it, or one more where it appended one, and `to` that
 -- behind it.
@@ -172,10 +123,9 @@ commit_turned s d =
     let c = commit_phase s d.machine in
     let whole = commit_all s d.machine in
     let from = commit_from s d.machine in
-    let e : 0 + length d.machine.window ≡ length d.machine.window = omega arith in
     still committing d (turn_at s committing d) whole.fetched
     (commit_made d.to_commit (d.to_commit + c.left) c.left c.machine.arch.pc (length d.machine.window) c.ending (is_halted (at_after_commit (demand_commit s d))) c.machine.window d.orders refl from.ending (omega (arith, from.window))
-    (subst (IsWhole c.ending (c.left + length c.machine.window)) e whole.window)
+    whole.window
     (goes_on (has_ended c.machine.end) ending completing refl refl))
 
 IsSame : Option ℕ → ℕ → ℕ → Type 0

@@ -1,3 +1,4 @@
 pub mod Path
 pub mod Sound
 pub mod Issue
+pub mod Commits

@@ -1,6 +1,6 @@
 -- The second phase of a cycle: the oldest records, once done, leave in order and change the architectural state
 -- (Hennessy and Patterson, Computer Architecture, section 3.6, commit).
-use Rattle.std.specs.Prelude.{◌≡◌, refl, ℕ, zero, suc, ◌+◌, if◌then◌else◌, Bool, true, false, Option, Some, None, List, [], ◌∷◌}
+use Rattle.std.specs.Prelude.{ℕ, zero, suc, ◌+◌, Bool, true, false, Option, Some, None, List, [], ◌∷◌}
 use Rattle.fsim_base.specs.declared.access.Access.{Access}
 use Rattle.fsim_base.specs.declared.access.Access.TheVariants as access
 use Rattle.fsim_base.specs.declared.access.Spot.TheVariants.{Ram}
@@ -70,30 +70,28 @@ faulted rec rest r m =
 abbrev pub fenced : Setup → Machine → Machine
 fenced s m = let f = flushed [] m.arch.pc m in record f { arch = synced s f.arch }
 
-abbrev pub leaving_by : Setup → Bool → Note → Machine → Leaving
-leaving_by s fence (note.End halt) m = ends (record m { end = end_of halt })
-leaving_by s true note m = syncs (fenced s m)
-leaving_by s false note m = leaves m
-
-abbrev pub leaving_done : Setup → Record → List Record → Result → Option Cause → Machine → Leaving
-leaving_done s rec rest r (Some cause) m = faults (faulted rec rest r m)
-leaving_done s rec rest r None m =
-    if has_no_room s (note_of r m.arch) m.arch
-    then full (record m { end = OutputFull })
-    else leaving_by s (is_fence_i rec.found) (note_of r m.arch) (committed s rec rest r m)
+-- What the oldest record does once it is done: by its cause, by whether the output has no room for its byte, by what it
+-- does outside, and by whether it is a FENCE.I. The machine as it stands, with the trap taken, and with the changes made.
+abbrev pub leaving_by : Setup → Machine → Machine → Machine → Option Cause → Bool → Note → Bool → Leaving
+leaving_by s now trapped changed (Some cause) no_room what fence = faults trapped
+leaving_by s now trapped changed None true what fence = full (record now { end = OutputFull })
+leaving_by s now trapped changed None false (note.End halt) fence = ends (record changed { end = end_of halt })
+leaving_by s now trapped changed None false what true = syncs (fenced s changed)
+leaving_by s now trapped changed None false what false = leaves changed
 
 abbrev pub leaving_stage : Setup → Record → List Record → Stage → Machine → Leaving
 leaving_stage s rec rest waiting m = stays
 leaving_stage s rec rest (until e r) m = stays
-leaving_stage s rec rest (done r) m = leaving_done s rec rest r r.cause m
-
-abbrev pub leaving_first : Setup → List Record → Machine → Leaving
-leaving_first s [] m = stays
-leaving_first s (rec ∷ rest) m = leaving_stage s rec rest rec.stage m
+leaving_stage s rec rest (done r) m =
+    leaving_by s m (faulted rec rest r m) (committed s rec rest r m)
+    r.cause (has_no_room s (note_of r m.arch) m.arch) (note_of r m.arch) (is_fence_i rec.found)
 
 -- what the oldest record does
 unfoldable pub leaving : Setup → Machine → Leaving
-leaving s m = leaving_first s m.window m
+leaving s m = elim m.window [
+  | [] ↦ stays
+  | rec ∷ rest ↦ leaving_stage s rec rest rec.stage m
+]
 
 -- How the phase ended, beside the machine behind it.
 pub data Ending : Type 0 where
@@ -113,24 +111,17 @@ pub record Committed : Type 0 where
 abbrev pub ended_with : Machine → ℕ → Ending → Committed
 ended_with m left ending = record { machine = m; left = left; ending = ending }
 
--- behind the oldest record, of which `left` had left before: on to the next, or the phase ends
-abbrev pub after_leaving : Leaving → Machine → ℕ → (Machine → Committed) → Committed
-after_leaving stays m left go_on = ended_with m left plain
-after_leaving (full behind) m left go_on = ended_with behind left plain
-after_leaving (leaves behind) m left go_on = go_on behind
-after_leaving (faults behind) m left go_on = ended_with behind (left + 1) trap
-after_leaving (syncs behind) m left go_on = ended_with behind (left + 1) sync
-after_leaving (ends behind) m left go_on = ended_with behind (left + 1) plain
-
--- at most so many more records leave
+-- at most so many more records leave, where `left` have left
 unfoldable pub commits : Setup → ℕ → ℕ → Machine → Committed
 commits s zero left m = ended_with m left plain
-commits s (suc more) left m = after_leaving (leaving s m) m left (λ behind. commits s more (left + 1) behind)
-
-pub commits-suc : (s : Setup) (more left : ℕ) (m : Machine) →
-    commits s (suc more) left m ≡ after_leaving (leaving s m) m left (λ behind. commits s more (left + 1) behind)
-unfolding commits
-commits-suc s more left m = refl
+commits s (suc more) left m = elim (leaving s m) [
+  | stays ↦ ended_with m left plain
+  | full behind ↦ ended_with behind left plain
+  | leaves behind ↦ commits s more (left + 1) behind
+  | faults behind ↦ ended_with behind (left + 1) trap
+  | syncs behind ↦ ended_with behind (left + 1) sync
+  | ends behind ↦ ended_with behind (left + 1) plain
+]
 
 unfoldable pub commit_phase : Setup → Machine → Committed
 commit_phase s m = commits s s.params.core_commit 0 m

@@ -2,8 +2,6 @@
 -- for longer than the caches take.
 use Rattle.std.proofs.Common.{ℕ, zero, suc, ◌+◌, ◌≤◌, ◌&&◌, ◌==◌, not, nat_lt, Bool, true, false, Option, Some, None, List, [], ◌∷◌, ap, sym, subst, arith}
 use Rattle.std.proofs.lemmas.Bool.{cond_both}
-use Rattle.fsim_base.specs.declared.cause.Cause.{Cause}
-use Rattle.fsim_base.specs.declared.instruction.Halt.{Halt}
 use Rattle.rollback_cmds.specs.declared.order.Order.{Order}
 use Rattle.rollback_cmds.specs.declared.order.Order.TheVariants.{Interrupt, Time}
 use Rattle.fsim_base.specs.Number.{wrap_sum}
@@ -13,24 +11,20 @@ use Rattle.cache_timing.specs.Cache.{touched}
 use Rattle.cache_timing.specs.Caches.{CachesState, Served, miss_cycles, followed, icache_touched, fetched}
 use Rattle.trace_entry.specs.declared.Entry.{Entry}
 use Rattle.reorder_buffer.specs.declared.slot.Slot.{Slot}
-use Rattle.reorder_buffer.specs.declared.slot.SlotState.{SlotState}
-use Rattle.reorder_buffer.specs.declared.slot.SlotState.TheVariants.{Waiting, Until, Done}
-use Rattle.mono_model.specs.declared.final_state.End.TheVariants.{OutputFull}
 use Rattle.mono_model.specs.declared.setup.Setup.{Setup}
 use Rattle.mono_model.specs.Setup.{caches_params}
 use Rattle.mono_model.specs.Sound.{IsSetup}
-use Rattle.mono_model.specs.Found.{is_fence_i}
 use Rattle.mono_model.specs.Demand.{At, interrupting, committing, completing, issuing, trying, ending, stopping, halted, place, needed_entry}
-use Rattle.timing_side.specs.Slots.{found_in}
 use Rattle.timing_side.specs.Timing.{Timing, timing_start, cut_to, quiet, ordering}
 use Rattle.timing_side.specs.Interrupt.{is_pending, take_interrupt, timing_interrupt}
-use Rattle.timing_side.specs.Commit.{Leaving, stays, full, leaves, faults, syncs, ends, committed, leaving_by, has_no_room, leaving_done, leaving_state, leaving_first, leaving, Committed, after_leaving, commits, timing_commit}
+use Rattle.timing_side.specs.Commit.{leaving, timing_commit}
 use Rattle.timing_side.specs.Complete.{completes, completed_by, timing_complete}
 use Rattle.timing_side.specs.Issue.{wants_time, replayed, issued, timing_issue}
 use Rattle.timing_side.specs.Fetch.{is_fetchable, cache_read, missed, appended, path_orders, predicted_next, Tried, tried, timing_try}
 use Rattle.timing_side.specs.Turn.{timing_turn, timing_end_of_cycle}
 use Rattle.timing_side.specs.Step.{TimingPlace, Stepped, timing_place_start, step_by, telling, timing_step}
 use Rattle.timing_laws.specs.Seen.{seen_at}
+use Rattle.timing_laws.proofs.Commits.{GoesOn, leaving_case, every_commit}
 use Rattle.timing_laws.proofs.Stepping.{starts, place_step}
 
 pub record IsBounded (t : Timing) : Type 0 where
@@ -44,59 +38,24 @@ interrupt_bounded t is =
     (λ e. record { retired = is.retired; resume = omega arith }) (λ e. is)
 
 -- the slots that leave
-abbrev LeavesBounded : Leaving → Type 0
-LeavesBounded stays = Unit {0}
-LeavesBounded (full behind) = IsBounded behind
-LeavesBounded (leaves behind) = IsBounded behind
-LeavesBounded (faults handler behind) = IsBounded behind
-LeavesBounded (syncs behind) = IsBounded behind
-LeavesBounded (ends behind) = IsBounded behind
+abbrev IsOn : ℕ → Timing → Type 0
+IsOn left t = IsBounded t
 
-by_bounded : (fence : Bool) (halt : Option Halt) (t : Timing) → IsBounded t → LeavesBounded (leaving_by fence halt t)
+one_bounded : (s : Setup) (t : Timing) (left : ℕ) → IsBounded t → GoesOn IsOn (λ c. IsBounded c.timing) left t (leaving s t)
 unfolding cut_to
-by_bounded fence (Some halt) t is = record { retired = is.retired; resume = is.resume }
-by_bounded true None t is = record { retired = is.retired; resume = omega arith }
-by_bounded false None t is = is
-
-done_bounded : (s : Setup) (slot : Slot) (rest : List Slot) (cause : Option Cause) (t : Timing) → IsBounded t → LeavesBounded (leaving_done s slot rest cause t)
-unfolding cut_to
-done_bounded s slot rest (Some cause) t is = record { retired = omega (arith, is.retired); resume = omega arith }
-done_bounded s slot rest None t is =
-    cond_both (has_no_room s slot t) (full (record t { end = OutputFull })) (leaving_by (is_fence_i (found_in slot)) slot.halt (committed s slot rest t)) LeavesBounded
-    (λ room. record { retired = is.retired; resume = is.resume })
-    (λ room. by_bounded (is_fence_i (found_in slot)) slot.halt (committed s slot rest t) (record { retired = omega (arith, is.retired); resume = is.resume }))
-
-state_bounded : (s : Setup) (slot : Slot) (rest : List Slot) (state : SlotState) (t : Timing) → IsBounded t → LeavesBounded (leaving_state s slot rest state t)
-state_bounded s slot rest Waiting t is = tt
-state_bounded s slot rest (Until e) t is = tt
-state_bounded s slot rest Done t is = done_bounded s slot rest slot.cause t is
-
-first_bounded : (s : Setup) (slots : List Slot) (t : Timing) → IsBounded t → LeavesBounded (leaving_first s slots t)
-first_bounded s [] t is = tt
-first_bounded s (slot ∷ rest) t is = state_bounded s slot rest slot.state t is
-
-leaving_bounded : (s : Setup) (t : Timing) → IsBounded t → LeavesBounded (leaving s t)
-unfolding leaving
-leaving_bounded s t is = first_bounded s t.slots t is
-
-after_bounded : (l : Leaving) (t : Timing) (left : ℕ) (go_on : Timing → Committed) → LeavesBounded l → IsBounded t →
-    ((behind : Timing) → IsBounded behind → IsBounded (go_on behind).timing) → IsBounded (after_leaving l t left go_on).timing
-after_bounded stays t left go_on leaves_is is on = is
-after_bounded (full behind) t left go_on leaves_is is on = leaves_is
-after_bounded (leaves behind) t left go_on leaves_is is on = on behind leaves_is
-after_bounded (faults handler behind) t left go_on leaves_is is on = leaves_is
-after_bounded (syncs behind) t left go_on leaves_is is on = leaves_is
-after_bounded (ends behind) t left go_on leaves_is is on = leaves_is
-
-commits_bounded : (s : Setup) (more left : ℕ) (t : Timing) → IsBounded t → IsBounded (commits s more left t).timing
-unfolding commits
-commits_bounded s zero left t is = is
-commits_bounded s (suc more) left t is =
-    after_bounded (leaving s t) t left (λ behind. commits s more (left + 1) behind) (leaving_bounded s t is) is (λ behind now. commits_bounded s more (left + 1) behind now)
+one_bounded s t left is =
+    leaving_case s t (GoesOn IsOn (λ c. IsBounded c.timing) left t) is (λ slot rest done. record {
+      if_faults = λ cause why. record { retired = omega (arith, is.retired); resume = omega arith };
+      if_full = λ none room. record { retired = is.retired; resume = is.resume };
+      if_ends = λ halt passes. record { retired = omega (arith, is.retired); resume = is.resume };
+      if_syncs = λ passes fence. record { retired = omega (arith, is.retired); resume = omega arith };
+      if_leaves = λ passes fence. record { retired = omega (arith, is.retired); resume = is.resume };
+    })
 
 commit_bounded : (s : Setup) (t : Timing) → IsBounded t → IsBounded (timing_commit s t).timing
 unfolding timing_commit
-commit_bounded s t is = commits_bounded s s.params.core_commit 0 t is
+commit_bounded s t is =
+    every_commit s (λ more. IsOn) (λ c. IsBounded c.timing) (λ left t is. is) (λ more left t is. one_bounded s t left is) s.params.core_commit 0 t is
 
 completed_bounded : (redirect : Option ℕ) (slots : List Slot) (t : Timing) → IsBounded t → IsBounded (completed_by redirect slots t)
 unfolding cut_to

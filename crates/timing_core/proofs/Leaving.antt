@@ -14,7 +14,8 @@ use Rattle.mono_model.specs.Found.{flow_in, is_fence_i}
 use Rattle.timing_side.specs.Slots.{found_in}
 use Rattle.timing_side.specs.Timing.{Timing}
 use Rattle.timing_side.specs.Commit as phase
-use Rattle.timing_side.specs.Commit.{committed, faulted, has_no_room, leaving_by, leaving_done, leaving_state, leaving_first, leaving, after_leaving, ended_with, commits, commits-suc}
+use Rattle.timing_side.specs.Commit.{committed, faulted, has_no_room, leaving_by, leaving_done, leaving_state, leaving_first, leaving, after_leaving, ended_with, commits}
+use Rattle.timing_laws.proofs.Commits.{leaving_case, commits-suc}
 use Rattle.timing_core.specs.declared.commit.Leaving.{Leaving}
 use Rattle.timing_core.specs.declared.commit.Committed.{Committed}
 use Rattle.timing_core.specs.Small.{IsBelow}
@@ -135,14 +136,6 @@ below_more low high t more below = record {
 }
 
 -- the numbers behind a slot that leaves
-IsBelowBehind : ℕ → phase.Leaving → Type 0
-IsBelowBehind limit phase.stays = Unit {0}
-IsBelowBehind limit (phase.full behind) = Unit {0}
-IsBelowBehind limit (phase.leaves behind) = IsBelow limit behind
-IsBelowBehind limit (phase.faults handler behind) = Unit {0}
-IsBelowBehind limit (phase.syncs behind) = Unit {0}
-IsBelowBehind limit (phase.ends behind) = Unit {0}
-
 pub sent : (b : Bool) → (if b then 1 else 0) ≤ 1
 sent true = omega arith
 sent false = omega arith
@@ -163,47 +156,16 @@ committed_below s slot rest t limit below = record {
   output = omega (arith, sent slot.sends);
 }
 
-by_below : (fence : Bool) (halt : Option Halt) (t : Timing) (limit : ℕ) → IsBelow limit t → IsBelowBehind limit (leaving_by fence halt t)
-unfolding IsBelowBehind
-by_below fence (Some halt) t limit below = tt
-by_below true None t limit below = tt
-by_below false None t limit below = below
-
-done_below : (s : Setup) (slot : Slot) (rest : List Slot) (cause : Option Cause) (t : Timing) (limit : ℕ) → IsBelow limit t → IsBelowBehind (limit + 1) (leaving_done s slot rest cause t)
-unfolding IsBelowBehind
-done_below s slot rest (Some cause) t limit below = tt
-done_below s slot rest None t limit below = by_room (has_no_room s slot t)
-  where
-    by_room : (b : Bool) → IsBelowBehind (limit + 1)
-        (if b then phase.full (record t { end = OutputFull }) else leaving_by (is_fence_i (found_in slot)) slot.halt (committed s slot rest t))
-    by_room true = tt
-    by_room false = by_below (is_fence_i (found_in slot)) slot.halt (committed s slot rest t) (limit + 1) (committed_below s slot rest t limit below)
-
-state_below : (s : Setup) (slot : Slot) (rest : List Slot) (state : SlotState) (t : Timing) (limit : ℕ) → IsBelow limit t → IsBelowBehind (limit + 1) (leaving_state s slot rest state t)
-unfolding IsBelowBehind
-state_below s slot rest Waiting t limit below = tt
-state_below s slot rest (Until e) t limit below = tt
-state_below s slot rest Done t limit below = done_below s slot rest slot.cause t limit below
-
-first_below : (s : Setup) (slots : List Slot) (t : Timing) (limit : ℕ) → IsBelow limit t → IsBelowBehind (limit + 1) (leaving_first s slots t)
-unfolding IsBelowBehind
-first_below s [] t limit below = tt
-first_below s (slot ∷ rest) t limit below = state_below s slot rest slot.state t limit below
-
-behind_below : (l : phase.Leaving) (t : Timing) (left limit : ℕ) → None ≡ ended_by (kind_of l) left → IsBelowBehind limit l → IsBelow limit (behind_of t l)
-unfolding IsBelowBehind
-behind_below phase.stays t left limit none below = absurd (cc)
-behind_below (phase.full behind) t left limit none below = absurd (cc)
-behind_below (phase.leaves behind) t left limit none below = below
-behind_below (phase.faults handler behind) t left limit none below = absurd (cc)
-behind_below (phase.syncs behind) t left limit none below = absurd (cc)
-behind_below (phase.ends behind) t left limit none below = absurd (cc)
-
 pub leaves_below : (s : Setup) (t : Timing) (left limit : ℕ) (kind : Leaving) → kind ≡ kind_of (leaving s t) → None ≡ ended_by kind left → IsBelow limit t →
     IsBelow (limit + 1) (behind_of t (leaving s t))
-unfolding leaving
 leaves_below s t left limit kind is none below =
-    behind_below (leaving s t) t left (limit + 1) (none ∙ ap (λ (l : Leaving). ended_by l left) is) (first_below s t.slots t limit below)
+    leaving_case s t (λ l. None ≡ ended_by (kind_of l) left → IsBelow (limit + 1) (behind_of t l)) (λ on. absurd (cc)) (λ slot rest done. record {
+      if_faults = λ cause why on. absurd (cc);
+      if_full = λ cause room on. absurd (cc);
+      if_ends = λ halt passes on. absurd (cc);
+      if_syncs = λ passes fence on. absurd (cc);
+      if_leaves = λ passes fence on. committed_below s slot rest t limit below;
+    }) (none ∙ ap (λ (l : Leaving). ended_by l left) is)
 
 -- the phase as far as it has come
 pub record IsUnderWay (s : Setup) (t : Timing) (left : ℕ) (behind : Timing) : Type 0 where

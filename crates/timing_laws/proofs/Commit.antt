@@ -26,10 +26,13 @@ use Rattle.mono_model.specs.Demand.{Demand, ending_orders, commit_order, demand_
 use Rattle.machine_laws.specs.Relation.{Tracked, Tracks, Related, Within}
 use Rattle.mono_model.proofs.Path.{path_commit}
 use Rattle.machine_laws.proofs.Commit.{numbered, KeptBy, effect_is, leaving_kept, related_number, commit_related}
+use Rattle.mono_model.proofs.Commits.{every_commit}
+use Rattle.mono_model.proofs.Commits as walk
 use Rattle.timing_side.specs.Slots.{found_in}
 use Rattle.timing_side.specs.Timing.{Timing, cut_to}
 use Rattle.timing_side.specs.Commit as timing
 use Rattle.timing_laws.specs.Seen.{state_of, slot_of, slots_of, seen}
+use Rattle.timing_laws.proofs.Commits.{commits-suc}
 use Rattle.timing_laws.proofs.Effects.{committed_retired, committed_output, faulted_retired, faulted_output}
 use Rattle.timing_laws.proofs.Entries.{entry_addr, entry_access, entry_cause, entry_next, entry_goes, entry_out, entry_halt, entry_irq, entry_cmp, slot_says, slots_length, slots_same, cut_seen, IsPhase}
 
@@ -139,7 +142,7 @@ module _ (s : Setup) (m : Machine) (n : ℕ) (os : List Order) (rec : Record) (r
 
   by_note : (fence : Bool) (what : Note) → r.cause ≡ None →
       timing.leaving_by fence (halt_in what) (timing.committed s slot (slots_of (entry s os) (suc n) rest) (seen s (numbered m n os)))
-      ≡ seen_leaving s n os (mono.leaving_by s fence what (mono.committed s rec rest r m))
+      ≡ seen_leaving s n os (mono.leaving_by s m (mono.faulted rec rest r m) (mono.committed s rec rest r m) None false what fence)
   unfolding seen
   by_note fence (note.End halt) none = ap (λ (t : Timing). timing.ends (record t { end = end_of halt })) (committed_seen none)
   by_note true note.Nothing none = ap timing.syncs (fenced_seen none)
@@ -148,7 +151,8 @@ module _ (s : Setup) (m : Machine) (n : ℕ) (os : List Order) (rec : Record) (r
   by_note false (note.Out byte) none = ap timing.leaves (committed_seen none)
 
   by_cause : (cause : Option Cause) → r.cause ≡ cause → timing.leaving_done s slot (slots_of (entry s os) (suc n) rest) cause (seen s (numbered m n os))
-      ≡ seen_leaving s n os (mono.leaving_done s rec rest r cause m)
+      ≡ seen_leaving s n os
+      (mono.leaving_by s m (mono.faulted rec rest r m) (mono.committed s rec rest r m) cause (has_no_room s (note_of r m.arch) m.arch) (note_of r m.arch) (is_fence_i rec.found))
   unfolding seen
   by_cause (Some why) is =
       let handler : slot.next ≡ behind.pc = entry_next s os n ∙ ap (λ (a : Arch). a.pc) (sym is_seq) in
@@ -166,7 +170,7 @@ module _ (s : Setup) (m : Machine) (n : ℕ) (os : List Order) (rec : Record) (r
       by_test : (b : Bool) →
           (if b then timing.full (record (seen s (numbered m n os)) { end = OutputFull }) else go_on (is_fence_i rec.found) (halt_in (note_of r m.arch)))
           ≡ seen_leaving s n os
-          (if b then mono.full (record m { end = OutputFull }) else mono.leaving_by s (is_fence_i rec.found) (note_of r m.arch) (mono.committed s rec rest r m))
+          (mono.leaving_by s m (mono.faulted rec rest r m) (mono.committed s rec rest r m) None b (note_of r m.arch) (is_fence_i rec.found))
       by_test true = refl
       by_test false = by_note (is_fence_i rec.found) (note_of r m.arch) is
 
@@ -191,7 +195,7 @@ stage_seen s m n os rec rest (done r) is there related =
     ∙ by_cause s m n os rec rest r related.arch tracked tracks.1 on related.within r.cause refl
 
 first_seen : (s : Setup) (m : Machine) (n : ℕ) (os : List Order) (window : List Record) → m.window ≡ window → Related s (numbered m n os) →
-    timing.leaving_first s (slots_of (entry s os) n window) (seen s (numbered m n os)) ≡ seen_leaving s n os (mono.leaving_first s window m)
+    timing.leaving_first s (slots_of (entry s os) n window) (seen s (numbered m n os)) ≡ seen_leaving s n os (elim window [ [] ↦ mono.stays | rec ∷ rest ↦ mono.leaving_stage s rec rest rec.stage m ])
 first_seen s m n os [] there related = refl
 first_seen s m n os (rec ∷ rest) there related = stage_seen s m n os rec rest rec.stage refl there related
 
@@ -213,34 +217,53 @@ seen_committed s start os c = record {
   ending = seen_ending c.machine.arch.pc c.ending;
 }
 
-after_seen : (s : Setup) (start left : ℕ) (m : Machine) (os : List Order) (l : mono.Leaving) (go_on : Machine → mono.Committed) (follow : Timing → timing.Committed) →
-    KeptBy s (start + left) os l →
-    ((behind : Machine) → Related s (numbered behind (start + (left + 1)) os) → follow (seen s (numbered behind (start + (left + 1)) os)) ≡ seen_committed s start os (go_on behind)) →
-    timing.after_leaving (seen_leaving s (start + left) os l) (seen s (numbered m (start + left) os)) left follow ≡ seen_committed s start os (mono.after_leaving l m left go_on)
-after_seen s start left m os mono.stays go_on follow kept on = refl
-after_seen s start left m os (mono.full behind) go_on follow kept on = refl
-after_seen s start left m os (mono.leaves behind) go_on follow kept on =
+-- the timing side's phase, from its start on, is what is left of it where the records have come
+record IsOn (s : Setup) (start : ℕ) (os : List Order) (whole : timing.Committed) (more left : ℕ) (m : Machine) : Type 0 where
+  related : Related s (numbered m (start + left) os)
+  same : whole ≡ timing.commits s more left (seen s (numbered m (start + left) os))
+
+abbrev IsSeen : Setup → ℕ → List Order → timing.Committed → mono.Committed → Type 0
+IsSeen s start os whole c = whole ≡ seen_committed s start os c
+
+goes_on_seen : (s : Setup) (start : ℕ) (os : List Order) (whole : timing.Committed) (more left : ℕ) (m : Machine) (l : mono.Leaving) → KeptBy s (start + left) os l →
+    whole ≡ timing.after_leaving (seen_leaving s (start + left) os l) (seen s (numbered m (start + left) os)) left (λ behind. timing.commits s more (left + 1) behind) →
+    walk.GoesOn (IsOn s start os whole more) (IsSeen s start os whole) left m l
+goes_on_seen s start os whole more left m mono.stays kept is = is
+goes_on_seen s start os whole more left m (mono.full behind) kept is = is
+goes_on_seen s start os whole more left m (mono.leaves behind) kept is =
     let e : suc (start + left) ≡ start + (left + 1) = omega arith in
-    ap (λ (k : ℕ). follow (seen s (numbered behind k os))) e ∙ on behind (related_number s behind (suc (start + left)) (start + (left + 1)) os e kept)
-after_seen s start left m os (mono.faults behind) go_on follow kept on =
+    record {
+      related = related_number s behind (suc (start + left)) (start + (left + 1)) os e kept;
+      same = is ∙ ap (λ (k : ℕ). timing.commits s more (left + 1) (seen s (numbered behind k os))) e;
+    }
+goes_on_seen s start os whole more left m (mono.faults behind) kept is =
     let e : suc (start + left) ≡ start + (left + 1) = omega arith in
-    ap (λ (k : ℕ). timing.ended_with (seen s (numbered behind k (Set k behind.arch.pc ∷ os))) (left + 1) (timing.trap behind.arch.pc)) e
-after_seen s start left m os (mono.syncs behind) go_on follow kept on =
+    is ∙ ap (λ (k : ℕ). timing.ended_with (seen s (numbered behind k (Set k behind.arch.pc ∷ os))) (left + 1) (timing.trap behind.arch.pc)) e
+goes_on_seen s start os whole more left m (mono.syncs behind) kept is =
     let e : suc (start + left) ≡ start + (left + 1) = omega arith in
-    ap (λ (k : ℕ). timing.ended_with (seen s (numbered behind k (Sync k ∷ os))) (left + 1) timing.sync) e
-after_seen s start left m os (mono.ends behind) go_on follow kept on =
+    is ∙ ap (λ (k : ℕ). timing.ended_with (seen s (numbered behind k (Sync k ∷ os))) (left + 1) timing.sync) e
+goes_on_seen s start os whole more left m (mono.ends behind) kept is =
     let e : suc (start + left) ≡ start + (left + 1) = omega arith in
-    ap (λ (k : ℕ). timing.ended_with (seen s (numbered behind k os)) (left + 1) timing.plain) e
+    is ∙ ap (λ (k : ℕ). timing.ended_with (seen s (numbered behind k os)) (left + 1) timing.plain) e
+
+over_seen : (s : Setup) (start left : ℕ) (os : List Order) (whole : timing.Committed) (m : Machine) → IsOn s start os whole 0 left m → IsSeen s start os whole (mono.ended_with m left mono.plain)
+unfolding timing.commits
+over_seen s start left os whole m on = on.same
+
+one_seen : (s : Setup) (start : ℕ) (os : List Order) (whole : timing.Committed) (more left : ℕ) (m : Machine) → IsOn s start os whole (suc more) left m →
+    walk.GoesOn (IsOn s start os whole more) (IsSeen s start os whole) left m (mono.leaving s m)
+one_seen s start os whole more left m on =
+    let t : Timing = seen s (numbered m (start + left) os) in
+    goes_on_seen s start os whole more left m (mono.leaving s m) (leaving_kept s m (start + left) os on.related)
+    (on.same ∙ commits-suc s more left t
+    ∙ ap (λ (l : timing.Leaving). timing.after_leaving l t left (λ behind. timing.commits s more (left + 1) behind)) (leaving_seen s m (start + left) os on.related))
 
 commits_seen : (s : Setup) (start : ℕ) (os : List Order) (more left : ℕ) (m : Machine) → Related s (numbered m (start + left) os) →
     timing.commits s more left (seen s (numbered m (start + left) os)) ≡ seen_committed s start os (mono.commits s more left m)
-unfolding timing.commits mono.commits
-commits_seen s start os zero left m related = refl
-commits_seen s start os (suc more) left m related =
-    let t : Timing = seen s (numbered m (start + left) os) in
-    ap (λ (l : timing.Leaving). timing.after_leaving l t left (λ behind. timing.commits s more (left + 1) behind)) (leaving_seen s m (start + left) os related)
-    ∙ after_seen s start left m os (mono.leaving s m) (λ behind. mono.commits s more (left + 1) behind) (λ behind. timing.commits s more (left + 1) behind)
-    (leaving_kept s m (start + left) os related) (λ behind kept. commits_seen s start os more (left + 1) behind kept)
+commits_seen s start os more left m related =
+    let whole : timing.Committed = timing.commits s more left (seen s (numbered m (start + left) os)) in
+    every_commit s (IsOn s start os whole) (IsSeen s start os whole) (λ left m on. over_seen s start left os whole m on)
+    (λ more left m on. one_seen s start os whole more left m on) more left m (record { related = related; same = refl })
 
 -- an order Commit changes nothing of what is seen
 order_seen : (s : Setup) (m : Machine) (n left k : ℕ) (os : List Order) → seen s (numbered m n os) ≡ seen s (numbered m n (commit_order left k os))

@@ -12,3 +12,4 @@ pub mod Issue
 pub mod Turning
 pub mod Stepping
 pub mod Knowing
+pub mod Commits

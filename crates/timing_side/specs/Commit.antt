@@ -1,6 +1,6 @@
 -- The second phase of a cycle: the oldest slots, once done, leave in order
 -- (Hennessy and Patterson, Computer Architecture, section 3.6, commit).
-use Rattle.std.specs.Prelude.{◌≡◌, refl, ℕ, zero, suc, ◌+◌, ◌&&◌, nat_le, if◌then◌else◌, Bool, true, false, Option, Some, None, List, [], ◌∷◌}
+use Rattle.std.specs.Prelude.{ℕ, zero, suc, ◌+◌, ◌&&◌, nat_le, if◌then◌else◌, Bool, true, false, Option, Some, None, List, [], ◌∷◌}
 use Rattle.fsim_base.specs.declared.cause.Cause.{Cause}
 use Rattle.fsim_base.specs.declared.instruction.Halt.{Halt}
 use Rattle.rollback_cmds.specs.declared.order.Order.{Order}
@@ -113,11 +113,6 @@ after_leaving (ends behind) t left go_on = ended_with behind (left + 1) plain
 unfoldable pub commits : Setup → ℕ → ℕ → Timing → Committed
 commits s zero left t = ended_with t left plain
 commits s (suc more) left t = after_leaving (leaving s t) t left (λ behind. commits s more (left + 1) behind)
-
-pub commits-suc : (s : Setup) (more left : ℕ) (t : Timing) →
-    commits s (suc more) left t ≡ after_leaving (leaving s t) t left (λ behind. commits s more (left + 1) behind)
-unfolding commits
-commits-suc s more left t = refl
 
 -- Commit first, if slots left, and then what the ending asks for
 abbrev pub ending_orders : Ending → ℕ → List Order → List Order
