@@ -78,47 +78,44 @@ dcache_touched s t = record s { dcache = t.sets; counts = dcache_counted t.touch
 abbrev pub l2_touched : CachesState → Touched → CachesState
 l2_touched s t = record s { l2 = t.sets; counts = l2_counted t.touch s.counts }
 
--- the cycles of a miss of the first level: by what it met in the second, or `own` where there is none
+-- Each miss of the first level accesses the second with the same address. It adds the cycles of a hit or of a miss there, in
+-- place of its own, which it adds where there is no second level. No line of the second level is ever dirty.
 abbrev pub miss_cycles : AllCaches → ℕ → Touch → ℕ
 miss_cycles p own touch.None = own
 miss_cycles p own touch.Hit = p.l2_hit
 miss_cycles p own (touch.Miss dropped) = p.l2.miss
 
-abbrev pub l2_answered : AllCaches → ℕ → CachesState → Touched → Served
-l2_answered p own s t = record { state = l2_touched s t; cycles = miss_cycles p own t.touch }
-
--- a miss of the first level goes to the second, where no line is ever dirty
 abbrev pub missed : AllCaches → ℕ → CachesState → ℕ → Served
-missed p own s addr = l2_answered p own s (touched p.l2 false s.l2 addr false)
+missed p own s addr =
+    let t = touched p.l2 false s.l2 addr false in
+    record { state = l2_touched s t; cycles = miss_cycles p own t.touch }
 
--- a dirty line that was dropped goes back to the second level, and adds no cycles
+-- A dirty line that was dropped then accesses the second level with the line's first address, and adds no cycles.
 abbrev pub drained : AllCaches → Option ℕ → CachesState → CachesState
 drained p None s = s
 drained p (Some first) s = (missed p 0 (record s { counts = writeback_counted s.counts }) first).state
 
-abbrev pub with_drained : AllCaches → Option ℕ → Served → Served
-with_drained p dropped served = record served { state = drained p dropped served.state }
-
--- what follows in the second level: the access of a miss first, then that of the line that it dropped
+-- Behind an access of the first level: a hit adds nothing, nor does a cache that isn't there.
 abbrev pub followed : AllCaches → ℕ → ℕ → Touch → CachesState → Served
 followed p own addr touch.None s = record { state = s; cycles = 0 }
 followed p own addr touch.Hit s = record { state = s; cycles = 0 }
-followed p own addr (touch.Miss dropped) s = with_drained p dropped (missed p own s addr)
-
-abbrev pub icache_answered : AllCaches → ℕ → CachesState → Touched → Served
-icache_answered p addr s t = followed p p.icache.miss addr t.touch (icache_touched s t)
-
-abbrev pub dcache_answered : AllCaches → ℕ → CachesState → Touched → Served
-dcache_answered p addr s t = followed p p.dcache.miss addr t.touch (dcache_touched s t)
+followed p own addr (touch.Miss dropped) s =
+    let m = missed p own s addr in record m { state = drained p dropped m.state }
 
 -- the fetch of an instruction
 unfoldable pub fetched : AllCaches → CachesState → ℕ → Served
-fetched p s addr = icache_answered p addr s (touched p.icache false s.icache addr false)
+fetched p s addr =
+    let t = touched p.icache false s.icache addr false in
+    followed p p.icache.miss addr t.touch (icache_touched s t)
 
 -- a load from RAM
 unfoldable pub loaded : AllCaches → CachesState → ℕ → Served
-loaded p s addr = dcache_answered p addr s (touched p.dcache p.back s.dcache addr false)
+loaded p s addr =
+    let t = touched p.dcache p.back s.dcache addr false in
+    followed p p.dcache.miss addr t.touch (dcache_touched s t)
 
--- a store to RAM, which adds no cycles
+-- A store to RAM makes its line dirty under write-back. Its miss adds no cycles.
 unfoldable pub stored : AllCaches → CachesState → ℕ → CachesState
-stored p s addr = (dcache_answered p addr s (touched p.dcache p.back s.dcache addr true)).state
+stored p s addr =
+    let t = touched p.dcache p.back s.dcache addr true in
+    (followed p p.dcache.miss addr t.touch (dcache_touched s t)).state

@@ -74,11 +74,18 @@ pub data Register : Type 0 where
   finish : Register
   reserved : Register
 
+-- where the timer has the two words of its time
+abbrev pub time_low_offset : ℕ
+time_low_offset = 0xBFF8
+
+abbrev pub time_high_offset : ℕ
+time_high_offset = 0xBFFC
+
 -- the register map of each device: offsets and registers
 abbrev pub register_map : DeviceKind → List (ℕ × Register)
 register_map Console = (0, transfer) ∷ (3, line_control) ∷ (5, line_status) ∷ []
 register_map Timer =
-    (0x4000, compare_low) ∷ (0x4004, compare_high) ∷ (0xBFF8, time_low) ∷ (0xBFFC, time_high) ∷ []
+    (0x4000, compare_low) ∷ (0x4004, compare_high) ∷ (time_low_offset, time_low) ∷ (time_high_offset, time_high) ∷ []
 register_map Finisher = (0, finish) ∷ []
 
 -- the register that a map has at an offset

@@ -49,8 +49,15 @@ abbrev pub nothing : Csrs → ℕ → Csrs
 nothing csrs value = csrs
 
 -- mstatus: MIE in bit 3, MPIE in bit 7, and MPP (bits 12 and 11) always 3, as there is no lower mode
+abbrev pub mstatus_of : Csrs → ℕ
+mstatus_of csrs = 3 * 2 ^ 11 + flag 7 csrs.mpie + flag 3 csrs.mie
+
 abbrev pub mstatus : Shown
-mstatus = state (λ s. 3 * 2 ^ 11 + flag 7 s.mpie + flag 3 s.mie)
+mstatus = state mstatus_of
+
+-- the register mie: MTIE in bit 7
+abbrev pub mie_of : Csrs → ℕ
+mie_of csrs = flag 7 csrs.mtie
 
 abbrev pub put_mstatus : Csrs → ℕ → Csrs
 put_mstatus csrs value = record csrs { mie = is_bit_set value 3; mpie = is_bit_set value 7 }
@@ -60,7 +67,7 @@ abbrev pub rows : List Row
 rows =
     row 0x300 mstatus put_mstatus ∷  -- mstatus
     row 0x301 zeros nothing ∷  -- misa
-    row 0x304 (state (λ s. flag 7 s.mtie)) (λ s v. record s { mtie = is_bit_set v 7 }) ∷  -- mie
+    row 0x304 (state mie_of) (λ s v. record s { mtie = is_bit_set v 7 }) ∷  -- mie
     row 0x305 (state (λ s. s.mtvec)) (λ s v. record s { mtvec = v / 4 * 4 + v % 2 }) ∷  -- mtvec, without its bit 1
     row 0x310 zeros nothing ∷  -- mstatush
     row 0x320 zeros nothing ∷  -- mcountinhibit

@@ -1,7 +1,7 @@
 -- The report of a run, as text: lines of ASCII codes. Numbers are decimal; addresses, registers and CSRs are hexadecimal
 -- in small letters with all their digits.
 use Rattle.std.specs.Prelude.{ℕ, zero, suc, ◌+◌, ◌/◌, ◌%◌, ◌==◌, nat_lt, if◌then◌else◌, Bool, true, false, List, [], ◌∷◌, ◌++◌, codes, decimal, map, slice_index}
-use Rattle.machine_csr.specs.Csr.{flag}
+use Rattle.machine_csr.specs.Csr.{mstatus_of, mie_of}
 use Rattle.mono_model.specs.declared.final_state.End.{End}
 use Rattle.mono_model.specs.declared.final_state.End.TheVariants.{Pass, Fail, Limit, OutputFull, Running}
 use Rattle.mono_model.specs.declared.final_state.Final.{Final}
@@ -54,7 +54,7 @@ register_lines regs = map (register_line regs) (0 ∷ 4 ∷ 8 ∷ 12 ∷ 16 ∷ 
 -- the CSRs as CSRRS would read them
 abbrev pub csr_lines : Final → List Text
 csr_lines f =
-    line (codes "mstatus=" ++ hex 8 (0x1800 + flag 7 f.csrs.mpie + flag 3 f.csrs.mie) ++ codes " mie=" ++ hex 8 (flag 7 f.csrs.mtie))
+    line (codes "mstatus=" ++ hex 8 (mstatus_of f.csrs) ++ codes " mie=" ++ hex 8 (mie_of f.csrs))
     (codes " mtvec=" ++ hex 8 f.csrs.mtvec ++ codes " mscratch=" ++ hex 8 f.csrs.mscratch)
     ∷ line (codes "mepc=" ++ hex 8 f.csrs.mepc ++ codes " mcause=" ++ hex 8 f.csrs.mcause)
     (codes " mtval=" ++ hex 8 f.csrs.mtval ++ codes " mtimecmp=" ++ hex 16 f.cmp)

@@ -1,5 +1,5 @@
 -- What a run depends on, and which of its values a run may have.
-use Rattle.std.specs.Prelude.{◌==◌, ◌&&◌, ◌||◌, not, nat_le, Bool, length}
+use Rattle.std.specs.Prelude.{ℕ, ◌==◌, ◌&&◌, ◌||◌, not, nat_le, Bool, length}
 use Rattle.fsim_base.specs.declared.access.RamRange.{RamRange}
 use Rattle.branch_predictor.specs.declared.params.PredParams.{PredParams}
 use Rattle.cache_timing.specs.declared.params.CacheParams.{CacheParams}
@@ -65,8 +65,21 @@ are_params p =
     is_version p && is_ram p.ram_base p.ram_size && are_core p && are_units p
     && is_predictor p && are_caches p
 
+-- the most bytes of input and of output, cycles and entries under way that a run may have
+abbrev pub input_limit : ℕ
+input_limit = 16777216
+
+abbrev pub output_limit : ℕ
+output_limit = 16777216
+
+abbrev pub cycle_limit : ℕ
+cycle_limit = 1099511627776
+
+abbrev pub ring_limit : ℕ
+ring_limit = 65536
+
 -- a run may have this setup
 unfoldable pub is_setup : Setup → Bool
 is_setup s =
-    is_sound s.image (ram_range s.params) && are_params s.params && nat_le (length s.input) 16777216
-    && is_between 1 1099511627776 s.cycles && nat_le s.output 16777216 && is_between 1 65536 s.ring
+    is_sound s.image (ram_range s.params) && are_params s.params && nat_le (length s.input) input_limit
+    && is_between 1 cycle_limit s.cycles && nat_le s.output output_limit && is_between 1 ring_limit s.ring

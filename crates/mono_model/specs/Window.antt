@@ -52,9 +52,7 @@ abbrev pub waiting_count : List Record → ℕ
 waiting_count [] = 0
 waiting_count (rec ∷ rest) = (if is_waiting rec then 1 else 0) + waiting_count rest
 
--- The operand of a record: the value of the youngest older record that writes the register, once that is done without a
--- cause, and else none; the architectural register where no older record writes it. The older records stand youngest first.
--- Nothing writes register 0.
+-- the destination is this register
 abbrev pub is_register : ℕ → Option ℕ → Bool
 is_register register None = false
 is_register register (Some destination) = destination == register
@@ -63,22 +61,26 @@ abbrev pub value_if : Bool → ℕ → Option ℕ
 value_if true value = Some value
 value_if false value = None
 
+-- what a record gives to younger ones: its value once it is done without a cause
 abbrev pub value_at : Stage → Option ℕ
 value_at waiting = None
 value_at (until e r) = None
 value_at (done r) = value_if (is_none r.cause) r.value
 
+-- A register's value over the older records, which stand youngest first: that of the youngest of them that writes it, once
+-- that one is done without a cause, and before then none; the architectural register where no older record writes it.
+-- Nothing writes register 0.
 abbrev pub written_value : (ℕ → ℕ) → List Record → ℕ → Option ℕ
 written_value regs [] register = Some (regs register)
 written_value regs (rec ∷ older) register =
     if is_register register (destination_in rec.found) then value_at rec.stage else written_value regs older register
 
--- the value of a source, and 0 where there is no source
+-- The operand of a record: its source's value, and 0 where there is no source.
 abbrev pub operand : (ℕ → ℕ) → List Record → Option ℕ → Option ℕ
 operand regs older None = Some 0
 operand regs older (Some register) = written_value regs older register
 
--- A loaded byte: that of the youngest older RAM store without a cause that covers the address, else memory's.
+-- the access covers an address: it is a store to RAM with a byte there
 abbrev pub covers : Access → ℕ → Bool
 covers (access.Store addr width Ram) x = nat_le addr x && nat_lt x (addr + width_bytes width)
 covers made x = false
@@ -88,6 +90,7 @@ first_address access.Nothing = 0
 first_address (access.Load addr width spot) = addr
 first_address (access.Store addr width spot) = addr
 
+-- a store with a cause covers nothing, nor does one that was not executed yet
 abbrev pub result_covers : Result → ℕ → Bool
 result_covers r x = is_none r.cause && covers r.access x
 
@@ -105,11 +108,11 @@ stage_byte waiting x = 0
 stage_byte (until e r) x = stored_byte r x
 stage_byte (done r) x = stored_byte r x
 
+-- A loaded byte: that of the youngest older store to RAM without a cause that covers the address, else memory's.
 abbrev pub loaded_byte : (ℕ → ℕ) → List Record → ℕ → ℕ
 loaded_byte ram [] x = ram x
 loaded_byte ram (rec ∷ older) x = if stage_covers rec.stage x then stage_byte rec.stage x else loaded_byte ram older x
 
--- whether all stores among some records are done
 abbrev pub is_store_class : Class → Bool
 is_store_class class.Store = true
 is_store_class other = false
@@ -117,11 +120,12 @@ is_store_class other = false
 abbrev pub is_unfinished_store : Record → Bool
 is_unfinished_store rec = if is_store_class (class_at rec) then (if is_done_stage rec.stage then false else true) else false
 
+-- all stores among some records are done
 abbrev pub are_stores_done : List Record → Bool
 are_stores_done [] = true
 are_stores_done (rec ∷ older) = if is_unfinished_store rec then false else are_stores_done older
 
--- divisions that execute
+-- a division that executes, and how many do among some records
 abbrev pub is_busy_division : Class → Stage → Bool
 is_busy_division class.Div (until e r) = true
 is_busy_division other stage = false

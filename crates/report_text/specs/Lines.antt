@@ -1,6 +1,6 @@
 -- Lines of the report by themselves, and its parts.
-use Rattle.std.specs.Prelude.{ℕ, ◌+◌, List, [], ◌∷◌, ◌++◌, codes, decimal}
-use Rattle.machine_csr.specs.Csr.{flag}
+use Rattle.std.specs.Prelude.{ℕ, List, [], ◌∷◌, ◌++◌, codes, decimal}
+use Rattle.machine_csr.specs.Csr.{mstatus_of, mie_of}
 use Rattle.machine_csr.specs.declared.csrs.Csrs.{Csrs}
 use Rattle.mono_model.specs.declared.final_state.Final.{Final}
 use Rattle.mono_model.specs.Report.{line, status_text, count_line, misses_line, retired_lines}
@@ -15,8 +15,7 @@ pc_line pc = line (codes "pc: ") (hex 8 pc)
 -- the CSRs that say whether and where interrupts go
 abbrev pub interrupt_csrs_line : Csrs → List ℕ
 interrupt_csrs_line csrs =
-    line (codes "mstatus=" ++ hex 8 (0x1800 + flag 7 csrs.mpie + flag 3 csrs.mie) ++ codes " mie="
-    ++ hex 8 (flag 7 csrs.mtie))
+    line (codes "mstatus=" ++ hex 8 (mstatus_of csrs) ++ codes " mie=" ++ hex 8 (mie_of csrs))
     (codes " mtvec=" ++ hex 8 csrs.mtvec ++ codes " mscratch=" ++ hex 8 csrs.mscratch)
 
 -- the CSRs of the last trap, and mtimecmp

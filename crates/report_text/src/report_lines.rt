@@ -1,7 +1,7 @@
 ghost use Rattle.std.specs.Prelude.{◌≡◌, ◌+◌, ◌≤◌, ◌<◌, length, codes, decimal, ◌++◌, slice_index};
 ghost use Rattle.mono_model.specs.Report.{line, count_line, misses_line, status_text};
 ghost use Rattle.mono_model.specs.Report.{register_text, register_line, hex};
-ghost use Rattle.machine_csr.specs.Csr.{flag};
+ghost use Rattle.machine_csr.specs.Csr.{mstatus_of};
 ghost use Rattle.report_text.specs.Lines.{output_line, pc_line, interrupt_csrs_line};
 ghost use Rattle.report_text.specs.Lines.{trap_csrs_line};
 
@@ -143,7 +143,7 @@ pub fn trap_csrs_line(csrs: &Csrs, cmp: u64) -> Line
 
 /// mstatus: MPP is always machine mode.
 fn mstatus(csrs: &Csrs) -> u64
-    ensures value { result ≡ 0x1800 + flag 7 csrs.now.mpie + flag 3 csrs.now.mie }
+    ensures value { result ≡ mstatus_of csrs.now }
 {
     let enabled_before = if csrs.mpie { 0x80 } else { 0 };
     let enabled = if csrs.mie { 8 } else { 0 };
