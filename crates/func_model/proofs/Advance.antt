@@ -1,7 +1,6 @@
 -- One instruction of a run, put together from what the hart ensures.
-use Rattle.std.proofs.Common.{◌≡◌, ℕ, nat_le, ◌&&◌, Bool, true, false, Option, Some, None, is_none, refl, ap, sym, ◌∙◌}
+use Rattle.std.proofs.Common.{◌≡◌, ℕ, nat_le, ◌&&◌, Bool, true, false, Option, Some, None, is_none, refl, ap, sym, subst, ◌∙◌}
 use Rattle.fsim_base.specs.declared.access.RamRange.{RamRange}
-use Rattle.rv_decode.specs.declared.insn.Insn.TheVariants as insn
 use Rattle.rv_exec.specs.Eval.{eval_of}
 use Rattle.elf_image.specs.declared.image.Image.{Image}
 use Rattle.elf_image.specs.Load.{is_executable}
@@ -15,6 +14,7 @@ use Rattle.mono_model.specs.Result.{Result, executed}
 use Rattle.fsim_base.specs.declared.cause.Cause.{Cause}
 use Rattle.mono_model.specs.Effect.{effect, note_of, is_fence_result}
 use Rattle.mono_model.specs.Sequence.{found_next, result_at}
+use Rattle.mono_model.proofs.Found.{fence_i_is}
 use Rattle.phys_mem.specs.Ram.{text_from}
 use Rattle.func_model.specs.Hart.{found_by}
 use Rattle.func_model.specs.declared.performed.Stepped.{Stepped}
@@ -32,45 +32,15 @@ result_same s time a = refl
 -- a FENCE.I has no cause and sends nothing
 pub fence_plain : (range : RamRange) (found : Found) (time : Option ℕ) (a : Arch) → is_fence_i found ≡ true → (result_of range found time a).cause ≡ None
 unfolding executed eval_of
-fence_plain range (refused cause) time a is = cc
-fence_plain range (unknown word) time a is = cc
-fence_plain range (known word (insn.Fence rd rs1 upper fetch)) time a is = refl
-fence_plain range (known word (insn.Lui rd imm)) time a is = cc
-fence_plain range (known word (insn.Auipc rd imm)) time a is = cc
-fence_plain range (known word (insn.Jal rd imm)) time a is = cc
-fence_plain range (known word (insn.Jalr rd rs1 imm)) time a is = cc
-fence_plain range (known word (insn.Branch kind rs1 rs2 imm)) time a is = cc
-fence_plain range (known word (insn.Load kind rd rs1 imm)) time a is = cc
-fence_plain range (known word (insn.Store kind rs1 rs2 imm)) time a is = cc
-fence_plain range (known word (insn.OpImm kind alt rd rs1 imm)) time a is = cc
-fence_plain range (known word (insn.Op kind alt rd rs1 rs2)) time a is = cc
-fence_plain range (known word (insn.MulDiv kind rd rs1 rs2)) time a is = cc
-fence_plain range (known word insn.Ecall) time a is = cc
-fence_plain range (known word insn.Ebreak) time a is = cc
-fence_plain range (known word insn.Mret) time a is = cc
-fence_plain range (known word insn.Wfi) time a is = cc
-fence_plain range (known word (insn.Csr kind rd rs1 csr)) time a is = cc
+fence_plain range found time a is =
+    let P : Found → Type 0 = λ f. (result_of range f time a).cause ≡ None in
+    subst P (sym (fence_i_is found is).is) refl
 
 pub fence_silent : (range : RamRange) (found : Found) (time : Option ℕ) (a : Arch) → is_fence_i found ≡ true → note_of (result_of range found time a) a ≡ note.Nothing
 unfolding executed eval_of
-fence_silent range (refused cause) time a is = cc
-fence_silent range (unknown word) time a is = cc
-fence_silent range (known word (insn.Fence rd rs1 upper fetch)) time a is = refl
-fence_silent range (known word (insn.Lui rd imm)) time a is = cc
-fence_silent range (known word (insn.Auipc rd imm)) time a is = cc
-fence_silent range (known word (insn.Jal rd imm)) time a is = cc
-fence_silent range (known word (insn.Jalr rd rs1 imm)) time a is = cc
-fence_silent range (known word (insn.Branch kind rs1 rs2 imm)) time a is = cc
-fence_silent range (known word (insn.Load kind rd rs1 imm)) time a is = cc
-fence_silent range (known word (insn.Store kind rs1 rs2 imm)) time a is = cc
-fence_silent range (known word (insn.OpImm kind alt rd rs1 imm)) time a is = cc
-fence_silent range (known word (insn.Op kind alt rd rs1 rs2)) time a is = cc
-fence_silent range (known word (insn.MulDiv kind rd rs1 rs2)) time a is = cc
-fence_silent range (known word insn.Ecall) time a is = cc
-fence_silent range (known word insn.Ebreak) time a is = cc
-fence_silent range (known word insn.Mret) time a is = cc
-fence_silent range (known word insn.Wfi) time a is = cc
-fence_silent range (known word (insn.Csr kind rd rs1 csr)) time a is = cc
+fence_silent range found time a is =
+    let P : Found → Type 0 = λ f. note_of (result_of range f time a) a ≡ note.Nothing in
+    subst P (sym (fence_i_is found is).is) refl
 
 pub after_plain : (s : Setup) (found : Found) (r : Result) (time : ℕ) (a b : Arch) → is_fence_i found ≡ false → b ≡ behind s.output found r (Some time) a → b ≡ after_instruction s found r time a
 after_plain s found r time a b fence made = rw fence made

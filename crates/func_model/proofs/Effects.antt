@@ -13,7 +13,7 @@ use Rattle.rv_exec.specs.declared.outcome.Reach.TheVariants as reach
 use Rattle.rv_exec.specs.Eval.{eval_of}
 use Rattle.mono_model.specs.Arch.{Arch, register_value}
 use Rattle.mono_model.specs.Found.{known, is_csr_insn, is_mret_insn}
-use Rattle.mono_model.specs.Result.{Seen, executed, by_cause, reached, loaded_raw, stored_at, raw_at, spot_of, accepts_store}
+use Rattle.mono_model.specs.Result.{Seen, Result, executed, by_cause, reached, loaded_raw, stored_at, raw_at, spot_of, can_store}
 use Rattle.mono_model.specs.Effect.{effect, retired}
 use Rattle.mono_model.specs.Sequence.{seen_in}
 use Rattle.func_model.specs.Steps.{load_done, store_made, reached_made, caused_made, outcome_made, reached_result, caused_result, outcome_result, behind, result_of}
@@ -27,50 +27,51 @@ loaded_behind range limit word time i next addr width signed Ram (Some raw) a cs
 loaded_behind range limit word time i next addr width signed Device (Some raw) a csr mret where_is = rw (csr, mret, ← where_is) refl
 loaded_behind range limit word time i next addr width signed Nowhere (Some raw) a csr mret where_is = rw (csr, mret, ← where_is) refl
 
-stored_behind : (range : RamRange) (limit word : ℕ) (time : Option ℕ) (i : Insn) (next addr : ℕ) (width : Width) (value : ℕ) (spot : Spot) (accepts : Bool) (a : Arch) → is_csr_insn i ≡ false → is_mret_insn i ≡ false → dest_of i ≡ None → accepts ≡ accepts_store addr width spot → spot ≡ spot_of range addr width →
+stored_behind : (range : RamRange) (limit word : ℕ) (time : Option ℕ) (i : Insn) (next addr : ℕ) (width : Width) (value : ℕ) (spot : Spot) (accepts : Bool) (a : Arch) → is_csr_insn i ≡ false → is_mret_insn i ≡ false → dest_of i ≡ None → accepts ≡ can_store addr width spot → spot ≡ spot_of range addr width →
     behind limit (known word i) (stored_at next addr width value spot) time a ≡ store_made range limit next addr width value a
 unfolding effect retired
 stored_behind range limit word time i next addr width value spot true a csr mret none accepts where_is = rw (← where_is, ← accepts, csr, mret, none) refl
 stored_behind range limit word time i next addr width value spot false a csr mret none accepts where_is = rw (← where_is, ← accepts) refl
 
-reached_behind : (range : RamRange) (limit word : ℕ) (i : Insn) (x : ℕ) (time : Option ℕ) (o : Outcome) (what : Reach) (a : Arch) → is_csr_insn i ≡ false → is_mret_insn i ≡ false → NoDestination (dest_of i) what →
-    behind limit (known word i) (reached range word i a.pc x (seen_in time a) o what) time a ≡ reached_made range limit (dest_of i) o time a what
+reached_behind : (range : RamRange) (limit word : ℕ) (i : Insn) (time : Option ℕ) (o : Outcome) (what : Reach) (a : Arch) → is_csr_insn i ≡ false → is_mret_insn i ≡ false → NoDestination (dest_of i) what →
+    behind limit (known word i) (reached range (seen_in time a) o what) time a ≡ reached_made range limit (dest_of i) o time a what
 unfolding effect retired
-reached_behind range limit word i x time o reach.Nothing a csr mret none = rw (csr, mret) (rw (csr, mret) refl)
-reached_behind range limit word i x time o (reach.Load addr width signed) a csr mret none =
+reached_behind range limit word i time o reach.Nothing a csr mret none = rw (csr, mret) refl
+reached_behind range limit word i time o (reach.Load addr width signed) a csr mret none =
     loaded_behind range limit word time i o.next addr width signed (spot_of range addr width) (raw_at (seen_in time a) addr width (spot_of range addr width)) a csr mret refl
-reached_behind range limit word i x time o (reach.Store addr width value) a csr mret none =
-    stored_behind range limit word time i o.next addr width value (spot_of range addr width) (accepts_store addr width (spot_of range addr width)) a csr mret none refl refl
+reached_behind range limit word i time o (reach.Store addr width value) a csr mret none =
+    stored_behind range limit word time i o.next addr width value (spot_of range addr width) (can_store addr width (spot_of range addr width)) a csr mret none refl refl
 
-caused_behind : (range : RamRange) (limit word : ℕ) (i : Insn) (x : ℕ) (time : Option ℕ) (o : Outcome) (why : Option (Cause × ℕ)) (a : Arch) → is_csr_insn i ≡ false → is_mret_insn i ≡ false → NoDestination (dest_of i) o.reach →
-    behind limit (known word i) (by_cause range word i a.pc x (seen_in time a) o why) time a ≡ caused_made range limit (dest_of i) o time a why
+caused_behind : (range : RamRange) (limit word : ℕ) (i : Insn) (time : Option ℕ) (o : Outcome) (why : Option (Cause × ℕ)) (a : Arch) → is_csr_insn i ≡ false → is_mret_insn i ≡ false → NoDestination (dest_of i) o.reach →
+    behind limit (known word i) (by_cause range (seen_in time a) o why) time a ≡ caused_made range limit (dest_of i) o time a why
 unfolding effect
-caused_behind range limit word i x time o None a csr mret none = reached_behind range limit word i x time o o.reach a csr mret none
-caused_behind range limit word i x time o (Some why) a csr mret none = refl
+caused_behind range limit word i time o None a csr mret none = reached_behind range limit word i time o o.reach a csr mret none
+caused_behind range limit word i time o (Some why) a csr mret none = refl
 
--- an instruction that is none of CSRs or MRET
+-- what is told of an outcome
+reached_is : (range : RamRange) (e : Seen) (o : Outcome) (what : Reach) → reached range e o what ≡ reached_result range e o what
+reached_is range e o reach.Nothing = refl
+reached_is range e o (reach.Load target width signed) = refl
+reached_is range e o (reach.Store target width value) = refl
+
+caused_is : (range : RamRange) (e : Seen) (o : Outcome) (why : Option (Cause × ℕ)) → by_cause range e o why ≡ caused_result range e o why
+caused_is range e o None = reached_is range e o o.reach
+caused_is range e o (Some why) = refl
+
+-- an instruction that is none of CSRs or MRET comes to what its outcome does
+pub instruction_is : (range : RamRange) (word : ℕ) (i : Insn) (addr x y : ℕ) (e : Seen) → is_csr_insn i ≡ false → is_mret_insn i ≡ false →
+    executed range (known word i) addr x y e ≡ outcome_result range e (eval_of i addr x y)
+unfolding executed
+instruction_is range word i addr x y e csr mret = rw (csr, mret) (caused_is range e (eval_of i addr x y) (eval_of i addr x y).cause)
+
 pub instruction_behind : (range : RamRange) (limit word : ℕ) (i : Insn) (x y : ℕ) (time : Option ℕ) (a : Arch) → is_csr_insn i ≡ false → is_mret_insn i ≡ false →
     behind limit (known word i) (executed range (known word i) a.pc x y (seen_in time a)) time a ≡ outcome_made range limit (dest_of i) (eval_of i a.pc x y) time a
 unfolding executed
 instruction_behind range limit word i x y time a csr mret =
-    caused_behind range limit word i x time (eval_of i a.pc x y) (eval_of i a.pc x y).cause a csr mret (stores_write_none i a.pc x y)
-
--- what such an instruction comes to
-reached_is : (range : RamRange) (word : ℕ) (i : Insn) (addr x : ℕ) (e : Seen) (o : Outcome) (what : Reach) → is_csr_insn i ≡ false → is_mret_insn i ≡ false →
-    reached range word i addr x e o what ≡ reached_result range e o what
-reached_is range word i addr x e o reach.Nothing csr mret = rw (csr, mret) refl
-reached_is range word i addr x e o (reach.Load target width signed) csr mret = refl
-reached_is range word i addr x e o (reach.Store target width value) csr mret = refl
-
-caused_is : (range : RamRange) (word : ℕ) (i : Insn) (addr x : ℕ) (e : Seen) (o : Outcome) (why : Option (Cause × ℕ)) → is_csr_insn i ≡ false → is_mret_insn i ≡ false →
-    by_cause range word i addr x e o why ≡ caused_result range e o why
-caused_is range word i addr x e o None csr mret = reached_is range word i addr x e o o.reach csr mret
-caused_is range word i addr x e o (Some why) csr mret = refl
-
-pub instruction_is : (range : RamRange) (word : ℕ) (i : Insn) (addr x y : ℕ) (e : Seen) → is_csr_insn i ≡ false → is_mret_insn i ≡ false →
-    executed range (known word i) addr x y e ≡ outcome_result range e (eval_of i addr x y)
-unfolding executed
-instruction_is range word i addr x y e csr mret = caused_is range word i addr x e (eval_of i addr x y) (eval_of i addr x y).cause csr mret
+    let o : Outcome = eval_of i a.pc x y in
+    let same : executed range (known word i) a.pc x y (seen_in time a) ≡ by_cause range (seen_in time a) o o.cause = rw (csr, mret) refl in
+    ap (λ (r : Result). behind limit (known word i) r time a) same
+    ∙ caused_behind range limit word i time o o.cause a csr mret (stores_write_none i a.pc x y)
 
 -- the same of what the code computed
 pub evaluated_result : (range : RamRange) (word : ℕ) (i : Insn) (x y : ℕ) (time : Option ℕ) (o : Outcome) (a : Arch) → is_csr_insn i ≡ false → is_mret_insn i ≡ false →

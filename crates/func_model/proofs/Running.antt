@@ -12,9 +12,10 @@ use Rattle.mono_model.specs.declared.final_state.End.TheVariants as end
 use Rattle.mono_model.specs.declared.setup.Setup.{Setup}
 use Rattle.mono_model.specs.Arch.{Arch, start, trapped, interrupted, synced, compare_of}
 use Rattle.mono_model.specs.Effect.{effect, note_of, is_fence_result}
-use Rattle.mono_model.specs.Sequence.{found_next, result_at}
+use Rattle.mono_model.specs.Sequence.{found_next, result_at, seq}
 use Rattle.mono_model.specs.Final.{end_of, has_ended}
-use Rattle.mono_model.specs.Alone.{Alone, alone, alone_final, alone-suc, alone_start, alone_step, after_interrupt, instruction, has_no_room, with_fence, end_after, count_cause, is_pending}
+use Rattle.mono_model.specs.Alone.{Alone, alone, alone_final, alone_start, alone_step, after_interrupt, instruction, has_no_room, with_fence, end_after, count_cause, is_pending}
+use Rattle.mono_model.proofs.Next.{alone-suc}
 use Rattle.func_model.specs.declared.performed.Stepped.{Stepped}
 use Rattle.func_model.specs.declared.performed.Stepped.TheVariants as code
 use Rattle.func_model.specs.declared.contents.Contents.{Contents}
@@ -103,6 +104,7 @@ behind_next s m = after_instruction s (found_next s m.arch) (result_at s (Some m
 -- a step that goes on
 pub step_on : {D : Type 0} (s : Setup) (m : Alone) (count : ℕ) (side : Contents D) → m.interrupts ≡ count → stepped_by s.output m.arch.output (note_next s m) ≡ code.On →
     ContentsStandFor s (behind_next s m) side → RunsAt s (instruction s m) (m.steps + 1) count side
+unfolding seq
 step_on {D} s m count side taken on h =
     let room : has_no_room s (note_next s m) m.arch ≡ false = on_room s (note_next s m) m.arch on in
     let space : is_full s.output m.arch.output (note_next s m) ≡ false = on_full s (note_next s m) m.arch on in
@@ -123,6 +125,7 @@ pub record Stopped {D : Type 0} (s : Setup) (m : Alone) (made count : ℕ) (how 
 
 pub step_full : {D : Type 0} (s : Setup) (m : Alone) (count : ℕ) (side : Contents D) → m.interrupts ≡ count → stepped_by s.output m.arch.output (note_next s m) ≡ code.Full →
     ContentsStandFor s (behind_next s m) side → Stopped s (instruction s m) m.steps count end.OutputFull side
+unfolding seq
 step_full {D} s m count side taken full h =
     let room : has_no_room s (note_next s m) m.arch ≡ true = full_room s (note_next s m) m.arch full in
     let space : is_full s.output m.arch.output (note_next s m) ≡ true = full_full s (note_next s m) m.arch full in
@@ -130,6 +133,7 @@ step_full {D} s m count side taken full h =
 
 pub step_ended : {D : Type 0} (s : Setup) (m : Alone) (count : ℕ) (halt : Halt) (side : Contents D) → m.interrupts ≡ count → stepped_by s.output m.arch.output (note_next s m) ≡ code.Ended halt →
     ContentsStandFor s (behind_next s m) side → Stopped s (instruction s m) (m.steps + 1) count (end_of halt) side
+unfolding seq
 step_ended {D} s m count halt side taken ended h =
     let room : has_no_room s (note_next s m) m.arch ≡ false = ended_room s (note_next s m) m.arch halt ended in
     let space : is_full s.output m.arch.output (note_next s m) ≡ false = ended_full s (note_next s m) m.arch halt ended in
@@ -153,6 +157,7 @@ unfolding trapped
 pending_adds m adds = if_adds (is_pending m) (record m { arch = interrupted m.arch; interrupts = m.interrupts + 1 }) m adds adds
 
 instruction_adds : (s : Setup) (m : Alone) → Adds m → Adds (instruction s m)
+unfolding seq
 instruction_adds s m adds =
     let r = result_at s (Some m.steps) m.arch in
     let f = found_next s m.arch in

@@ -1,5 +1,5 @@
 -- The effect of a CSR instruction and of MRET.
-use Rattle.std.proofs.Common.{◌≡◌, ℕ, ◌==◌, List, [], ◌∷◌, Bool, true, false, if◌then◌else◌, Option, Some, None, unwrap_or, refl, ap, sym, ◌∙◌}
+use Rattle.std.proofs.Common.{◌≡◌, ℕ, ◌==◌, List, [], ◌∷◌, Bool, true, false, if◌then◌else◌, Option, Some, None, unwrap_or, refl, ap, sym, subst, ◌∙◌}
 use Rattle.fsim_base.specs.declared.access.RamRange.{RamRange}
 use Rattle.rv_decode.specs.declared.insn.Insn.{Insn}
 use Rattle.rv_decode.specs.declared.insn.Insn.TheVariants as insn
@@ -18,6 +18,7 @@ use Rattle.mono_model.specs.Arch.{Arch, register_value, compare_of, trapped}
 use Rattle.mono_model.specs.Found.{refused, unknown, known, is_csr_insn, is_mret_insn}
 use Rattle.mono_model.specs.Result.{executed, csr_result, failing, resulting}
 use Rattle.mono_model.specs.Effect.{effect, retired}
+use Rattle.mono_model.proofs.Found.{csr_is, mret_is}
 use Rattle.func_model.specs.Steps.{behind, result_of, csr_made, mret_made}
 
 by_access : (limit word kind rd rs1 csr : ℕ) (time : Option ℕ) (given : Option (ℕ × CsrWrite)) (a : Arch) →
@@ -34,41 +35,17 @@ accessed i time a = csr_access a.csrs i (register_value a.regs (sources_of i).0)
 pub csr_behind : (range : RamRange) (limit word : ℕ) (i : Insn) (time : Option ℕ) (a : Arch) → is_csr_insn i ≡ true →
     behind limit (known word i) (result_of range (known word i) time a) time a ≡ csr_made word i time (accessed i time a) a
 unfolding executed eval_of
-csr_behind range limit word (insn.Csr kind rd rs1 csr) time a is = by_access limit word kind rd rs1 csr time (accessed (insn.Csr kind rd rs1 csr) time a) a refl
-csr_behind range limit word (insn.Lui rd imm) time a is = cc
-csr_behind range limit word (insn.Auipc rd imm) time a is = cc
-csr_behind range limit word (insn.Jal rd imm) time a is = cc
-csr_behind range limit word (insn.Jalr rd rs1 imm) time a is = cc
-csr_behind range limit word (insn.Branch kind rs1 rs2 imm) time a is = cc
-csr_behind range limit word (insn.Load kind rd rs1 imm) time a is = cc
-csr_behind range limit word (insn.Store kind rs1 rs2 imm) time a is = cc
-csr_behind range limit word (insn.OpImm kind alt rd rs1 imm) time a is = cc
-csr_behind range limit word (insn.Op kind alt rd rs1 rs2) time a is = cc
-csr_behind range limit word (insn.MulDiv kind rd rs1 rs2) time a is = cc
-csr_behind range limit word (insn.Fence rd rs1 upper fetch) time a is = cc
-csr_behind range limit word insn.Ecall time a is = cc
-csr_behind range limit word insn.Ebreak time a is = cc
-csr_behind range limit word insn.Wfi time a is = cc
-csr_behind range limit word insn.Mret time a is = cc
+csr_behind range limit word i time a is =
+    let h = csr_is i is in
+    let P : Insn → Type 0 = λ k. behind limit (known word k) (result_of range (known word k) time a) time a ≡ csr_made word k time (accessed k time a) a in
+    subst P (sym h.is) (by_access limit word h.kind h.rd h.rs1 h.csr time (accessed (insn.Csr h.kind h.rd h.rs1 h.csr) time a) a refl)
 
 pub csr_result_of : (range : RamRange) (word : ℕ) (i : Insn) (time : Option ℕ) (a : Arch) → is_csr_insn i ≡ true → result_of range (known word i) time a ≡ csr_result word i a.pc time (accessed i time a)
 unfolding executed eval_of
-csr_result_of range word (insn.Csr kind rd rs1 csr) time a is = refl
-csr_result_of range word (insn.Lui rd imm) time a is = cc
-csr_result_of range word (insn.Auipc rd imm) time a is = cc
-csr_result_of range word (insn.Jal rd imm) time a is = cc
-csr_result_of range word (insn.Jalr rd rs1 imm) time a is = cc
-csr_result_of range word (insn.Branch kind rs1 rs2 imm) time a is = cc
-csr_result_of range word (insn.Load kind rd rs1 imm) time a is = cc
-csr_result_of range word (insn.Store kind rs1 rs2 imm) time a is = cc
-csr_result_of range word (insn.OpImm kind alt rd rs1 imm) time a is = cc
-csr_result_of range word (insn.Op kind alt rd rs1 rs2) time a is = cc
-csr_result_of range word (insn.MulDiv kind rd rs1 rs2) time a is = cc
-csr_result_of range word (insn.Fence rd rs1 upper fetch) time a is = cc
-csr_result_of range word insn.Ecall time a is = cc
-csr_result_of range word insn.Ebreak time a is = cc
-csr_result_of range word insn.Wfi time a is = cc
-csr_result_of range word insn.Mret time a is = cc
+csr_result_of range word i time a is =
+    let h = csr_is i is in
+    let P : Insn → Type 0 = λ k. result_of range (known word k) time a ≡ csr_result word k a.pc time (accessed k time a) in
+    subst P (sym h.is) refl
 
 -- the same of what the code read of registers and devices
 pub csr_result_by : (range : RamRange) (word : ℕ) (i : Insn) (x cmp : ℕ) (time : Option ℕ) (a : Arch) → is_csr_insn i ≡ true → x ≡ register_value a.regs (sources_of i).0 → cmp ≡ compare_of a.devices →
@@ -89,41 +66,15 @@ csr_behind_by range limit word i x cmp time a b is source compared made =
 pub mret_behind : (range : RamRange) (limit word : ℕ) (i : Insn) (time : Option ℕ) (a : Arch) → is_mret_insn i ≡ true →
     behind limit (known word i) (result_of range (known word i) time a) time a ≡ mret_made a
 unfolding executed eval_of effect retired
-mret_behind range limit word insn.Mret time a is = refl
-mret_behind range limit word (insn.Lui rd imm) time a is = cc
-mret_behind range limit word (insn.Auipc rd imm) time a is = cc
-mret_behind range limit word (insn.Jal rd imm) time a is = cc
-mret_behind range limit word (insn.Jalr rd rs1 imm) time a is = cc
-mret_behind range limit word (insn.Branch kind rs1 rs2 imm) time a is = cc
-mret_behind range limit word (insn.Load kind rd rs1 imm) time a is = cc
-mret_behind range limit word (insn.Store kind rs1 rs2 imm) time a is = cc
-mret_behind range limit word (insn.OpImm kind alt rd rs1 imm) time a is = cc
-mret_behind range limit word (insn.Op kind alt rd rs1 rs2) time a is = cc
-mret_behind range limit word (insn.MulDiv kind rd rs1 rs2) time a is = cc
-mret_behind range limit word (insn.Fence rd rs1 upper fetch) time a is = cc
-mret_behind range limit word insn.Ecall time a is = cc
-mret_behind range limit word insn.Ebreak time a is = cc
-mret_behind range limit word insn.Wfi time a is = cc
-mret_behind range limit word (insn.Csr kind rd rs1 csr) time a is = cc
+mret_behind range limit word i time a is =
+    let P : Insn → Type 0 = λ k. behind limit (known word k) (result_of range (known word k) time a) time a ≡ mret_made a in
+    subst P (sym (mret_is i is)) refl
 
 pub mret_result_of : (range : RamRange) (word : ℕ) (i : Insn) (time : Option ℕ) (a : Arch) → is_mret_insn i ≡ true → result_of range (known word i) time a ≡ resulting 0 (return_address a.csrs) access.Nothing
 unfolding executed eval_of
-mret_result_of range word insn.Mret time a is = refl
-mret_result_of range word (insn.Lui rd imm) time a is = cc
-mret_result_of range word (insn.Auipc rd imm) time a is = cc
-mret_result_of range word (insn.Jal rd imm) time a is = cc
-mret_result_of range word (insn.Jalr rd rs1 imm) time a is = cc
-mret_result_of range word (insn.Branch kind rs1 rs2 imm) time a is = cc
-mret_result_of range word (insn.Load kind rd rs1 imm) time a is = cc
-mret_result_of range word (insn.Store kind rs1 rs2 imm) time a is = cc
-mret_result_of range word (insn.OpImm kind alt rd rs1 imm) time a is = cc
-mret_result_of range word (insn.Op kind alt rd rs1 rs2) time a is = cc
-mret_result_of range word (insn.MulDiv kind rd rs1 rs2) time a is = cc
-mret_result_of range word (insn.Fence rd rs1 upper fetch) time a is = cc
-mret_result_of range word insn.Ecall time a is = cc
-mret_result_of range word insn.Ebreak time a is = cc
-mret_result_of range word insn.Wfi time a is = cc
-mret_result_of range word (insn.Csr kind rd rs1 csr) time a is = cc
+mret_result_of range word i time a is =
+    let P : Insn → Type 0 = λ k. result_of range (known word k) time a ≡ resulting 0 (return_address a.csrs) access.Nothing in
+    subst P (sym (mret_is i is)) refl
 
 -- nothing that can be executed
 pub refused_behind : (range : RamRange) (limit : ℕ) (time : Option ℕ) (cause : Cause) (a : Arch) →

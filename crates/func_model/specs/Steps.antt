@@ -27,7 +27,7 @@ use Rattle.undo_journal.specs.declared.past.Change.TheVariants.{System}
 use Rattle.mono_model.specs.Arch.{Arch, with_register, register_value, trapped}
 use Rattle.mono_model.specs.Found.{Found, first_source, second_source}
 use Rattle.mono_model.specs.Effect.{counted, with_store, with_access, with_note, access_note, note_of, effect}
-use Rattle.mono_model.specs.Result.{Seen, spot_of, raw_at, accepts_store, Result, executed, resulting, loaded_at, stored_at, failing_access, attempted, csr_value}
+use Rattle.mono_model.specs.Result.{Seen, spot_of, raw_at, can_store, Result, executed, resulting, loaded_at, stored_at, failing_access, attempted, csr_value}
 use Rattle.mono_model.specs.Sequence.{seen_in, byte_in}
 use Rattle.func_model.specs.declared.performed.Performed.{Performed}
 use Rattle.func_model.specs.declared.performed.Stepped.{Stepped}
@@ -82,7 +82,7 @@ store_done limit next addr width value spot a =
 -- an aligned store, and how it leaves the run
 abbrev pub store_made : RamRange → ℕ → ℕ → ℕ → Width → ℕ → Arch → Arch
 store_made range limit next addr width value a =
-    if accepts_store addr width (spot_of range addr width) then store_done limit next addr width value (spot_of range addr width) a else trapped 7 addr a.pc a
+    if can_store addr width (spot_of range addr width) then store_done limit next addr width value (spot_of range addr width) a else trapped 7 addr a.pc a
 
 -- what an instruction does whose outcome this is, where it is none of CSRs or MRET
 abbrev pub reached_made : RamRange → ℕ → Option ℕ → Outcome → Option ℕ → Arch → Reach → Arch

@@ -20,7 +20,7 @@ use Rattle.rv_exec.specs.declared.outcome.Reach.TheVariants as reach
 use Rattle.rv_exec.specs.Eval.{eval_of, branched}
 use Rattle.rv_exec.specs.Branch.{branch_taken}
 use Rattle.mono_model.specs.Found.{Found, refused, unknown, known, class_in, is_csr_insn, is_mret_insn}
-use Rattle.mono_model.specs.Result.{Result, Seen, executed, evaluated, by_cause, reached, csr_result, csr_read, loaded_at, loaded_raw, raw_at, spot_of}
+use Rattle.mono_model.specs.Result.{Result, Seen, executed, by_cause, reached, csr_result, csr_read, loaded_at, loaded_raw, raw_at, spot_of}
 use Rattle.mono_model.specs.Effect.{with_store}
 use Rattle.mono_model.specs.Window.{Record, is_store_class, are_stores_done}
 use Rattle.mono_model.specs.Issue.{is_oldest, load_allows, class_allows}
@@ -55,7 +55,7 @@ fits insn.Mret addr x y = tt
 fits (insn.Csr kind rd rs1 csr) addr x y = tt
 
 -- an instruction is about the CSRs, or it isn't
-by_kind : (i : Insn) → (class_of i ≡ class.Serial) ⊎ ((is_csr_insn i ≡ false) × (is_mret_insn i ≡ false))
+pub by_kind : (i : Insn) → (class_of i ≡ class.Serial) ⊎ ((is_csr_insn i ≡ false) × (is_mret_insn i ≡ false))
 by_kind (insn.Csr kind rd rs1 csr) = inl refl
 by_kind insn.Mret = inl refl
 by_kind i = inr (refl, refl)
@@ -78,20 +78,18 @@ module _ (range : RamRange) (older : List Record) (e f : Seen) (alike : Alike ol
       is_device (Some raw) allows = allows
   spot_alike next addr width signed Nowhere allows = refl
 
-  reach_alike : (word : ℕ) (i : Insn) (addr x : ℕ) (o : Outcome) (what : Reach) → is_csr_insn i ≡ false → is_mret_insn i ≡ false → Fits (class_of i) what →
-      class_allows (class_of i) (reached range word i addr x e o what).access older ≡ true →
-      reached range word i addr x e o what ≡ reached range word i addr x f o what
-  reach_alike word i addr x o reach.Nothing csr mret fit allows = rw (csr, mret) refl
-  reach_alike word i addr x o (reach.Load target width signed) csr mret fit allows =
+  reach_alike : (c : Class) (o : Outcome) (what : Reach) → Fits c what → class_allows c (reached range e o what).access older ≡ true →
+      reached range e o what ≡ reached range f o what
+  reach_alike c o reach.Nothing fit allows = refl
+  reach_alike c o (reach.Load target width signed) fit allows =
       spot_alike o.next target width signed (spot_of range target width)
-      (let P : Class → Type 0 = λ c. class_allows c (loaded_at o.next target width signed e (spot_of range target width)).access older ≡ true in subst P fit allows)
-  reach_alike word i addr x o (reach.Store target width value) csr mret fit allows = refl
+      (let P : Class → Type 0 = λ k. class_allows k (loaded_at o.next target width signed e (spot_of range target width)).access older ≡ true in subst P fit allows)
+  reach_alike c o (reach.Store target width value) fit allows = refl
 
-  cause_alike : (word : ℕ) (i : Insn) (addr x : ℕ) (o : Outcome) (why : Option (Cause × ℕ)) → is_csr_insn i ≡ false → is_mret_insn i ≡ false → Fits (class_of i) o.reach →
-      class_allows (class_of i) (by_cause range word i addr x e o why).access older ≡ true →
-      by_cause range word i addr x e o why ≡ by_cause range word i addr x f o why
-  cause_alike word i addr x o None csr mret fit allows = reach_alike word i addr x o o.reach csr mret fit allows
-  cause_alike word i addr x o (Some why) csr mret fit allows = refl
+  cause_alike : (c : Class) (o : Outcome) (why : Option (Cause × ℕ)) → Fits c o.reach → class_allows c (by_cause range e o why).access older ≡ true →
+      by_cause range e o why ≡ by_cause range f o why
+  cause_alike c o None fit allows = reach_alike c o o.reach fit allows
+  cause_alike c o (Some why) fit allows = refl
 
   -- an instruction that may issue has the same result in both
   pub executed_alike : (found : Found) (addr x y : ℕ) → class_allows (class_in found) (executed range found addr x y e).access older ≡ true →
@@ -101,9 +99,11 @@ module _ (range : RamRange) (older : List Record) (e f : Seen) (alike : Alike ol
   executed_alike (unknown word) addr x y allows = refl
   executed_alike (known word i) addr x y allows = elim (by_kind i) [
     | inl serial ↦
-        ap (λ (g : Seen). evaluated range word i addr x g (eval_of i addr x y))
-        (alike.all (let P : Class → Type 0 = λ c. class_allows c (evaluated range word i addr x e (eval_of i addr x y)).access older ≡ true in subst P serial allows))
-    | inr (csr, mret) ↦ cause_alike word i addr x (eval_of i addr x y) (eval_of i addr x y).cause csr mret (fits i addr x y) allows
+        ap (λ (g : Seen). executed range (known word i) addr x y g)
+        (alike.all (let P : Class → Type 0 = λ c. class_allows c (executed range (known word i) addr x y e).access older ≡ true in subst P serial allows))
+    | inr (csr, mret) ↦
+        let o : Outcome = eval_of i addr x y in
+        rw (csr, mret) (cause_alike (class_of i) o o.cause (fits i addr x y) (rw (csr, mret) at allows))
   ]
 
 -- an instruction that is no store leaves memory
@@ -122,25 +122,24 @@ load_kept : (next addr : ℕ) (width : Width) (signed : Bool) (spot : Spot) (raw
 load_kept next addr width signed spot None value ram = refl
 load_kept next addr width signed spot (Some raw) value ram = refl
 
-reach_kept : (range : RamRange) (word : ℕ) (i : Insn) (addr x : ℕ) (e : Seen) (o : Outcome) (what : Reach) (value : ℕ) (ram : ℕ → ℕ) → Fits (class_of i) what →
-    is_store_class (class_of i) ≡ false → with_store (reached range word i addr x e o what).access value ram ≡ ram
-reach_kept range word i addr x e o reach.Nothing value ram fit no_store =
-    if_kept (is_csr_insn i) _ _ value ram (csr_kept word i addr e.time (csr_read e i x) value ram) (if_kept (is_mret_insn i) _ _ value ram refl refl)
-reach_kept range word i addr x e o (reach.Load target width signed) value ram fit no_store =
+reach_kept : (range : RamRange) (c : Class) (e : Seen) (o : Outcome) (what : Reach) (value : ℕ) (ram : ℕ → ℕ) → Fits c what →
+    is_store_class c ≡ false → with_store (reached range e o what).access value ram ≡ ram
+reach_kept range c e o reach.Nothing value ram fit no_store = refl
+reach_kept range c e o (reach.Load target width signed) value ram fit no_store =
     load_kept o.next target width signed (spot_of range target width) (raw_at e target width (spot_of range target width)) value ram
-reach_kept range word i addr x e o (reach.Store target width stored) value ram fit no_store =
-    let P : Class → Type 0 = λ c. is_store_class c ≡ false in
+reach_kept range c e o (reach.Store target width stored) value ram fit no_store =
+    let P : Class → Type 0 = λ k. is_store_class k ≡ false in
     let is : true ≡ false = subst P fit no_store in
     cc
 
-attempt_kept : (range : RamRange) (word : ℕ) (i : Insn) (addr x : ℕ) (e : Seen) (o : Outcome) (what : Reach) (why : Option (Cause × ℕ)) (value : ℕ) (ram : ℕ → ℕ) → o.reach ≡ what →
-    Fits (class_of i) what → is_store_class (class_of i) ≡ false → with_store (by_cause range word i addr x e o why).access value ram ≡ ram
-attempt_kept range word i addr x e o what None value ram is fit no_store =
-    let P : Reach → Type 0 = λ w. Fits (class_of i) w in
-    reach_kept range word i addr x e o o.reach value ram (subst P (sym is) fit) no_store
-attempt_kept range word i addr x e o reach.Nothing (Some why) value ram is fit no_store = rw is refl
-attempt_kept range word i addr x e o (reach.Load target width signed) (Some why) value ram is fit no_store = rw is refl
-attempt_kept range word i addr x e o (reach.Store target width stored) (Some why) value ram is fit no_store = rw is refl
+attempt_kept : (range : RamRange) (c : Class) (e : Seen) (o : Outcome) (what : Reach) (why : Option (Cause × ℕ)) (value : ℕ) (ram : ℕ → ℕ) → o.reach ≡ what →
+    Fits c what → is_store_class c ≡ false → with_store (by_cause range e o why).access value ram ≡ ram
+attempt_kept range c e o what None value ram is fit no_store =
+    let P : Reach → Type 0 = λ w. Fits c w in
+    reach_kept range c e o o.reach value ram (subst P (sym is) fit) no_store
+attempt_kept range c e o reach.Nothing (Some why) value ram is fit no_store = rw is refl
+attempt_kept range c e o (reach.Load target width signed) (Some why) value ram is fit no_store = rw is refl
+attempt_kept range c e o (reach.Store target width stored) (Some why) value ram is fit no_store = rw is refl
 
 pub executed_kept : (range : RamRange) (found : Found) (addr x y : ℕ) (e : Seen) (value : ℕ) (ram : ℕ → ℕ) → is_store_class (class_in found) ≡ false →
     with_store (executed range found addr x y e).access value ram ≡ ram
@@ -148,4 +147,6 @@ unfolding executed
 executed_kept range (refused cause) addr x y e value ram no_store = refl
 executed_kept range (unknown word) addr x y e value ram no_store = refl
 executed_kept range (known word i) addr x y e value ram no_store =
-    attempt_kept range word i addr x e (eval_of i addr x y) (eval_of i addr x y).reach (eval_of i addr x y).cause value ram refl (fits i addr x y) no_store
+    let o : Outcome = eval_of i addr x y in
+    if_kept (is_csr_insn i) _ _ value ram (csr_kept word i addr e.time (csr_read e i x) value ram)
+    (if_kept (is_mret_insn i) _ _ value ram refl (attempt_kept range (class_of i) e o o.reach o.cause value ram refl (fits i addr x y) no_store))

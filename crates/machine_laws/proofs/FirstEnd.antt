@@ -9,10 +9,11 @@ use Rattle.mono_model.specs.Commit.{commit_phase}
 use Rattle.mono_model.specs.Complete.{complete_phase}
 use Rattle.mono_model.specs.Issue.{issue_phase}
 use Rattle.mono_model.specs.Fetch.{Try, misses, appends, turns, may_fetch, fetch_try, after_try, fetches, fetch_phase}
-use Rattle.mono_model.specs.Cycle.{phases, mono, mono-suc, final}
+use Rattle.mono_model.specs.Cycle.{phases, mono, final}
 use Rattle.mono_model.specs.Report.{closed_output, report_text, text}
 use Rattle.mono_model.specs.Demand.{step_bound}
 use Rattle.mono_model.specs.Split.{is_cycle_start}
+use Rattle.mono_model.proofs.Next.{mono-suc}
 use Rattle.machine_laws.specs.Runs.{is_over}
 use Rattle.machine_laws.specs.FirstEnd.{IsFirstEnd, EndsOnce}
 use Rattle.machine_laws.proofs.Phases.{interrupt_cycle, commit_from, complete_kept, issue_kept, Tries, try_tries}

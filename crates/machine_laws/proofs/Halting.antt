@@ -6,9 +6,10 @@ use Rattle.mono_model.specs.declared.setup.Setup.{Setup}
 use Rattle.mono_model.specs.declared.final_state.End.TheVariants.{Limit}
 use Rattle.mono_model.specs.Final.{has_ended}
 use Rattle.mono_model.specs.Machine.{Machine}
-use Rattle.mono_model.specs.Cycle.{phases, end_of_cycle, cycled, mono, mono-suc}
-use Rattle.mono_model.specs.Demand.{Demand, At, interrupting, committing, completing, issuing, trying, ending, stopping, halted, run_at, turn, Place, step, place, place-suc, step_bound}
+use Rattle.mono_model.specs.Cycle.{phases, end_of_cycle, cycled, mono}
+use Rattle.mono_model.specs.Demand.{Demand, At, interrupting, committing, completing, issuing, trying, ending, stopping, halted, run_at, turn, Place, step, place, step_bound}
 use Rattle.mono_model.specs.Split.{is_cycle_start}
+use Rattle.mono_model.proofs.Next.{mono-suc, place-suc}
 use Rattle.machine_laws.specs.Runs.{is_over, Halts}
 use Rattle.machine_laws.proofs.DemandRun.{is_mono}
 use Rattle.machine_laws.proofs.Reaching.{CycleIsReached, by_parts, cycle_stands, ended_stays}

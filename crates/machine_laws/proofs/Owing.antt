@@ -1,9 +1,10 @@
 -- At each place at most the opening behind a Commit isn't told yet; where the run has halted nothing is, and it stands still.
 use Rattle.std.proofs.Common.{◌≡◌, ℕ, zero, suc, ◌+◌, ◌-◌, ◌≤◌, Bool, true, false, length, refl, ap, sym, ◌∙◌, subst, arith}
 use Rattle.mono_model.specs.declared.setup.Setup.{Setup}
-use Rattle.mono_model.specs.Demand.{Demand, At, interrupting, committing, completing, issuing, trying, ending, stopping, halted, run_at, turn, Place, step, place, place-suc, step_bound}
+use Rattle.mono_model.specs.Demand.{Demand, At, interrupting, committing, completing, issuing, trying, ending, stopping, halted, run_at, turn, Place, step, place, step_bound}
 use Rattle.mono_model.specs.Split.{is_halted}
 use Rattle.machine_laws.proofs.Always.{at_each_place}
+use Rattle.mono_model.proofs.Next.{place-suc}
 use Rattle.machine_laws.proofs.Halting.{run_halts}
 use Rattle.machine_laws.proofs.SplitSteps.{Owes, owes_none, owes_one, step_stepped}
 

@@ -12,12 +12,13 @@ use Rattle.mono_model.specs.Complete.{completes}
 use Rattle.mono_model.specs.Issue.{wants_time}
 use Rattle.mono_model.specs.Fetch.{Try, misses, appends, turns, may_fetch, fetch_try, predicted_next}
 use Rattle.mono_model.specs.Path.{entry}
-use Rattle.mono_model.specs.Cycle.{phases, end_of_cycle, cycled, mono, mono-suc}
+use Rattle.mono_model.specs.Cycle.{phases, end_of_cycle, cycled, mono}
 use Rattle.mono_model.specs.Split.{is_cycle_start, is_place_boundary}
 use Rattle.machine_laws.specs.Runs.{is_over, Reaches}
 use Rattle.machine_laws.proofs.Phases.{interrupt_cycle, commit_from, complete_kept, issue_kept, Tries, try_tries}
 use Rattle.machine_laws.proofs.DemandRun.{is_mono}
-use Rattle.mono_model.specs.Demand.{Demand, next, interrupt_orders, ending_orders, commit_order, demand_committed, redirect_orders, time_orders, path_orders, demand_interrupt, demand_commit, demand_complete, demand_issue, demand_try, At, interrupting, committing, completing, issuing, trying, ending, stopping, halted, Run, run_at, try_or_end, at_after_commit, at_after_cycle, tried_turn, turn_at, turn, Place, step, place, place-suc}
+use Rattle.mono_model.specs.Demand.{Demand, next, interrupt_orders, ending_orders, commit_order, demand_committed, redirect_orders, time_orders, path_orders, demand_interrupt, demand_commit, demand_complete, demand_issue, demand_try, At, interrupting, committing, completing, issuing, trying, ending, stopping, halted, Run, run_at, try_or_end, at_after_commit, at_after_cycle, tried_turn, turn_at, turn, Place, step, place}
+use Rattle.mono_model.proofs.Next.{mono-suc, place-suc}
 
 -- How many orders a turn makes.
 if_one_more : (b : Bool) (o : Order) (os : List Order) → length (if b then o ∷ os else os) ≤ length os + 1

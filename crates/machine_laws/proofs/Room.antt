@@ -11,12 +11,12 @@ use Rattle.mono_model.specs.Commit.{Ending, plain, trap, sync, commit_phase}
 use Rattle.mono_model.specs.Complete.{completes}
 use Rattle.mono_model.specs.Issue.{wants_time}
 use Rattle.mono_model.specs.Fetch.{Try, misses, appends, turns, fetch_try, predicted_next}
-use Rattle.mono_model.specs.Path.{path, entry, path-commit}
+use Rattle.mono_model.specs.Path.{path, entry}
 use Rattle.mono_model.specs.Demand.{Demand, next, ending_orders, commit_order, redirect_orders, path_orders, At, interrupting, committing, completing, issuing, trying, ending, stopping, halted, tried_turn, turn_at, turn, place, told}
 use Rattle.machine_laws.specs.Output.{AreInRoom}
 use Rattle.machine_laws.proofs.Always.{at_each_turn_known}
 use Rattle.machine_laws.proofs.Phases.{EndingLeft, commit_from}
-use Rattle.mono_model.proofs.Path.{path_at_set, path_at_sync}
+use Rattle.mono_model.proofs.Path.{path_at_set, path_at_sync, path-commit}
 use Rattle.machine_laws.proofs.OutputRoom.{output_within}
 use Rattle.machine_laws.proofs.Places.{place_related}
 

@@ -8,10 +8,11 @@ use Rattle.rollback_cmds.specs.declared.order.Order.TheVariants.{Set, Commit, In
 use Rattle.trace_entry.specs.declared.Entry.{Entry}
 use Rattle.mono_model.specs.declared.setup.Setup.{Setup}
 use Rattle.mono_model.specs.Arch.{Arch}
-use Rattle.mono_model.specs.Path.{entry, openings, path, time_of, path-commit}
+use Rattle.mono_model.specs.Path.{entry, openings, path, time_of}
 use Rattle.mono_model.specs.Sequence.{entry_at}
 use Rattle.mono_model.specs.Demand.{next, Place, step, told, needs_entry, needed_entry, At, interrupting, committing, completing, issuing, trying, ending, stopping, halted, is_try}
 use Rattle.mono_model.specs.Split.{Split, split_start, Event, compute, push, obey, tick, take, send, room, may_compute, on_compute, pushed, obeys, on_obey, is_halted, may_tick, told_by, opens, has_appended, held_after, ticked_to, on_tick, may_take, taken, on_take, sent, event_at, run}
+use Rattle.mono_model.proofs.Path.{path-commit}
 use Rattle.machine_laws.specs.Telling.{with_order}
 use Rattle.machine_laws.specs.SplitLaw.{IsCounted, IsEntry, Each}
 use Rattle.machine_laws.proofs.SplitEvents.{run_keeps}

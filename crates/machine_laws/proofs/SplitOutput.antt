@@ -5,14 +5,14 @@ use Rattle.rollback_cmds.specs.declared.order.Order.{Order}
 use Rattle.rollback_cmds.specs.declared.order.Order.TheVariants.{Set, Commit, Interrupt, Time, Stop, Sync}
 use Rattle.mono_model.specs.declared.setup.Setup.{Setup}
 use Rattle.mono_model.specs.Arch.{Arch, trapped, synced}
-use Rattle.mono_model.specs.Path.{path, path-commit, path-stop}
+use Rattle.mono_model.specs.Path.{path}
 use Rattle.mono_model.specs.Demand.{Place, place, told, number_of}
 use Rattle.mono_model.specs.Split.{told_by}
 use Rattle.machine_laws.specs.Numbers.{last_commit, IsAtCommit}
 use Rattle.machine_laws.specs.Telling.{with_order}
 use Rattle.machine_laws.specs.Output.{IsInRoom}
 use Rattle.machine_laws.proofs.OutputRoom.{output_within}
-use Rattle.mono_model.proofs.Path.{path_below, path_at_set, path_at_interrupt, path_at_time, path_at_sync}
+use Rattle.mono_model.proofs.Path.{path_below, path_at_set, path_at_interrupt, path_at_time, path_at_sync, path-commit, path-stop}
 use Rattle.machine_laws.proofs.Places.{place_related}
 use Rattle.machine_laws.proofs.Owing.{place_owes}
 use Rattle.machine_laws.proofs.Staying.{done_told}

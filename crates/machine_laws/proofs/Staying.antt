@@ -8,11 +8,11 @@ use Rattle.mono_model.specs.Arch.{Arch, interrupted}
 use Rattle.mono_model.specs.Commit.{Ending, plain, trap, sync, commit_phase}
 use Rattle.mono_model.specs.Complete.{completes}
 use Rattle.mono_model.specs.Fetch.{Try, misses, appends, turns, fetch_try}
-use Rattle.mono_model.specs.Path.{path, path-commit, path-stop}
+use Rattle.mono_model.specs.Path.{path}
 use Rattle.mono_model.specs.Demand.{Demand, ending_orders, commit_order, demand_interrupt, demand_commit, demand_complete, demand_issue, demand_try, At, interrupting, committing, completing, issuing, trying, ending, stopping, halted, Run, tried_turn, turn_at, turn, step_by, step, place, Place, told, number_of}
 use Rattle.machine_laws.specs.Numbers.{last_commit}
 use Rattle.machine_laws.specs.Stays.{with_interrupts, StaysBelow, StaysAt}
-use Rattle.mono_model.proofs.Path.{path_below, path_at_interrupt, path_at_time}
+use Rattle.mono_model.proofs.Path.{path_below, path_at_interrupt, path_at_time, path-commit, path-stop}
 use Rattle.machine_laws.proofs.Always.{at_each_turn}
 use Rattle.machine_laws.proofs.Making.{IsLater, AreLater, turn_made}
 use Rattle.machine_laws.proofs.Numbering.{done_is}

@@ -1,5 +1,5 @@
 -- What reads the time issues only as the oldest record: RAM doesn't reach down to the timer.
-use Rattle.std.proofs.Common.{◌≡◌, ℕ, ◌≤◌, nat_le, ◌==◌, ◌||◌, Bool, true, false, if◌then◌else◌, Option, Some, None, List, refl, sym, subst, arith}
+use Rattle.std.proofs.Common.{◌≡◌, ℕ, ◌≤◌, nat_le, ◌==◌, ◌||◌, Bool, true, false, if◌then◌else◌, Option, Some, None, List, refl, sym, subst, inl, inr, arith}
 use Rattle.std.proofs.lemmas.Bool.{eqb-true, lt-leb}
 use Rattle.fsim_base.specs.Number.{wrap_sum}
 use Rattle.fsim_base.specs.Width.{is_aligned}
@@ -27,10 +27,10 @@ use Rattle.rv_exec.specs.declared.outcome.Reach.TheVariants as reach
 use Rattle.rv_exec.specs.Branch.{branch_taken}
 use Rattle.rv_exec.specs.Eval.{eval_of, branched, misalignment}
 use Rattle.mono_model.specs.Found.{Found, refused, unknown, known, class_in, is_csr_insn, is_mret_insn}
-use Rattle.mono_model.specs.Result.{Result, Seen, executed, by_cause, reached, plain_result, csr_result, csr_read, loaded_raw, raw_at, stored_at, spot_of, accepts_store, is_time_address, is_time_load, is_time_read}
+use Rattle.mono_model.specs.Result.{Result, Seen, executed, by_cause, reached, csr_result, loaded_raw, raw_at, stored_at, spot_of, can_store, is_time_address, is_time_load, is_time_read}
 use Rattle.mono_model.specs.Window.{Record}
 use Rattle.mono_model.specs.Issue.{is_oldest, load_allows, class_allows}
-use Rattle.machine_laws.proofs.Executed.{Fits, fits}
+use Rattle.machine_laws.proofs.Executed.{Fits, fits, by_kind}
 
 -- the time's two words lie in the timer
 module _ (range : RamRange) (above : 0x20000000 ≤ range.base) where
@@ -95,20 +95,16 @@ either_access : (b : Bool) (r t : Result) (made : Access) → r.access ≡ made 
 either_access true r t made first second = first
 either_access false r t made first second = second
 
-csr_accesses : (word : ℕ) (i : Insn) (addr : ℕ) (time : Option ℕ) (done : Option (ℕ × CsrWrite)) → (csr_result word i addr time done).access ≡ access.Nothing
+pub csr_accesses : (word : ℕ) (i : Insn) (addr : ℕ) (time : Option ℕ) (done : Option (ℕ × CsrWrite)) → (csr_result word i addr time done).access ≡ access.Nothing
 csr_accesses word i addr time None = refl
 csr_accesses word i addr time (Some done) = refl
-
-pub plain_accesses : (word : ℕ) (i : Insn) (addr x : ℕ) (e : Seen) (o : Outcome) → (plain_result word i addr x e o).access ≡ access.Nothing
-plain_accesses word i addr x e o =
-    either_access (is_csr_insn i) _ _ access.Nothing (csr_accesses word i addr e.time (csr_read e i x)) (either_access (is_mret_insn i) _ _ access.Nothing refl refl)
 
 pub load_accesses : (next addr : ℕ) (width : Width) (signed : Bool) (spot : Spot) (raw : Option ℕ) → (loaded_raw next addr width signed spot raw).access ≡ access.Load addr width spot
 load_accesses next addr width signed spot None = refl
 load_accesses next addr width signed spot (Some raw) = refl
 
 store_accesses : (next addr : ℕ) (width : Width) (value : ℕ) (spot : Spot) → (stored_at next addr width value spot).access ≡ access.Store addr width spot
-store_accesses next addr width value spot = either_access (accepts_store addr width spot) _ _ (access.Store addr width spot) refl refl
+store_accesses next addr width value spot = either_access (can_store addr width spot) _ _ (access.Store addr width spot) refl refl
 
 -- a load of the time is one of a device
 module _ (range : RamRange) (above : 0x20000000 ≤ range.base) (older : List Record) where
@@ -120,19 +116,16 @@ module _ (range : RamRange) (above : 0x20000000 ≤ range.base) (older : List Re
       let P : Spot → Type 0 = λ spot. load_allows (access.Load addr Word spot) older ≡ true in
       subst P (time_spot range above addr reads) allows
 
-  reached_load : (word : ℕ) (i : Insn) (addr x : ℕ) (e : Seen) (o : Outcome) (what : Reach) → Fits (class_of i) what →
-      is_time_load (reached range word i addr x e o what).access ≡ true → class_allows (class_of i) (reached range word i addr x e o what).access older ≡ true → is_oldest older ≡ true
-  reached_load word i addr x e o reach.Nothing fit reads allows =
-      let P : Access → Type 0 = λ made. is_time_load made ≡ true in
-      let no : false ≡ true = subst P (plain_accesses word i addr x e o) reads in
-      cc
-  reached_load word i addr x e o (reach.Load target width signed) fit reads allows =
+  reached_load : (c : Class) (e : Seen) (o : Outcome) (what : Reach) → Fits c what →
+      is_time_load (reached range e o what).access ≡ true → class_allows c (reached range e o what).access older ≡ true → is_oldest older ≡ true
+  reached_load c e o reach.Nothing fit reads allows = cc
+  reached_load c e o (reach.Load target width signed) fit reads allows =
       let made = load_accesses o.next target width signed (spot_of range target width) (raw_at e target width (spot_of range target width)) in
       let P : Access → Type 0 = λ a. is_time_load a ≡ true in
-      let Q : Access → Type 0 = λ a. class_allows (class_of i) a older ≡ true in
-      let R : Class → Type 0 = λ c. class_allows c (access.Load target width (spot_of range target width)) older ≡ true in
+      let Q : Access → Type 0 = λ a. class_allows c a older ≡ true in
+      let R : Class → Type 0 = λ k. class_allows k (access.Load target width (spot_of range target width)) older ≡ true in
       device_load target width (subst P made reads) (subst R fit (subst Q made allows))
-  reached_load word i addr x e o (reach.Store target width value) fit reads allows =
+  reached_load c e o (reach.Store target width value) fit reads allows =
       let P : Access → Type 0 = λ a. is_time_load a ≡ true in
       let no : false ≡ true = subst P (store_accesses o.next target width value (spot_of range target width)) reads in
       cc
@@ -146,20 +139,20 @@ module _ (range : RamRange) (above : 0x20000000 ≤ range.base) (older : List Re
       let no : Some why ≡ None = subst P (time_aligned target reads) is in
       cc
 
-  caused_load : (word : ℕ) (i : Insn) (addr x : ℕ) (e : Seen) (o : Outcome) (what : Reach) (why : Option (Cause × ℕ)) → o.reach ≡ what → Fits (class_of i) what → Aligns why what →
-      is_time_load (by_cause range word i addr x e o why).access ≡ true → class_allows (class_of i) (by_cause range word i addr x e o why).access older ≡ true → is_oldest older ≡ true
-  caused_load word i addr x e o what None is fit align reads allows =
-      let P : Reach → Type 0 = λ w. Fits (class_of i) w in
-      reached_load word i addr x e o o.reach (subst P (sym is) fit) reads allows
-  caused_load word i addr x e o reach.Nothing (Some why) is fit align reads allows = let no = rw is at reads in cc
-  caused_load word i addr x e o (reach.Load target width signed) (Some why) is fit align reads allows = misaligned_load target width why align (rw is at reads)
-  caused_load word i addr x e o (reach.Store target width value) (Some why) is fit align reads allows = let no = rw is at reads in cc
+  caused_load : (c : Class) (e : Seen) (o : Outcome) (what : Reach) (why : Option (Cause × ℕ)) → o.reach ≡ what → Fits c what → Aligns why what →
+      is_time_load (by_cause range e o why).access ≡ true → class_allows c (by_cause range e o why).access older ≡ true → is_oldest older ≡ true
+  caused_load c e o what None is fit align reads allows =
+      let P : Reach → Type 0 = λ w. Fits c w in
+      reached_load c e o o.reach (subst P (sym is) fit) reads allows
+  caused_load c e o reach.Nothing (Some why) is fit align reads allows = let no = rw is at reads in cc
+  caused_load c e o (reach.Load target width signed) (Some why) is fit align reads allows = misaligned_load target width why align (rw is at reads)
+  caused_load c e o (reach.Store target width value) (Some why) is fit align reads allows = let no = rw is at reads in cc
 
-  -- a CSR instruction that reads the time is serial
-  reads_serial : (i : Insn) → reads_time_of i ≡ true → class_of i ≡ class.Serial
+  -- only a CSR instruction reads the time of itself
+  no_time : (i : Insn) → is_csr_insn i ≡ false → reads_time_of i ≡ false
   unfolding reads_time_of
-  reads_serial (insn.Csr kind rd rs1 csr) reads = refl
-  reads_serial i reads = cc
+  no_time (insn.Csr kind rd rs1 csr) other = cc
+  no_time i other = refl
 
   -- what reads the time and may issue is the oldest
   pub time_read_oldest : (found : Found) (addr x y : ℕ) (e : Seen) → is_time_read found (executed range found addr x y e).access ≡ true →
@@ -167,13 +160,12 @@ module _ (range : RamRange) (above : 0x20000000 ≤ range.base) (older : List Re
   unfolding executed
   time_read_oldest (refused cause) addr x y e reads allows = cc
   time_read_oldest (unknown word) addr x y e reads allows = cc
-  time_read_oldest (known word i) addr x y e reads allows = by_test (reads_time_of i) refl reads
-    where
-      o : Outcome
-      o = eval_of i addr x y
-
-      by_test : (b : Bool) → reads_time_of i ≡ b → (b || is_time_load (by_cause range word i addr x e o o.cause).access) ≡ true → is_oldest older ≡ true
-      by_test true csr reads =
-          let P : Class → Type 0 = λ c. class_allows c (by_cause range word i addr x e o o.cause).access older ≡ true in
-          subst P (reads_serial i csr) allows
-      by_test false csr reads = caused_load word i addr x e o o.reach o.cause refl (fits i addr x y) (aligns i addr x y) reads allows
+  time_read_oldest (known word i) addr x y e reads allows = elim (by_kind i) [
+    | inl serial ↦
+        let P : Class → Type 0 = λ c. class_allows c (executed range (known word i) addr x y e).access older ≡ true in
+        subst P serial allows
+    | inr (csr, mret) ↦
+        let o : Outcome = eval_of i addr x y in
+        let no : reads_time_of i ≡ false = no_time i csr in
+        caused_load (class_of i) e o o.reach o.cause refl (fits i addr x y) (aligns i addr x y) (rw (no, csr, mret) at reads) (rw (csr, mret) at allows)
+  ]

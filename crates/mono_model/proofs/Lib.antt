@@ -2,3 +2,5 @@ pub mod Path
 pub mod Sound
 pub mod Issue
 pub mod Commits
+pub mod Next
+pub mod Found

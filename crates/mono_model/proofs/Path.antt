@@ -78,6 +78,14 @@ pub path_stop : (s : Setup) (m : ℕ) (os : List Order) → path s (Stop m ∷ o
 unfolding path
 path_stop s m os = λ i n. path s os n
 
+pub path-commit : (s : Setup) (m : ℕ) (os : List Order) (n : ℕ) → path s (Commit m ∷ os) n ≡ path s os n
+unfolding path
+path-commit s m os n = refl
+
+pub path-stop : (s : Setup) (m : ℕ) (os : List Order) (n : ℕ) → path s (Stop m ∷ os) n ≡ path s os n
+unfolding path
+path-stop s m os n = refl
+
 pub path_first : (s : Setup) → path s [] 0 ≡ start s
 unfolding path
 path_first s = refl

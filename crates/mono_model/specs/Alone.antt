@@ -1,5 +1,5 @@
 -- The run without a machine file: one instruction a step, and the step's number is the time.
-use Rattle.std.specs.Prelude.{◌≡◌, refl, ℕ, zero, suc, ◌+◌, ◌==◌, nat_le, if◌then◌else◌, Bool, true, false, length, Option, Some, None}
+use Rattle.std.specs.Prelude.{ℕ, zero, suc, ◌+◌, ◌==◌, nat_le, if◌then◌else◌, Bool, true, false, length, Option, Some, None}
 use Rattle.device_bus.specs.declared.undo.Note.{Note}
 use Rattle.device_bus.specs.declared.undo.Note.TheVariants as note
 use Rattle.machine_csr.specs.Trap.{timer_pending}
@@ -9,10 +9,8 @@ use Rattle.mono_model.specs.declared.final_state.Stats.{Stats}
 use Rattle.mono_model.specs.declared.final_state.Final.{Final}
 use Rattle.mono_model.specs.declared.setup.Setup.{Setup}
 use Rattle.mono_model.specs.Arch.{Arch, start, compare_of, interrupted, synced}
-use Rattle.mono_model.specs.Found.{Found}
-use Rattle.mono_model.specs.Result.{Result}
-use Rattle.mono_model.specs.Effect.{effect, note_of, is_fence_result}
-use Rattle.mono_model.specs.Sequence.{found_next, result_at}
+use Rattle.mono_model.specs.Effect.{note_of, is_fence_result}
+use Rattle.mono_model.specs.Sequence.{found_next, result_at, seq}
 use Rattle.mono_model.specs.Final.{end_of, has_ended, final_of}
 
 pub record Alone : Type 0 where
@@ -53,20 +51,18 @@ abbrev pub count_cause : {A : Type 0} → Option A → ℕ
 count_cause None = 0
 count_cause (Some cause) = 1
 
--- one instruction, in a state in which no interrupt is pending
-abbrev pub stepped : Setup → Found → Result → Alone → Alone
-stepped s found r m =
+-- one instruction, in a state in which no interrupt is pending: the step's number is its time
+abbrev pub instruction : Setup → Alone → Alone
+instruction s m =
+    let r = result_at s (Some m.steps) m.arch in
     if has_no_room s (note_of r m.arch) m.arch
     then record m { end = OutputFull }
     else record m {
-      arch = with_fence s (is_fence_result found r) (effect found r (Some m.steps) m.arch.pc m.arch);
+      arch = with_fence s (is_fence_result (found_next s m.arch) r) (seq s (Some m.steps) m.arch);
       steps = m.steps + 1;
       exceptions = m.exceptions + count_cause r.cause;
       end = end_after s (note_of r m.arch) (m.steps + 1);
     }
-
-abbrev pub instruction : Setup → Alone → Alone
-instruction s m = stepped s (found_next s m.arch) (result_at s (Some m.steps) m.arch) m
 
 -- one step, where the run has not ended
 unfoldable pub alone_step : Setup → Alone → Alone
@@ -76,11 +72,6 @@ alone_step s m = if has_ended m.end then m else instruction s (after_interrupt m
 unfoldable pub alone : Setup → ℕ → Alone
 alone s zero = alone_start s
 alone s (suc n) = alone_step s (alone s n)
-
--- its next-step law
-pub alone-suc : (s : Setup) (n : ℕ) → alone s (suc n) ≡ alone_step s (alone s n)
-unfolding alone
-alone-suc s n = refl
 
 -- the counts of such a run: all that speaks of cycles is 0
 abbrev pub alone_stats : Alone → Stats

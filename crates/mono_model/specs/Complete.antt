@@ -1,6 +1,6 @@
 -- The third phase of a cycle: records whose latency is over are done, the oldest first; the first mispredicted one
 -- flushes all younger records (Hennessy and Patterson, Computer Architecture, section 3.6, write result).
-use Rattle.std.specs.Prelude.{◌≡◌, refl, ℕ, ◌+◌, ◌==◌, ◌&&◌, not, if◌then◌else◌, Bool, is_none, Option, Some, None, List, [], ◌∷◌}
+use Rattle.std.specs.Prelude.{ℕ, ◌+◌, ◌==◌, ◌&&◌, not, if◌then◌else◌, Bool, is_none, Option, Some, None, List, [], ◌∷◌}
 use Rattle.mono_model.specs.Result.{Result}
 use Rattle.mono_model.specs.Window.{Record, Stage, waiting, until, done}
 use Rattle.mono_model.specs.Machine.{Machine, flushed}
@@ -33,11 +33,6 @@ complete_next rec (Some r) rest =
 unfoldable pub completes : ℕ → List Record → Completed
 completes cycle [] = record { records = []; redirect = None }
 completes cycle (rec ∷ rest) = complete_next rec (due cycle rec.stage) (completes cycle rest)
-
-pub completes-cons : (cycle : ℕ) (rec : Record) (rest : List Record) →
-    completes cycle (rec ∷ rest) ≡ complete_next rec (due cycle rec.stage) (completes cycle rest)
-unfolding completes
-completes-cons cycle rec rest = refl
 
 abbrev pub completed_by : Option ℕ → List Record → Machine → Machine
 completed_by None records m = record m { window = records }

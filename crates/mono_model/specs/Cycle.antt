@@ -1,5 +1,5 @@
 -- A cycle of the monolithic machine, and the machine after any number of cycles.
-use Rattle.std.specs.Prelude.{◌≡◌, refl, ℕ, zero, suc, ◌+◌, ◌==◌, if◌then◌else◌}
+use Rattle.std.specs.Prelude.{ℕ, zero, suc, ◌+◌, ◌==◌, if◌then◌else◌}
 use Rattle.mono_model.specs.declared.final_state.End.TheVariants.{Limit}
 use Rattle.mono_model.specs.declared.final_state.Final.{Final}
 use Rattle.mono_model.specs.declared.setup.Setup.{Setup}
@@ -34,11 +34,6 @@ cycled s m = if has_ended m.end then m else end_of_cycle s (phases s m)
 unfoldable pub mono : Setup → ℕ → Machine
 mono s zero = machine_start s
 mono s (suc c) = cycled s (mono s c)
-
--- its next-step law
-pub mono-suc : (s : Setup) (c : ℕ) → mono s (suc c) ≡ cycled s (mono s c)
-unfolding mono
-mono-suc s c = refl
 
 -- what is reported after so many cycles
 abbrev pub final : Setup → ℕ → Final

@@ -1,6 +1,6 @@
 -- The demand run: the monolithic run with instruction numbers and orders written beside it, cut into turns and steps.
 -- It says which orders the timing side gives, and which entry it needs at each place.
-use Rattle.std.specs.Prelude.{◌≡◌, refl, ℕ, zero, suc, ◌+◌, ◌-◌, ◌*◌, ◌==◌, if◌then◌else◌, Bool, true, false, Option, Some, None, List, [], ◌∷◌, length, reverse, drop}
+use Rattle.std.specs.Prelude.{ℕ, zero, suc, ◌+◌, ◌-◌, ◌*◌, ◌==◌, if◌then◌else◌, Bool, true, false, Option, Some, None, List, [], ◌∷◌, length, reverse, drop}
 use Rattle.rollback_cmds.specs.declared.order.Order.{Order}
 use Rattle.rollback_cmds.specs.declared.order.Order.TheVariants.{Set, Commit, Interrupt, Time, Stop, Sync}
 use Rattle.rollback_cmds.specs.Order.{opens_epoch_of}
@@ -162,10 +162,6 @@ step s p = step_by s p.owed p.run
 unfoldable pub place : Setup → ℕ → Place
 place s zero = place_start s
 place s (suc k) = step s (place s k)
-
-pub place-suc : (s : Setup) (k : ℕ) → place s (suc k) ≡ step s (place s k)
-unfolding place
-place-suc s k = refl
 
 -- the orders told up to a place, the newest first
 abbrev pub told : Place → List Order

@@ -1,6 +1,6 @@
 -- The fifth phase of a cycle: records are appended along the predicted path
 -- (Hennessy and Patterson, Computer Architecture, sections 3.3 and 3.9).
-use Rattle.std.specs.Prelude.{◌≡◌, refl, ℕ, zero, suc, ◌+◌, ◌==◌, ◌&&◌, not, nat_le, nat_lt, if◌then◌else◌, Bool, true, false, None, [], ◌∷◌, ◌++◌, length}
+use Rattle.std.specs.Prelude.{ℕ, zero, suc, ◌+◌, ◌==◌, ◌&&◌, not, nat_le, nat_lt, if◌then◌else◌, Bool, true, false, None, [], ◌∷◌, ◌++◌, length}
 use Rattle.fsim_base.specs.Number.{wrap_sum}
 use Rattle.branch_predictor.specs.Predictor.{predicted}
 use Rattle.cache_timing.specs.Caches.{CachesState, Served, fetched}
@@ -78,11 +78,6 @@ after_try (turns behind) go_on = behind
 unfoldable pub fetches : Setup → ℕ → Machine → Machine
 fetches s zero m = m
 fetches s (suc more) m = if may_fetch s m then after_try (fetch_try s m) (λ behind. fetches s more behind) else m
-
-pub fetches-suc : (s : Setup) (more : ℕ) (m : Machine) →
-    fetches s (suc more) m ≡ (if may_fetch s m then after_try (fetch_try s m) (λ behind. fetches s more behind) else m)
-unfolding fetches
-fetches-suc s more m = refl
 
 unfoldable pub fetch_phase : Setup → Machine → Machine
 fetch_phase s m = fetches s s.params.core_fetch m

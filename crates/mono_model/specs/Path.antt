@@ -1,6 +1,6 @@
 -- The path of the functional side: the instructions one after the other under the orders obeyed so far, the newest order
 -- first. Nothing is undone here: a path is computed from the start.
-use Rattle.std.specs.Prelude.{◌≡◌, ◌≤◌, refl, ℕ, zero, suc, ◌+◌, ◌-◌, ◌==◌, ◌||◌, nat_lt, if◌then◌else◌, Bool, true, false, Option, Some, None, List, [], ◌∷◌}
+use Rattle.std.specs.Prelude.{◌≤◌, ℕ, zero, suc, ◌+◌, ◌-◌, ◌==◌, ◌||◌, nat_lt, if◌then◌else◌, Bool, true, false, Option, Some, None, List, [], ◌∷◌}
 use Rattle.rollback_cmds.specs.declared.order.Order.{Order}
 use Rattle.rollback_cmds.specs.declared.order.Order.TheVariants.{Set, Commit, Interrupt, Time, Stop, Sync}
 use Rattle.rollback_cmds.specs.Order.{opens_epoch_of}
@@ -37,39 +37,6 @@ path s (Interrupt m ∷ os) n = spliced s (time_of (Interrupt m ∷ os)) (path s
 path s (Time m v ∷ os) n = spliced s (time_of (Time m v ∷ os)) (path s os) m (path s os m) n
 path s (Stop m ∷ os) n = path s os n
 path s (Sync m ∷ os) n = spliced s (time_of os) (path s os) m (synced s (path s os m)) n
-
--- its laws, one for each kind of order
-pub path-none : (s : Setup) (n : ℕ) → path s [] n ≡ runs s (λ k. None) 0 n (start s)
-unfolding path
-path-none s n = refl
-
-pub path-set : (s : Setup) (m addr : ℕ) (os : List Order) (n : ℕ) →
-    path s (Set m addr ∷ os) n ≡ spliced s (time_of os) (path s os) m (record (path s os m) { pc = addr }) n
-unfolding path
-path-set s m addr os n = refl
-
-pub path-commit : (s : Setup) (m : ℕ) (os : List Order) (n : ℕ) → path s (Commit m ∷ os) n ≡ path s os n
-unfolding path
-path-commit s m os n = refl
-
-pub path-interrupt : (s : Setup) (m : ℕ) (os : List Order) (n : ℕ) →
-    path s (Interrupt m ∷ os) n ≡ spliced s (time_of (Interrupt m ∷ os)) (path s os) m (interrupted (path s os m)) n
-unfolding path
-path-interrupt s m os n = refl
-
-pub path-time : (s : Setup) (m v : ℕ) (os : List Order) (n : ℕ) →
-    path s (Time m v ∷ os) n ≡ spliced s (time_of (Time m v ∷ os)) (path s os) m (path s os m) n
-unfolding path
-path-time s m v os n = refl
-
-pub path-stop : (s : Setup) (m : ℕ) (os : List Order) (n : ℕ) → path s (Stop m ∷ os) n ≡ path s os n
-unfolding path
-path-stop s m os n = refl
-
-pub path-sync : (s : Setup) (m : ℕ) (os : List Order) (n : ℕ) →
-    path s (Sync m ∷ os) n ≡ spliced s (time_of os) (path s os) m (synced s (path s os m)) n
-unfolding path
-path-sync s m os n = refl
 
 -- how many orders opened an epoch
 abbrev pub openings : List Order → ℕ

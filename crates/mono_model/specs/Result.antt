@@ -1,6 +1,6 @@
 -- What an instruction computes of its operands and of what it sees
 -- (RISC-V unprivileged manual, chapter 2, M and Zicsr; privileged manual, sections 3.1, 3.2.1 and 3.3).
-use Rattle.std.specs.Prelude.{ℕ, ◌==◌, ◌&&◌, ◌||◌, if◌then◌else◌, Bool, true, false, is_none, is_some, Option, Some, None, unwrap_or}
+use Rattle.std.specs.Prelude.{ℕ, ◌+◌, ◌==◌, ◌&&◌, ◌||◌, not, if◌then◌else◌, Bool, true, false, is_none, is_some, Option, Some, None, unwrap_or}
 use Rattle.fsim_base.specs.Number.{wrap_sum}
 use Rattle.fsim_base.specs.Memory.{from_bytes}
 use Rattle.fsim_base.specs.Width.{width_bytes, is_aligned}
@@ -25,8 +25,9 @@ use Rattle.machine_csr.specs.declared.csrs.CsrWrite.{CsrWrite}
 use Rattle.machine_csr.specs.Csr.{csr_access, reads_time_of}
 use Rattle.machine_csr.specs.Trap.{return_address}
 use Rattle.device_bus.specs.declared.place.Place.{Place}
-use Rattle.device_bus.specs.Device.{loading}
-use Rattle.device_bus.specs.Bus.{Devices, find_of, kind_at, answer_at}
+use Rattle.device_bus.specs.declared.kind.DeviceKind.TheVariants.{Timer}
+use Rattle.device_bus.specs.Device.{loading, time_low_offset, time_high_offset}
+use Rattle.device_bus.specs.Bus.{Devices, range_of, find_of, kind_at, answer_at}
 use Rattle.mono_model.specs.Arch.{compare_of}
 use Rattle.mono_model.specs.Found.{Found, refused, unknown, known, is_csr_insn, is_mret_insn}
 
@@ -49,30 +50,48 @@ pub record Result : Type 0 where
   pub cause : Option Cause
   pub mtval : ℕ
 
--- a trap before anything was done
-abbrev pub failing : ℕ → Cause → ℕ → Result
-failing addr cause mtval = record { value = 0; next = wrap_sum addr 4; access = access.Nothing; cause = Some cause; mtval = mtval }
-
--- Where the bytes of an access lie: a misaligned one nowhere.
-abbrev pub spot_of : RamRange → ℕ → Width → Spot
-spot_of ram addr width =
-    if is_aligned addr width
-    then (if is_inside ram addr (width_bytes width) then Ram else (if is_some (find_of addr width) then Device else Nowhere))
-    else Nowhere
-
 -- a value, and on to an address
 abbrev pub resulting : ℕ → ℕ → Access → Result
 resulting value next made = record { value = value; next = next; access = made; cause = None; mtval = 0 }
 
--- an access that can't be made
+-- a cause, with the access as it was attempted
 abbrev pub failing_access : ℕ → Access → Cause → ℕ → Result
 failing_access next tried cause mtval = record { value = 0; next = next; access = tried; cause = Some cause; mtval = mtval }
 
--- what a device gives to a load, where it accepts the load
+-- a cause before anything was done
+abbrev pub failing : ℕ → Cause → ℕ → Result
+failing addr cause mtval = failing_access (wrap_sum addr 4) access.Nothing cause mtval
+
+-- An access can't be made where it is misaligned, where it is outside RAM and the devices, or where it is not accepted by the
+-- device there.
+abbrev pub is_misaligned : ℕ → Width → Bool
+is_misaligned addr width = not (is_aligned addr width)
+
+-- where the bytes of an access lie: those of a misaligned one nowhere
+abbrev pub spot_of : RamRange → ℕ → Width → Spot
+spot_of ram addr width =
+    if is_misaligned addr width then Nowhere
+    else (if is_inside ram addr (width_bytes width) then Ram
+    else (if is_some (find_of addr width) then Device else Nowhere))
+
+abbrev pub is_outside : Spot → Bool
+is_outside Ram = false
+is_outside Device = false
+is_outside Nowhere = true
+
+abbrev pub accepts_place : Option Place → Bool
+accepts_place None = false
+accepts_place (Some place) = place.accepted
+
+abbrev pub is_accepted : ℕ → Width → Spot → Bool
+is_accepted addr width Ram = true
+is_accepted addr width Device = accepts_place (find_of addr width)
+is_accepted addr width Nowhere = false
+
+-- A load: its bytes as a number, and none where it is outside or not accepted
 abbrev pub given_by : Seen → Width → Place → ℕ
 given_by e width place = (answer_at e.devices (kind_at place.device) (loading place.off width (unwrap_or e.time 0))).value
 
--- the bytes of a load, as a number; none where the access can't be made
 abbrev pub given_by_place : Seen → Width → Option Place → Option ℕ
 given_by_place e width None = None
 given_by_place e width (Some place) = if place.accepted then Some (given_by e width place) else None
@@ -89,25 +108,20 @@ loaded_raw next addr width signed spot (Some raw) = resulting (loaded_value widt
 abbrev pub loaded_at : ℕ → ℕ → Width → Bool → Seen → Spot → Result
 loaded_at next addr width signed e spot = loaded_raw next addr width signed spot (raw_at e addr width spot)
 
--- whether a store can be made
-abbrev pub accepts_place : Option Place → Bool
-accepts_place None = false
-accepts_place (Some place) = place.accepted
-
-abbrev pub accepts_store : ℕ → Width → Spot → Bool
-accepts_store addr width Ram = true
-accepts_store addr width Device = accepts_place (find_of addr width)
-accepts_store addr width Nowhere = false
+-- A store
+abbrev pub can_store : ℕ → Width → Spot → Bool
+can_store addr width spot = not (is_outside spot) && is_accepted addr width spot
 
 abbrev pub stored_at : ℕ → ℕ → Width → ℕ → Spot → Result
 stored_at next addr width value spot =
-    if accepts_store addr width spot
+    if can_store addr width spot
     then resulting value next (access.Store addr width spot)
     else failing_access next (access.Store addr width spot) StoreAccess addr
 
 -- the instructions that read the time: an aligned word load of the timer's time, and the CSR instructions that do
 abbrev pub is_time_address : ℕ → Bool
-is_time_address addr = addr == 0x0200bff8 || addr == 0x0200bffc
+is_time_address addr =
+    addr == (range_of Timer).base + time_low_offset || addr == (range_of Timer).base + time_high_offset
 
 abbrev pub is_time_load : Access → Bool
 is_time_load access.Nothing = false
@@ -135,32 +149,29 @@ csr_result word insn addr time (Some done) = resulting (csr_value insn time done
 abbrev pub csr_read : Seen → Insn → ℕ → Option (ℕ × CsrWrite)
 csr_read e insn x = csr_access e.csrs insn x (unwrap_or e.time 0) (compare_of e.devices)
 
--- What needs neither memory nor a device.
-abbrev pub plain_result : ℕ → Insn → ℕ → ℕ → Seen → Outcome → Result
-plain_result word insn addr x e o =
-    if is_csr_insn insn then csr_result word insn addr e.time (csr_read e insn x)
-    else (if is_mret_insn insn then resulting 0 (return_address e.csrs) access.Nothing else resulting o.value o.next access.Nothing)
-
-abbrev pub reached : RamRange → ℕ → Insn → ℕ → ℕ → Seen → Outcome → Reach → Result
-reached ram word insn addr x e o reach.Nothing = plain_result word insn addr x e o
-reached ram word insn addr x e o (reach.Load target width signed) = loaded_at o.next target width signed e (spot_of ram target width)
-reached ram word insn addr x e o (reach.Store target width value) = stored_at o.next target width value (spot_of ram target width)
-
--- an access as it was attempted, misaligned
+-- An outcome is a cause, among them that of a misaligned access; or a load, a store, or a value alone.
 abbrev pub attempted : Reach → Access
 attempted reach.Nothing = access.Nothing
 attempted (reach.Load target width signed) = access.Load target width Nowhere
 attempted (reach.Store target width value) = access.Store target width Nowhere
 
-abbrev pub by_cause : RamRange → ℕ → Insn → ℕ → ℕ → Seen → Outcome → Option (Cause × ℕ) → Result
-by_cause ram word insn addr x e o None = reached ram word insn addr x e o o.reach
-by_cause ram word insn addr x e o (Some why) = failing_access o.next (attempted o.reach) why.0 why.1
+abbrev pub reached : RamRange → Seen → Outcome → Reach → Result
+reached ram e o reach.Nothing = resulting o.value o.next access.Nothing
+reached ram e o (reach.Load target width signed) = loaded_at o.next target width signed e (spot_of ram target width)
+reached ram e o (reach.Store target width value) = stored_at o.next target width value (spot_of ram target width)
 
-abbrev pub evaluated : RamRange → ℕ → Insn → ℕ → ℕ → Seen → Outcome → Result
-evaluated ram word insn addr x e o = by_cause ram word insn addr x e o o.cause
+abbrev pub by_cause : RamRange → Seen → Outcome → Option (Cause × ℕ) → Result
+by_cause ram e o None = reached ram e o o.reach
+by_cause ram e o (Some why) = failing_access o.next (attempted o.reach) why.0 why.1
+
+abbrev pub evaluated : RamRange → Seen → Outcome → Result
+evaluated ram e o = by_cause ram e o o.cause
 
 -- what stands at an address comes to this, with the values of its sources and what it sees
 unfoldable pub executed : RamRange → Found → ℕ → ℕ → ℕ → Seen → Result
 executed ram (refused cause) addr x y e = failing addr cause addr
 executed ram (unknown word) addr x y e = failing addr IllegalInstruction word
-executed ram (known word insn) addr x y e = evaluated ram word insn addr x e (eval_of insn addr x y)
+executed ram (known word insn) addr x y e =
+    if is_csr_insn insn then csr_result word insn addr e.time (csr_read e insn x)
+    else (if is_mret_insn insn then resulting 0 (return_address e.csrs) access.Nothing
+    else evaluated ram e (eval_of insn addr x y))

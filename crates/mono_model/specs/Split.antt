@@ -1,6 +1,6 @@
 -- The split state: the functional side, the timing side, and the entries and orders under way between them; its six
 -- events; and what is committed (Chiou et al., FPGA-Accelerated Simulation Technologies, MICRO 2007).
-use Rattle.std.specs.Prelude.{◌≡◌, refl, ℕ, zero, suc, ◌+◌, ◌*◌, ◌==◌, ◌&&◌, ◌||◌, not, nat_lt, if◌then◌else◌, Bool, true, false, is_none, Option, Some, None, List, [], ◌∷◌, ◌++◌, length}
+use Rattle.std.specs.Prelude.{ℕ, zero, suc, ◌+◌, ◌*◌, ◌==◌, ◌&&◌, ◌||◌, not, nat_lt, if◌then◌else◌, Bool, true, false, is_none, Option, Some, None, List, [], ◌∷◌, ◌++◌, length}
 use Rattle.rollback_cmds.specs.declared.order.Order.{Order}
 use Rattle.rollback_cmds.specs.declared.order.Order.TheVariants.{Set, Commit, Interrupt, Time, Stop, Sync}
 use Rattle.rollback_cmds.specs.Order.{opens_epoch_of}
@@ -186,11 +186,6 @@ round s x =
 unfoldable pub rounds_to_boundary : Setup → ℕ → Split → Split
 rounds_to_boundary s zero x = x
 rounds_to_boundary s (suc more) x = if is_boundary x then x else rounds_to_boundary s more (round s x)
-
-pub rounds_to_boundary-suc : (s : Setup) (more : ℕ) (x : Split) →
-    rounds_to_boundary s (suc more) x ≡ (if is_boundary x then x else rounds_to_boundary s more (round s x))
-unfolding rounds_to_boundary
-rounds_to_boundary-suc s more x = refl
 
 -- A boundary is never further than these rounds: behind the orders and entries under way, each of the turns of a cycle
 -- waits at most until the orders before it were obeyed and the entries of older epochs were dropped.

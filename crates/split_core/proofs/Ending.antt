@@ -7,8 +7,9 @@ use Rattle.trace_entry.specs.declared.Entry.{Entry}
 use Rattle.mono_model.specs.declared.setup.Setup.{Setup}
 use Rattle.mono_model.specs.Setup.{is_setup}
 use Rattle.mono_model.specs.Path.{has_stop}
-use Rattle.mono_model.specs.Demand.{At, interrupting, committing, completing, issuing, trying, ending, stopping, halted, Place, step, place, place-suc, told, step_bound, needs_entry, is_try}
+use Rattle.mono_model.specs.Demand.{At, interrupting, committing, completing, issuing, trying, ending, stopping, halted, Place, step, place, told, step_bound, needs_entry, is_try}
 use Rattle.mono_model.specs.Split.{Split, Event, compute, push, obey, tick, take, send, event_at, may_compute, may_tick, pushed, on_obey, obeys, may_take, on_take, sent, ticked_to, is_halted, is_cycle_start, is_place_boundary, is_boundary, round, rounds_to_boundary, to_boundary, boundary_rounds}
+use Rattle.mono_model.proofs.Next.{place-suc}
 use Rattle.machine_laws.specs.Runs.{Halts}
 use Rattle.machine_laws.specs.Reached.{IsReached}
 use Rattle.machine_laws.specs.SplitLaw.{IsRun, IsLevel}

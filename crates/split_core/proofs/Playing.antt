@@ -4,7 +4,8 @@ use Rattle.std.proofs.lemmas.Bool.{cond-true, cond-false, cond_both}
 use Rattle.mono_model.specs.declared.setup.Setup.{Setup}
 use Rattle.mono_model.specs.Setup.{is_setup}
 use Rattle.mono_model.specs.Split as split
-use Rattle.mono_model.specs.Split.{Split, event_at, played, round, rounds_to_boundary, rounds_to_boundary-suc, to_boundary, boundary_rounds, is_boundary, is_place_boundary}
+use Rattle.mono_model.specs.Split.{Split, event_at, played, round, rounds_to_boundary, to_boundary, boundary_rounds, is_boundary, is_place_boundary}
+use Rattle.mono_model.proofs.Next.{rounds_to_boundary-suc}
 use Rattle.machine_laws.specs.Reached.{IsReached}
 use Rattle.machine_laws.proofs.SplitReached.{event_reached, round_reached, boundary_reached}
 use Rattle.machine_laws.proofs.SplitArriving.{comes_to_boundary}

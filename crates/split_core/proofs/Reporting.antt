@@ -10,8 +10,9 @@ use Rattle.mono_model.specs.declared.final_state.Final.{Final}
 use Rattle.mono_model.specs.Arch.{Arch}
 use Rattle.mono_model.specs.Machine.{Machine, stats_of}
 use Rattle.mono_model.specs.Cycle.{mono, final}
-use Rattle.mono_model.specs.Path.{path, path-stop}
+use Rattle.mono_model.specs.Path.{path}
 use Rattle.mono_model.specs.Split.{Split, is_boundary, is_place_boundary}
+use Rattle.mono_model.proofs.Path.{path-stop}
 use Rattle.machine_laws.specs.Reached.{IsReached}
 use Rattle.machine_laws.specs.SplitLaw.{IsRun, IsLevel, IsRanged}
 use Rattle.machine_laws.proofs.SplitReached.{reached_run}

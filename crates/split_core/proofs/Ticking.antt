@@ -4,8 +4,9 @@ use Rattle.std.proofs.lemmas.Bool.{cond-true, cond-false, and_parts}
 use Rattle.rollback_cmds.specs.declared.order.Order.{Order}
 use Rattle.trace_entry.specs.declared.Entry.{Entry}
 use Rattle.mono_model.specs.declared.setup.Setup.{Setup}
-use Rattle.mono_model.specs.Demand.{At, interrupting, committing, completing, issuing, trying, ending, stopping, halted, Place, place, place-suc, step, needs_entry}
+use Rattle.mono_model.specs.Demand.{At, interrupting, committing, completing, issuing, trying, ending, stopping, halted, Place, place, step, needs_entry}
 use Rattle.mono_model.specs.Split.{Split, tick, event_at, may_tick, is_halted, ticked_to, told_by, held_after}
+use Rattle.mono_model.proofs.Next.{place-suc}
 use Rattle.time_model.specs.declared.state.TimeState.{TimeState}
 use Rattle.time_model.specs.declared.turn.Turn.{Turn}
 use Rattle.time_model.specs.Standing.{IsStep, IsMade, is_over}

@@ -8,8 +8,9 @@ use Rattle.trace_entry.specs.declared.Entry.{Entry}
 use Rattle.mono_model.specs.declared.setup.Setup.{Setup}
 use Rattle.mono_model.specs.Setup.{is_setup}
 use Rattle.mono_model.specs.Path.{entry, openings}
-use Rattle.mono_model.specs.Demand.{next, At, Place, place, place-suc, told, needs_entry, needed_entry}
+use Rattle.mono_model.specs.Demand.{next, At, Place, place, told, needs_entry, needed_entry}
 use Rattle.mono_model.specs.Split.{is_halted, told_by, opens, has_appended, held_after}
+use Rattle.mono_model.proofs.Next.{place-suc}
 use Rattle.machine_laws.proofs.SplitSteps.{Owes, owes_none, owes_one, Steps, tells_none, tells_commit, tells_opening, tells_stop, Stepped, step_stepped}
 use Rattle.machine_laws.proofs.SplitTurns.{one}
 use Rattle.machine_laws.proofs.SplitEntries.{no_opening}
