@@ -16,6 +16,12 @@ use std::alloc::Global;
 use trace_entry::Entry;
 use undo_journal::Past;
 
+/// The cause number of the machine timer interrupt: the interrupt bit and code 7.
+const TIMER_INTERRUPT: u32 = 0x8000_0007;
+
+/// The address of the low half of the timer's time; the high half stands behind it.
+const TIME: u32 = 0x0200_bff8;
+
 /// The end that the program asked for.
 fn end_of(halt: Halt) -> End
     ensures end { result ≡ end_of halt }
@@ -45,7 +51,7 @@ fn is_time_load(access: Access) -> bool
             addr,
             width: Width::Word,
             ..
-        } => addr == 0x0200_bff8 || addr == 0x0200_bffc,
+        } => addr == TIME || addr == TIME + 4,
         _ => false,
     }
 }
@@ -116,7 +122,7 @@ impl<D: Device> Contents<D> {
         if !self.hart.csrs.timer_pending(time, cmp) {
             return 0;
         }
-        self.hart.trap(0x8000_0007, 0);
+        self.hart.trap(TIMER_INTERRUPT, 0);
         1
     }
 
@@ -283,7 +289,7 @@ impl<D: Device> Contents<D> {
         ensures stands { (s : Setup) (a : Arch) → ContentsStandFor s a self.old → ContentsStandFor s (interrupted a) self.new }
         ensures room { self.new.hart.room ≡ self.old.hart.room }
     {
-        self.hart.trap(0x8000_0007, 0);
+        self.hart.trap(TIMER_INTERRUPT, 0);
     }
 
     /// Lets fetch see memory as it stands.

@@ -29,9 +29,9 @@ pub struct Past {
     pub number: u64,
     /// The instruction's address.
     pub addr: u32,
+    /// Whether it sent a byte to the output.
+    pub out: bool,
     /// The register that it writes, if it has one, with its value before, also where it traps.
     pub reg: Option<OldRegister>,
     pub change: Change,
-    /// Whether it sent a byte to the output.
-    pub out: bool,
 }
