@@ -2,7 +2,8 @@
 use Rattle.std.proofs.Common.{◌≡◌, ℕ, zero, suc, ◌-◌, ◌≤◌, [], length, sym, subst, arith}
 use Rattle.mono_model.specs.declared.setup.Setup.{Setup}
 use Rattle.mono_model.specs.Machine.{machine_start}
-use Rattle.mono_model.specs.Demand.{Demand, At, interrupting, Run, run_start, turn_at, turn, Place, place_start, step_by, step, place, place-suc}
+use Rattle.mono_model.specs.Demand.{Demand, At, interrupting, Run, run_start, turn_at, turn, Place, place_start, step_by, step, place}
+use Rattle.mono_model.proofs.Next.{place-suc}
 
 -- In any run of steps: `P k x` says something of what there is after `k` of them, and `A` is known of it.
 module _ {X : Type 0} (step : X → X) (at : ℕ → X) (next : (k : ℕ) → at (suc k) ≡ step (at k)) (A P : ℕ → X → Type 0)

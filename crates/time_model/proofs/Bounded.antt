@@ -24,7 +24,7 @@ use Rattle.timing_side.specs.Fetch.{is_fetchable, cache_read, missed, appended, 
 use Rattle.timing_side.specs.Turn.{timing_turn, timing_end_of_cycle}
 use Rattle.timing_side.specs.Step.{TimingPlace, Stepped, timing_place_start, step_by, telling, timing_step}
 use Rattle.timing_laws.specs.Seen.{seen_at}
-use Rattle.timing_laws.proofs.Commits.{GoesOn, leaving_case, every_commit}
+use Rattle.timing_side.proofs.Commits.{GoesOn, leaving_case, every_commit}
 use Rattle.timing_laws.proofs.Stepping.{starts, place_step}
 
 pub record IsBounded (t : Timing) : Type 0 where

@@ -5,7 +5,8 @@ use Rattle.reorder_buffer.specs.declared.slot.Slot.{Slot}
 use Rattle.reorder_buffer.specs.declared.slot.SlotState.{SlotState}
 use Rattle.reorder_buffer.specs.declared.slot.SlotState.TheVariants.{Waiting, Until, Done}
 use Rattle.in_flight.specs.Flight.{is_executing_state, executes, executes_at}
-use Rattle.timing_side.specs.Complete.{Completed, is_finishing, is_mispredicted, finished, in_front, complete_next, completes, completes-cons}
+use Rattle.timing_side.specs.Complete.{Completed, is_finishing, is_mispredicted, finished, in_front, complete_next, completes}
+use Rattle.timing_side.proofs.Next.{completes-cons}
 
 -- with some slots in front
 abbrev pub in_fronts : List Slot → Completed → Completed

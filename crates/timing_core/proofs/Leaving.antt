@@ -15,7 +15,7 @@ use Rattle.timing_side.specs.Slots.{found_in}
 use Rattle.timing_side.specs.Timing.{Timing}
 use Rattle.timing_side.specs.Commit as phase
 use Rattle.timing_side.specs.Commit.{committed, faulted, has_no_room, leaving_by, leaving_done, leaving_state, leaving_first, leaving, after_leaving, ended_with, commits}
-use Rattle.timing_laws.proofs.Commits.{leaving_case, commits-suc}
+use Rattle.timing_side.proofs.Commits.{leaving_case, commits-suc}
 use Rattle.timing_core.specs.declared.commit.Leaving.{Leaving}
 use Rattle.timing_core.specs.declared.commit.Committed.{Committed}
 use Rattle.timing_core.specs.Small.{IsBelow}

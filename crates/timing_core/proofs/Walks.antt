@@ -10,7 +10,8 @@ use Rattle.cache_timing.specs.Caches.{CachesState}
 use Rattle.mono_model.specs.declared.setup.Setup.{Setup}
 use Rattle.mono_model.specs.Issue.{Used, has_unit, cached}
 use Rattle.timing_side.specs.Slots.{is_waiting_state}
-use Rattle.timing_side.specs.Issue.{has_operands, class_allows, may_begin, Turned, unchanged, begun, turn_of, Walked, walk, walk-cons}
+use Rattle.timing_side.specs.Issue.{has_operands, class_allows, may_begin, Turned, unchanged, begun, turn_of, Walked, walk}
+use Rattle.timing_side.proofs.Next.{walk-cons}
 use Rattle.in_flight.specs.Flight.{older_at, may_start_at}
 
 -- a turn by its test

@@ -32,7 +32,7 @@ use Rattle.timing_side.specs.Slots.{found_in}
 use Rattle.timing_side.specs.Timing.{Timing, cut_to}
 use Rattle.timing_side.specs.Commit as timing
 use Rattle.timing_laws.specs.Seen.{state_of, slot_of, slots_of, seen}
-use Rattle.timing_laws.proofs.Commits.{commits-suc}
+use Rattle.timing_side.proofs.Commits.{commits-suc}
 use Rattle.timing_laws.proofs.Effects.{committed_retired, committed_output, faulted_retired, faulted_output}
 use Rattle.timing_laws.proofs.Entries.{entry_addr, entry_access, entry_cause, entry_next, entry_goes, entry_out, entry_halt, entry_irq, entry_cmp, slot_says, slots_length, slots_same, cut_seen, IsPhase}
 

@@ -12,4 +12,3 @@ pub mod Issue
 pub mod Turning
 pub mod Stepping
 pub mod Knowing
-pub mod Commits

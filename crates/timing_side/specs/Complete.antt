@@ -1,6 +1,6 @@
 -- The third phase of a cycle: slots whose latency is over are done, the oldest first; the first mispredicted one
 -- flushes all younger slots (Hennessy and Patterson, Computer Architecture, section 3.6, write result).
-use Rattle.std.specs.Prelude.{◌≡◌, refl, ℕ, ◌+◌, ◌==◌, ◌&&◌, not, if◌then◌else◌, Bool, true, false, is_none, Option, Some, None, List, [], ◌∷◌, length}
+use Rattle.std.specs.Prelude.{ℕ, ◌+◌, ◌==◌, ◌&&◌, not, if◌then◌else◌, Bool, true, false, is_none, Option, Some, None, List, [], ◌∷◌, length}
 use Rattle.reorder_buffer.specs.declared.slot.Slot.{Slot}
 use Rattle.reorder_buffer.specs.declared.slot.SlotState.{SlotState}
 use Rattle.reorder_buffer.specs.declared.slot.SlotState.TheVariants.{Waiting, Until, Done}
@@ -38,11 +38,6 @@ complete_next slot true rest =
 unfoldable pub completes : ℕ → List Slot → Completed
 completes cycle [] = record { slots = []; redirect = None }
 completes cycle (slot ∷ rest) = complete_next slot (is_finishing cycle slot.state) (completes cycle rest)
-
-pub completes-cons : (cycle : ℕ) (slot : Slot) (rest : List Slot) →
-    completes cycle (slot ∷ rest) ≡ complete_next slot (is_finishing cycle slot.state) (completes cycle rest)
-unfolding completes
-completes-cons cycle slot rest = refl
 
 abbrev pub completed_by : Option ℕ → List Slot → Timing → Timing
 completed_by None slots t = record t { slots = slots }

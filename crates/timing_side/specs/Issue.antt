@@ -1,7 +1,7 @@
 -- The fourth phase of a cycle: slots whose operands are there and that have a unit begin to execute, from the oldest to
 -- the youngest (Hennessy and Patterson, Computer Architecture, section 3.6, issue and execute; section 3.4, Tomasulo's
 -- algorithm).
-use Rattle.std.specs.Prelude.{◌≡◌, refl, ℕ, ◌+◌, ◌&&◌, nat_le, if◌then◌else◌, Bool, true, false, is_none, Option, Some, None, List, [], ◌∷◌}
+use Rattle.std.specs.Prelude.{ℕ, ◌+◌, ◌&&◌, nat_le, if◌then◌else◌, Bool, true, false, is_none, Option, Some, None, List, [], ◌∷◌}
 use Rattle.fsim_base.specs.declared.access.Access.{Access}
 use Rattle.fsim_base.specs.declared.access.Access.TheVariants as access
 use Rattle.fsim_base.specs.declared.access.Spot.TheVariants.{Device}
@@ -122,13 +122,6 @@ walk s cycle busy [] older used caches = record { slots = []; caches = caches }
 walk s cycle busy (slot ∷ rest) older used caches =
     let t = turn_of s cycle busy older slot used caches in
     walked_on t.turned (walk s cycle busy rest (t.turned ∷ older) t.used t.caches)
-
-pub walk-cons : (s : Setup) (cycle busy : ℕ) (slot : Slot) (rest older : List Slot) (used : Used) (caches : CachesState) →
-    walk s cycle busy (slot ∷ rest) older used caches ≡
-    (let t = turn_of s cycle busy older slot used caches in
-    walked_on t.turned (walk s cycle busy rest (t.turned ∷ older) t.used t.caches))
-unfolding walk
-walk-cons s cycle busy slot rest older used caches = refl
 
 -- The oldest slot, where it reads the time and was given none, is sent back to fetch to be given this cycle as its time.
 abbrev pub wants_time_first : Params → ℕ → List Slot → Bool
