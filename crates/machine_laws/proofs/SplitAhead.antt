@@ -12,10 +12,9 @@ use Rattle.mono_model.specs.Machine.{machine_start}
 use Rattle.mono_model.specs.Path.{entry, openings, stops}
 use Rattle.mono_model.specs.Sequence.{entry_at}
 use Rattle.mono_model.specs.Demand.{next, Place, step, told, needs_entry, number_of}
-use Rattle.mono_model.specs.Split.{Split, split_start, Event, room, goes_to, compute, push, obey, tick, take, send, may_compute, on_compute, pushed, obeys, on_obey, is_halted, may_tick, told_by, opens, has_appended, held_after, ticked_to, on_tick, may_take, taken, on_take, sent, event_at, run}
+use Rattle.mono_model.specs.Split.{Split, split_start, Event, room, goes_to, compute, push, obey, tick, take, send, may_compute, on_compute, pushed, obeys, on_obey, is_halted, may_tick, told_by, opens, has_appended, held_after, ticked_to, on_tick, may_take, taken, on_take, sent, event_at}
 use Rattle.machine_laws.proofs.Telling.{by_none, by_one}
-use Rattle.machine_laws.proofs.SplitEvents.{run_keeps}
-use Rattle.machine_laws.proofs.SplitOrders.{IsOrdered, none_is, may_hand, event_ordered, start_ordered}
+use Rattle.machine_laws.proofs.SplitOrders.{IsOrdered, none_is, may_hand}
 use Rattle.machine_laws.proofs.SplitTurns.{one}
 use Rattle.machine_laws.proofs.SplitSteps.{Owes, owes_none, owes_one, Steps, tells_none, tells_commit, tells_opening, tells_stop, Stepped, step_stepped}
 use Rattle.machine_laws.proofs.SplitLists.{position_by, position_behind, AreReached, opening_position, position_last, reached_last, reached_further, position_stays, position_same, hand_list, openings_told, entry_list, Lead, EpochsAtMost, lead_last, lead_stale, lead_without, lead_none, lead_most, lead_front, lead_rest, most_append, most_front, most_behind, most_further}
@@ -335,10 +334,6 @@ module _ (x : Split) (is : IsAhead x) (q : Place) (stepped : Stepped x.place q) 
       subst (λ (b : Option Order). IsAhead (ticked_with b (held_after b x.place q x.held))) (sym tells)
       (subst (λ (c : Option Entry). IsAhead (ticked_with o c)) (sym keeps) ahead)
 
-  stopless_last : (os : List Order) → Stopless os → StopLast os
-  stopless_last [] less = tt
-  stopless_last (o ∷ os) less = less.1
-
   by_made : Steps (next x.place.run.demand + one a) x.place q → IsAhead (ticked_to q x)
   unfolding a
   by_made (tells_none all is_told to none on) =
@@ -494,7 +489,3 @@ event_ahead s obey x ordered is = obey_ahead s x.listed_orders x refl ordered is
 event_ahead s tick x ordered is = tick_ahead s x ordered is
 event_ahead s take x ordered is = take_ahead s x.entries x refl is
 event_ahead s send x ordered is = send_ahead s x.hand x refl is
-
-pub run_ahead : (s : Setup) (events : List Event) → IsOrdered s (run s events) × IsAhead (run s events)
-run_ahead s events =
-    run_keeps s (λ x. IsOrdered s x × IsAhead x) (λ e x is. (event_ordered s e x is.0, event_ahead s e x is.0 is.1)) (start_ordered s, start_ahead s) events

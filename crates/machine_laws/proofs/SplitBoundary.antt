@@ -59,10 +59,6 @@ fewer_wait ring false true (suc p) q st su less most gives = let lacks = gives r
 fewer_wait ring true true (suc p) zero st su less most gives = omega arith
 fewer_wait ring true true (suc p) (suc q) st su less most gives = omega arith
 
-pub fewer_stale : (ring : ℕ) (now : Bool) (st su : ℕ) → su < st → wait_of ring now 0 su < wait_of ring true 0 st
-fewer_stale ring false st su less = omega arith
-fewer_stale ring true st su less = omega arith
-
 abbrev pub lacks : Split → Bool
 lacks x = needs_entry x.place && is_none x.held
 

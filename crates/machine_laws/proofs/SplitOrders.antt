@@ -9,10 +9,9 @@ use Rattle.trace_entry.specs.declared.Entry.{Entry}
 use Rattle.mono_model.specs.declared.setup.Setup.{Setup}
 use Rattle.mono_model.specs.Path.{entry}
 use Rattle.mono_model.specs.Demand.{Place, place, step, told, needs_entry}
-use Rattle.mono_model.specs.Split.{Split, split_start, Event, compute, push, obey, tick, take, send, may_compute, on_compute, pushed, obeys, on_obey, is_halted, may_tick, told_by, ticked_to, on_tick, may_take, taken, on_take, sent, event_at, run}
+use Rattle.mono_model.specs.Split.{Split, split_start, Event, compute, push, obey, tick, take, send, may_compute, on_compute, pushed, obeys, on_obey, is_halted, may_tick, told_by, ticked_to, on_tick, may_take, taken, on_take, sent, event_at}
 use Rattle.machine_laws.specs.Telling.{with_order}
 use Rattle.machine_laws.proofs.Telling.{step_told}
-use Rattle.machine_laws.proofs.SplitEvents.{run_keeps}
 
 -- The place, and the orders.
 pub record IsOrdered (s : Setup) (x : Split) : Type 0 where
@@ -114,6 +113,3 @@ event_ordered s obey x is = obey_ordered s x.listed_orders x refl is
 event_ordered s tick x is = tick_ordered s x is
 event_ordered s take x is = take_ordered s x.entries x is
 event_ordered s send x is = send_ordered s x.hand x refl is
-
-pub run_ordered : (s : Setup) (events : List Event) → IsOrdered s (run s events)
-run_ordered s events = run_keeps s (IsOrdered s) (event_ordered s) (start_ordered s) events

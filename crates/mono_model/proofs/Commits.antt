@@ -14,7 +14,7 @@ use Rattle.mono_model.specs.Final.{end_of}
 use Rattle.mono_model.specs.Alone.{has_no_room}
 use Rattle.mono_model.specs.Window.{Record, Stage, waiting, until, done}
 use Rattle.mono_model.specs.Machine.{Machine}
-use Rattle.mono_model.specs.Commit.{Leaving, stays, full, leaves, faults, syncs, ends, committed, faulted, fenced, leaving_by, leaving_stage, leaving, Ending, plain, trap, sync, Committed, ended_with, commits}
+use Rattle.mono_model.specs.Commit.{Leaving, stays, full, leaves, faults, syncs, ends, committed, faulted, fenced, leaving_by, leaving_stage, leaving, plain, trap, sync, Committed, ended_with, commits}
 
 -- the oldest record is done, with this result
 pub record IsDone (m : Machine) (rec : Record) (rest : List Record) (r : Result) : Type 0 where

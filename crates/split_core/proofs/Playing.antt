@@ -24,9 +24,6 @@ pub played_reached : (s : Setup) (es : List split.Event) (x : Split) → IsReach
 played_reached s [] x reached = reached
 played_reached s (e ∷ es) x reached = played_reached s es (event_at s e x) (event_reached s e x reached)
 
-pub played_start : {D : Type 0} (old : SplitState D) → IsStanding old → Played [] old old
-played_start old standing = record { standing = standing; leads = λ s x sound reached h. h }
-
 played_last : (s : Setup) (events : List Event) (e : Event) (x : Split) → played s (map event_in (events ++ e ∷ [])) x ≡ event_at s (event_in e) (played s (map event_in events) x)
 played_last s [] e x = refl
 played_last s (a ∷ events) e x = played_last s events e (event_at s (event_in a) x)
