@@ -5,7 +5,7 @@ ghost use Rattle.branch_predictor.specs.Predictor.{moved as moved_by, selector a
 use crate::params::PredKind;
 
 /// The place of a number in a table of so many entries.
-#[tactic(auto, using(crate::proofs::Powers::and_power, crate::proofs::Powers::power_positive))]
+#[tactic(auto, using(fsim_base::proofs::Powers::and_power, fsim_base::proofs::Powers::power_positive))]
 pub fn place_in(entries: u32, number: u32) -> usize
     requires { IsTrue (is_power_of_two entries) }
     ensures remainder { result ≡ number % entries }
