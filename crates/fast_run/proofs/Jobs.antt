@@ -17,7 +17,7 @@ use Rattle.machine_file.specs.File.{params_of}
 use Rattle.gen_image.specs.Soak.{soak_image}
 use Rattle.gen_image.specs.Machine.{soak_machine}
 use Rattle.fast_run.specs.Job.{bytes_at, default_options, func_job, image_in, machine_in, plan_in, run_job, sched_job, setup_for, soak_setup}
-use Rattle.fast_run.specs.Plain.{plain_params}
+use Rattle.mono_model.specs.Plain.{plain_params}
 use Rattle.fast_run.specs.Reading.{AreWithin}
 
 -- a stage that went well leaves the rest

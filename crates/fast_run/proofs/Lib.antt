@@ -7,3 +7,4 @@ pub mod Readings
 pub mod Answers
 pub mod Settling
 pub mod Words
+pub mod Refusals

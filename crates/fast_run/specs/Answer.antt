@@ -14,7 +14,8 @@ use Rattle.fast_run.specs.Call.{Reading, Writing, WroteTo}
 use Rattle.fast_run.specs.Reading.{AreRead, StopsIn}
 
 -- the files of the line were read, and with their bytes it asks for this job, or has this refusal
-pub record Asks (line : Line) (sets : ℕ) (told : Option Names) (wanted : Result Job Status) : Type 0 where
+pub record Asks (line : Line) (sets : ℕ) (told : Option Names)
+    (wanted : Result Job Status) : Type 0 where
   pub contents : List (List ℕ)
   pub read : AreRead told (files_of line) contents
   pub same : job_of line sets contents ≡ wanted
@@ -32,7 +33,8 @@ pub data Closes (line : Line) (sets : ℕ) (files : Reading) (status : Status) :
   Starved : status ≡ Memory → Closes line sets files status
 
 -- there is no job, and the line of the answer was written
-pub record IsClosed (line : Line) (sets : ℕ) (files : Reading) (sink : Writing) (status : Status) : Type 0 where
+pub record IsClosed (line : Line) (sets : ℕ) (files : Reading) (sink : Writing)
+    (status : Status) : Type 0 where
   pub cause : Closes line sets files status
   pub written : WroteTo sink (fault_text status)
 
@@ -45,7 +47,8 @@ pub record IsReported (job : Job) (sink : Writing) (status : Status) : Type 0 wh
 -- its text broke off, where the sink's count of faults rose
 pub record IsBroken (job : Job) (sink : Writing) (status : Status) : Type 0 where
   pub answer : status ≡ WriteFault
-  pub written : Breaks (outcome job).text sink.faults.before sink.faults.after sink.before sink.after
+  pub written : Breaks (outcome job).text sink.faults.before sink.faults.after sink.before
+      sink.after
 
 -- memory was wanted, which is free, and the line that says so was written
 pub record IsStarved (sink : Writing) (status : Status) : Type 0 where
@@ -59,7 +62,8 @@ pub data Ends (job : Job) (sink : Writing) (status : Status) : Type 0 where
   Unopened : IsStarved sink status → Ends job sink status
 
 -- there is a job, and this is the answer to it
-pub record HasRun (line : Line) (sets : ℕ) (files : Reading) (sink : Writing) (status : Status) : Type 0 where
+pub record HasRun (line : Line) (sets : ℕ) (files : Reading) (sink : Writing)
+    (status : Status) : Type 0 where
   pub job : Job
   pub asks : Asks line sets files.told (Ok job)
   pub ends : Ends job sink status
@@ -74,4 +78,5 @@ pub record IsUsage (files : Reading) (sink : Writing) (status : Status) : Type 0
 -- are, if they are one
 abbrev pub IsAnswer : Option Line → ℕ → Reading → Writing → Status → Type 0
 IsAnswer None sets files sink status = IsUsage files sink status ⊎ IsStarved sink status
-IsAnswer (Some line) sets files sink status = IsClosed line sets files sink status ⊎ HasRun line sets files sink status
+IsAnswer (Some line) sets files sink status =
+    IsClosed line sets files sink status ⊎ HasRun line sets files sink status

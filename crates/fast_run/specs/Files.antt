@@ -3,7 +3,8 @@ use Rattle.std.specs.Prelude.{ℕ, List, [], ◌∷◌, Option, Some, None}
 use Rattle.report_text.specs.declared.status.Role.{Role}
 use Rattle.report_text.specs.declared.status.Role.TheVariants as role
 use Rattle.fast_cli.specs.declared.line.Line.{Line}
-use Rattle.fast_cli.specs.declared.line.Line.TheVariants.{Back, Func, Inorder, Run, Sched, Soak, Sweep}
+use Rattle.fast_cli.specs.declared.line.Line.TheVariants.{Back, Func, Inorder, Run, Sched, Soak}
+use Rattle.fast_cli.specs.declared.line.Line.TheVariants.{Sweep}
 use Rattle.fast_cli.specs.declared.line.Options.{Options}
 use Rattle.fast_run.specs.declared.files.NamedFile.{NamedFile}
 
@@ -21,7 +22,8 @@ input_of options = input_under options.input
 -- the files that are read for a line, in their order; a command that isn't run yet reads none
 abbrev pub files_of : Line → List NamedFile
 files_of (Func image options) = file role.Image image ∷ input_of options
-files_of (Run image machine threads options) = file role.Image image ∷ file role.Machine machine ∷ input_of options
+files_of (Run image machine threads options) =
+    file role.Image image ∷ file role.Machine machine ∷ input_of options
 files_of (Sched image machine plan options) =
     file role.Image image ∷ file role.Machine machine ∷ file role.Plan plan ∷ input_of options
 files_of (Soak seed) = []

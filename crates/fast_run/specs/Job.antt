@@ -1,5 +1,6 @@
 -- What a line and the bytes of its files ask for: a job, or the first refusal.
-use Rattle.std.specs.Prelude.{ℕ, true, false, Bool, List, [], codes, slice_index_or, option_map, Result, Ok, Err, ◌==◌, None}
+use Rattle.std.specs.Prelude.{ℕ, true, false, Bool, List, [], codes, slice_index_or, option_map}
+use Rattle.std.specs.Prelude.{Result, Ok, Err, ◌==◌, None}
 use Rattle.fsim_base.specs.declared.access.RamRange.{RamRange}
 use Rattle.elf_image.specs.declared.image.Image.{Image as LoadedImage}
 use Rattle.elf_image.specs.Image.{image_fault, image_of}
@@ -18,7 +19,7 @@ use Rattle.gen_image.specs.Machine.{soak_machine}
 use Rattle.fast_run.specs.declared.job.Job.{Job}
 use Rattle.fast_run.specs.declared.job.Job.TheVariants.{Func, Run, Sched}
 use Rattle.fast_run.specs.Gives.{◌>>=◌, unless}
-use Rattle.fast_run.specs.Plain.{plain_params}
+use Rattle.mono_model.specs.Plain.{plain_params}
 use Rattle.fast_run.specs.Plan.{plan_events, first_bad}
 
 -- the parameters that a machine file gives

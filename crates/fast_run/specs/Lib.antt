@@ -1,7 +1,7 @@
-pub mod Plain
 pub mod Plan
 pub mod Files
 pub mod Gives
+pub mod Refusal
 pub mod Job
 pub mod Outcome
 pub mod Call

@@ -10,7 +10,8 @@ use Rattle.mono_model.specs.Split.{reach}
 use Rattle.split_core.specs.declared.event.Event.{Event}
 use Rattle.split_core.specs.Events.{event_in}
 use Rattle.report_text.specs.declared.status.Status.{Status}
-use Rattle.report_text.specs.declared.status.Status.TheVariants.{Pass, Fail, Limit, OutputFull, Running}
+use Rattle.report_text.specs.declared.status.Status.TheVariants.{Pass, Fail, Limit, OutputFull}
+use Rattle.report_text.specs.declared.status.Status.TheVariants.{Running}
 use Rattle.report_text.specs.FuncText.{func_text}
 use Rattle.fast_run.specs.declared.job.Job.{Job}
 use Rattle.fast_run.specs.declared.job.Job.TheVariants.{Func, Run, Sched}

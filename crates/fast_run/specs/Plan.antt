@@ -1,5 +1,6 @@
 -- A plan: the letters of events, and blanks, which do nothing.
-use Rattle.std.specs.Prelude.{◌≡◌, ℕ, ◌==◌, ◌||◌, not, Bool, true, false, List, [], ◌∷◌, ◌++◌, Option, option_map, is_some, find}
+use Rattle.std.specs.Prelude.{◌≡◌, ℕ, ◌==◌, ◌||◌, not, Bool, true, false, List, [], ◌∷◌, ◌++◌}
+use Rattle.std.specs.Prelude.{Option, option_map, is_some, find}
 use Rattle.std.specs.List.{filter_map, list_any, position_from}
 use Rattle.std.specs.Option.{option_to_list}
 use Rattle.split_core.specs.declared.event.Event.{Event}

@@ -1,5 +1,6 @@
 -- From the arguments of the process to the words, and from the answer to the exit status.
-use Rattle.std.specs.Prelude.{◌≡◌, ◌≢◌, map, drop, Option, None, Result, Ok, Err, string_bytes, String, Vec}
+use Rattle.std.specs.Prelude.{◌≡◌, ◌≢◌, map, drop, Option, None, Result, Ok, Err, string_bytes}
+use Rattle.std.specs.Prelude.{String, Vec}
 use Rattle.std.specs.Global.{Global}
 use Rattle.std.specs.IoError.{error_kind}
 use Rattle.std.specs.declared.io.Error.{Error}

@@ -36,4 +36,5 @@ IsSettled asked sets files status =
 abbrev pub IsComplete : Option Line → ℕ → Reading → Writing → Status → Type 0
 IsComplete asked sets files sink status =
     (names : Names) (job : Job) → files.told ≡ Some names → asked_job asked sets names ≡ Ok job
-    → IsQuiet files.faults → IsQuiet sink.faults → (status ≡ (outcome job).status) ⊎ (status ≡ Memory)
+    → IsQuiet files.faults → IsQuiet sink.faults
+    → (status ≡ (outcome job).status) ⊎ (status ≡ Memory)

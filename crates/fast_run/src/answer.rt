@@ -8,8 +8,8 @@ ghost use Rattle.fast_run.specs.Job.{is_still};
 ghost use Rattle.fast_run.specs.Settled.{IsComplete, IsSettled};
 
 use crate::open::open;
+use crate::refusal::Refusal;
 use crate::run::{run, run_in_threads};
-use crate::tell::tell;
 use device_bus::Device;
 use fast_cli::{Line, UsageFault, read_words};
 use fsim_ports::{Files, Gate, Sink};
@@ -49,8 +49,8 @@ pub fn fast_main<R: Threads + Wait + Sync, F: Files, K: Sink, G: Gate + Sync>(
 {
     let line = match read_words(alloc, words) {
         Ok(line) => line,
-        Err(UsageFault::Words) => return tell(Status::Usage, sink),
-        Err(UsageFault::Memory) => return tell(Status::Memory, sink),
+        Err(UsageFault::Words) => return Refusal::new(Status::Usage).tell(sink),
+        Err(UsageFault::Memory) => return Refusal::new(Status::Memory).tell(sink),
     };
     if is_still(&line) {
         fast_still(alloc, &line, files, sink, devices)
@@ -116,7 +116,7 @@ fn answer<F: Files, K: Sink, D: Device>(
 {
     match open(alloc, line, files) {
         Ok(job) => run(alloc, &job, devices, sink),
-        Err(status) => tell(status, sink),
+        Err(refusal) => refusal.tell(sink),
     }
 }
 
@@ -141,6 +141,6 @@ fn answer_in_threads<R: Threads + Wait + Sync, F: Files, K: Sink, G: Gate + Sync
 {
     match open(alloc, line, files) {
         Ok(job) => run_in_threads(rt, alloc, &job, devices, sink, gate),
-        Err(status) => tell(status, sink),
+        Err(refusal) => refusal.tell(sink),
     }
 }

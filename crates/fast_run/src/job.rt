@@ -1,23 +1,23 @@
-ghost use Rattle.std.specs.Prelude.{◌≡◌, ◌≢◌, ◌≤◌, true, length, Ok, IfOk, IfErr};
+ghost use Rattle.std.specs.Prelude.{◌≡◌, ◌≢◌, ◌≤◌, true, length, Ok, IfOk};
 ghost use Rattle.mono_model.specs.Setup.{is_setup};
 ghost use Rattle.fast_cli.specs.Ranges.{HasRanges, IsInRange};
-ghost use Rattle.report_text.specs.FaultText.{has_line};
 ghost use Rattle.fast_run.specs.Files.{files_of};
 ghost use Rattle.fast_run.specs.Gives.{Gives};
 ghost use Rattle.fast_run.specs.declared.job.Job.{Job as AnyJob};
-ghost use Rattle.fast_run.specs.Job.{bytes_at, default_options, func_job, job_of, run_job, sched_job};
+ghost use Rattle.fast_run.specs.Job.{bytes_at, default_options, func_job, job_of, run_job};
+ghost use Rattle.fast_run.specs.Job.{sched_job};
 ghost use Rattle.fast_run.specs.Job.{setup_in, soak_setup};
 ghost use Rattle.fast_run.specs.Reading.{AreWithin};
 
 use crate::image::read_image;
 use crate::machine::{ram_of, read_machine};
-use crate::plain::plain_params;
 use crate::plan::Plan;
+use crate::refusal::Refusal;
 use crate::setup::setup_for;
 use fast_cli::{Line, Options};
 use fsim_base::Bytes;
 use gen_image::{soak_image, soak_params};
-use mono_model::Setup;
+use mono_model::{Params, Setup};
 use report_text::Status;
 use std::alloc::Global;
 
@@ -34,12 +34,11 @@ pub enum Job {
 
 /// The job of a line with the bytes of its files, or the first refusal: of the machine file, then
 /// of the image, then of the plan.
-pub fn job_of(alloc: Global, line: &Line, contents: Vec<Bytes>) -> Result<Job, Status>
+pub fn job_of(alloc: Global, line: &Line, contents: Vec<Bytes>) -> Result<Job, Refusal>
     requires ranges { IsInRange line.now }
     requires within { AreWithin (files_of line.now) contents.items }
     ensures job { Gives (job_of line.now 1 contents.items) result }
     ensures sound { IfOk result (λ job. is_setup (setup_in job) ≡ true) }
-    ensures line { IfErr result (λ status. has_line status ≡ true) }
 {
     match line {
         Line::Func { options, .. } => func_job(alloc, options, contents),
@@ -53,26 +52,24 @@ pub fn job_of(alloc: Global, line: &Line, contents: Vec<Bytes>) -> Result<Job, S
 }
 
 /// The sequential run of an image on the plain machine; the files are image and input.
-fn func_job(alloc: Global, options: &Options, contents: Vec<Bytes>) -> Result<Job, Status>
+fn func_job(alloc: Global, options: &Options, contents: Vec<Bytes>) -> Result<Job, Refusal>
     requires ranges { HasRanges options.now }
     requires input { length (bytes_at contents.items 1) ≤ 16777216 }
     ensures job { Gives (func_job options.now contents.items) result }
     ensures sound { IfOk result (λ job. is_setup (setup_in job) ≡ true) }
-    ensures line { IfErr result (λ status. has_line status ≡ true) }
 {
-    let params = plain_params();
+    let params = Params::plain();
     let image = read_image(alloc, bytes_at(contents.as_slice(), 0), ram_of(&params))?;
     let input = take_at(alloc, contents, 1);
     Ok(Job::Func(setup_for(params, options, image, input)))
 }
 
 /// The run of an image on a machine; the files are image, machine file and input.
-fn run_job(alloc: Global, options: &Options, contents: Vec<Bytes>) -> Result<Job, Status>
+fn run_job(alloc: Global, options: &Options, contents: Vec<Bytes>) -> Result<Job, Refusal>
     requires ranges { HasRanges options.now }
     requires input { length (bytes_at contents.items 2) ≤ 16777216 }
     ensures job { Gives (run_job options.now contents.items) result }
     ensures sound { IfOk result (λ job. is_setup (setup_in job) ≡ true) }
-    ensures line { IfErr result (λ status. has_line status ≡ true) }
 {
     let params = read_machine(alloc, bytes_at(contents.as_slice(), 1))?;
     let image = read_image(alloc, bytes_at(contents.as_slice(), 0), ram_of(&params))?;
@@ -81,12 +78,11 @@ fn run_job(alloc: Global, options: &Options, contents: Vec<Bytes>) -> Result<Job
 }
 
 /// A plan for a run on a machine; the files are image, machine file, plan and input.
-fn sched_job(alloc: Global, options: &Options, contents: Vec<Bytes>) -> Result<Job, Status>
+fn sched_job(alloc: Global, options: &Options, contents: Vec<Bytes>) -> Result<Job, Refusal>
     requires ranges { HasRanges options.now }
     requires input { length (bytes_at contents.items 3) ≤ 16777216 }
     ensures job { Gives (sched_job options.now contents.items) result }
     ensures sound { IfOk result (λ job. is_setup (setup_in job) ≡ true) }
-    ensures line { IfErr result (λ status. has_line status ≡ true) }
 {
     let params = read_machine(alloc, bytes_at(contents.as_slice(), 1))?;
     let image = read_image(alloc, bytes_at(contents.as_slice(), 0), ram_of(&params))?;
@@ -99,14 +95,11 @@ fn sched_job(alloc: Global, options: &Options, contents: Vec<Bytes>) -> Result<J
 const SOAK_BLOCKS: u32 = 16_384;
 
 /// The run of the soak program of a seed on its machine. It is made here, and no file is read.
-fn soak_job(alloc: Global, seed: u64) -> Result<Job, Status>
+fn soak_job(alloc: Global, seed: u64) -> Result<Job, Refusal>
     ensures job { Gives (Ok (AnyJob.Run (soak_setup seed))) result }
     ensures sound { IfOk result (λ job. is_setup (setup_in job) ≡ true) }
-    ensures line { IfErr result (λ status. has_line status ≡ true) }
 {
-    let Ok(image) = soak_image(alloc, seed, SOAK_BLOCKS) else {
-        return Err(Status::Memory);
-    };
+    let image = soak_image(alloc, seed, SOAK_BLOCKS)?;
     let input = Bytes::new(Vec::new(alloc));
     Ok(Job::Run(setup_for(soak_params(), &default_options(), image, input)))
 }
@@ -126,13 +119,12 @@ fn default_options() -> Options
 }
 
 /// The answer to a line of a command that isn't run yet.
-fn later(alloc: Global, word: &[u8]) -> Status
+fn later(alloc: Global, word: &[u8]) -> Refusal
     ensures later { result ≢ Status.Memory → result ≡ Status.Later word.now }
-    ensures line { has_line result ≡ true }
 {
     match word.to_vec(alloc) {
-        Ok(word) => Status::Later(Bytes::new(word)),
-        Err(_) => Status::Memory,
+        Ok(word) => Refusal::new(Status::Later(Bytes::new(word))),
+        Err(_) => Refusal::new(Status::Memory),
     }
 }
 

@@ -4,6 +4,7 @@ ghost use Rattle.fast_run.specs.Call.{reading_of};
 ghost use Rattle.fast_run.specs.Reading.{IsRead, StopsAt, status_of_load};
 
 use crate::files::NamedFile;
+use crate::refusal::Refusal;
 use fsim_ports::{Files, LoadFault, load_file};
 use report_text::{Role, Status};
 use std::alloc::Global;
@@ -22,19 +23,19 @@ fn limit_of(role: Role) -> u64
 }
 
 /// The answer where the file of this role could not be read.
-fn status_of_load(role: Role, fault: LoadFault) -> Status
+fn refusal_of_load(role: Role, fault: LoadFault) -> Refusal
     ensures status { result ≡ status_of_load role fault }
 {
     match fault {
-        LoadFault::Missing => Status::Missing(role),
-        LoadFault::Failed => Status::ReadFault(role),
-        LoadFault::TooLong => Status::TooLong(role, limit_of(role)),
-        LoadFault::Memory => Status::Memory,
+        LoadFault::Missing => Refusal::new(Status::Missing(role)),
+        LoadFault::Failed => Refusal::new(Status::ReadFault(role)),
+        LoadFault::TooLong => Refusal::new(Status::TooLong(role, limit_of(role))),
+        LoadFault::Memory => Refusal::new(Status::Memory),
     }
 }
 
 /// The bytes of the file, read whole.
-pub fn load<F: Files>(alloc: Global, file: &NamedFile, files: &mut F) -> Result<Vec<u8>, Status>
+pub fn load<F: Files>(alloc: Global, file: &NamedFile, files: &mut F) -> Result<Vec<u8>, Refusal>
     ensures told { F.told files.new ≡ F.told files.old }
     ensures count { F.faults files.old ≤ F.faults files.new }
     ensures loaded { MatchResult result (λ bytes. IsRead (F.told files.old) file.now bytes.items)
@@ -42,6 +43,6 @@ pub fn load<F: Files>(alloc: Global, file: &NamedFile, files: &mut F) -> Result<
 {
     match load_file(alloc, files, file.name.as_str(), limit_of(file.role)) {
         Ok(bytes) => Ok(bytes),
-        Err(fault) => Err(status_of_load(file.role, fault)),
+        Err(fault) => Err(refusal_of_load(file.role, fault)),
     }
 }

@@ -10,13 +10,12 @@ mod job;
 mod load;
 mod machine;
 mod open;
-mod plain;
 mod plan;
 mod program;
 mod read;
+mod refusal;
 mod run;
 mod setup;
-mod tell;
 #[cfg(test)]
 mod tests;
 

@@ -1,7 +1,6 @@
 ghost use Rattle.std.specs.Prelude.{◌≡◌, ◌≤◌, true, Ok, IfOk, IfErr};
 ghost use Rattle.mono_model.specs.Setup.{is_setup};
 ghost use Rattle.fast_cli.specs.Ranges.{IsInRange};
-ghost use Rattle.report_text.specs.FaultText.{has_line};
 ghost use Rattle.fast_run.specs.Answer.{Asks, Closes};
 ghost use Rattle.fast_run.specs.Call.{reading_of};
 ghost use Rattle.fast_run.specs.Job.{setup_in};
@@ -9,13 +8,13 @@ ghost use Rattle.fast_run.specs.Job.{setup_in};
 use crate::files::files_of;
 use crate::job::{Job, job_of};
 use crate::read::read_files;
+use crate::refusal::Refusal;
 use fast_cli::Line;
 use fsim_ports::Files;
-use report_text::Status;
 use std::alloc::Global;
 
 /// The job that a line asks for: its files are read, and then what they hold is tested.
-pub fn open<F: Files>(alloc: Global, line: &Line, files: &mut F) -> Result<Job, Status>
+pub fn open<F: Files>(alloc: Global, line: &Line, files: &mut F) -> Result<Job, Refusal>
     requires ranges { IsInRange line.now }
     ensures told { F.told files.new ≡ F.told files.old }
     ensures count { F.faults files.old ≤ F.faults files.new }
@@ -23,11 +22,8 @@ pub fn open<F: Files>(alloc: Global, line: &Line, files: &mut F) -> Result<Job, 
     ensures sound { IfOk result (λ job. is_setup (setup_in job) ≡ true) }
     ensures closes { IfErr result
         (Closes line.now 1 (reading_of F.told F.faults files.old files.new)) }
-    ensures line { IfErr result (λ status. has_line status ≡ true) }
 {
-    let Ok(named) = files_of(alloc, line) else {
-        return Err(Status::Memory);
-    };
+    let named = files_of(alloc, line)?;
     let contents = read_files(alloc, named.as_slice(), files)?;
     job_of(alloc, line, contents)
 }

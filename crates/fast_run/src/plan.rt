@@ -1,9 +1,9 @@
-ghost use Rattle.std.specs.Prelude.{◌≡◌, true, IfOk, IfErr};
-ghost use Rattle.report_text.specs.FaultText.{has_line};
+ghost use Rattle.std.specs.Prelude.{◌≡◌, IfOk, IfErr};
 ghost use Rattle.fast_run.specs.Gives.{Gives};
 ghost use Rattle.fast_run.specs.Job.{plan_in};
 ghost use Rattle.fast_run.specs.Plan.{IsAdded, IsBadAt, event_of, is_blank};
 
+use crate::refusal::Refusal;
 use report_text::Status;
 use split_core::Event;
 use std::alloc::Global;
@@ -26,9 +26,8 @@ impl Model for Plan {
 
 impl Plan {
     /// The plan that the bytes are: letters of events, and blanks between them.
-    pub fn read(alloc: Global, bytes: &[u8]) -> Result<Plan, Status>
+    pub fn read(alloc: Global, bytes: &[u8]) -> Result<Plan, Refusal>
         ensures plan { Gives (plan_in bytes.now) result }
-        ensures line { IfErr result (λ status. has_line status ≡ true) }
     {
         let mut events = Vec::new(alloc);
         for (place, byte) in bytes.iter().enumerate() {
@@ -46,20 +45,17 @@ impl Plan {
 }
 
 /// Adds the event of the byte at a place to the events; a blank has none.
-fn add(events: &mut Vec<Event>, place: u64, byte: u8) -> Result<(), Status>
+fn add(events: &mut Vec<Event>, place: u64, byte: u8) -> Result<(), Refusal>
     ensures added { IfOk result (λ _. IsAdded byte events.old.items events.new.items) }
     ensures refused { IfErr result (λ status. IsBadAt byte place status) }
-    ensures line { IfErr result (λ status. has_line status ≡ true) }
 {
     match event_of(byte) {
         Some(event) => {
-            if events.push(event).is_err() {
-                return Err(Status::Memory);
-            }
+            events.push(event)?;
             Ok(())
         }
         None if is_blank(byte) => Ok(()),
-        None => Err(Status::BadPlan(place)),
+        None => Err(Refusal::new(Status::BadPlan(place))),
     }
 }
 

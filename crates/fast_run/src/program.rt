@@ -8,7 +8,7 @@ ghost use Rattle.fast_run.specs.Call.{reading_of, writing_of};
 ghost use Rattle.fast_run.specs.Program.{IsNoText, line_in, status_of_error};
 
 use crate::answer::fast_main;
-use crate::tell::tell;
+use crate::refusal::Refusal;
 use device_bus::{Console, Device, Finisher, Timer, in_order};
 use fsim_ports::{Files, HostFiles, HostSink, QuietGate, Sink};
 use report_text::Status;
@@ -61,21 +61,21 @@ fn answer_arguments<R: Threads + Wait + Sync, F: Files, K: Sink>(
 {
     let arguments = match arguments {
         Ok(arguments) => arguments,
-        Err(error) => return tell(status_of_error(&error), sink),
+        Err(error) => return refusal_of_error(&error).tell(sink),
     };
     match answer_texts(rt, alloc, words_of(arguments.as_slice()), files, sink) {
         Ok(status) => status,
-        Err(AllocError) => tell(Status::Memory, sink),
+        Err(AllocError) => Refusal::new(Status::Memory).tell(sink),
     }
 }
 
 /// The answer where the arguments could not be had.
-fn status_of_error(error: &io::Error) -> Status
+fn refusal_of_error(error: &io::Error) -> Refusal
     ensures status { result ≡ status_of_error (error_kind error.now) }
 {
     match error.kind() {
-        ErrorKind::OutOfMemory => Status::Memory,
-        _ => Status::Usage,
+        ErrorKind::OutOfMemory => Refusal::new(Status::Memory),
+        _ => Refusal::new(Status::Usage),
     }
 }
 

@@ -8,7 +8,7 @@ ghost use Rattle.fast_run.specs.Job.{setup_in};
 use crate::finish::{finish_alone, finish_timed};
 use crate::job::Job;
 use crate::plan::Plan;
-use crate::tell::tell;
+use crate::refusal::Refusal;
 use device_bus::Device;
 use fast_threads::Session;
 use fsim_base::NoMemory;
@@ -73,7 +73,7 @@ fn run_session<R: Threads + Wait + Sync, K: Sink, G: Gate + Sync, D: Device + Se
 {
     let mut session = match Session::new(alloc, setup, devices) {
         Ok(session) => session,
-        Err(NoMemory) => return tell(Status::Memory, sink),
+        Err(NoMemory) => return Refusal::new(Status::Memory).tell(sink),
     };
     session.run(rt, gate);
     // The law that the machine has ended then.
@@ -97,7 +97,7 @@ fn run_alone<K: Sink, D: Device>(
 {
     let mut side = match FuncSide::new(alloc, setup, devices) {
         Ok(side) => side,
-        Err(NoMemory) => return tell(Status::Memory, sink),
+        Err(NoMemory) => return Refusal::new(Status::Memory).tell(sink),
     };
     let last = side.alone(setup.cycles);
     finish_alone(&last, side.output(), sink)
@@ -118,7 +118,7 @@ fn run_to_end<K: Sink, D: Device>(
 {
     let mut core = match SplitCore::new(alloc, setup, devices) {
         Ok(core) => core,
-        Err(NoMemory) => return tell(Status::Memory, sink),
+        Err(NoMemory) => return Refusal::new(Status::Memory).tell(sink),
     };
     core.to_end();
     let last = core.committed();
@@ -141,7 +141,7 @@ fn run_plan<K: Sink, D: Device>(
 {
     let mut core = match SplitCore::new(alloc, setup, devices) {
         Ok(core) => core,
-        Err(NoMemory) => return tell(Status::Memory, sink),
+        Err(NoMemory) => return Refusal::new(Status::Memory).tell(sink),
     };
     core.play(plan.events());
     core.to_boundary();

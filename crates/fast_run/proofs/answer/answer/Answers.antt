@@ -10,4 +10,4 @@ returns-in-Ok-clause-answer g c =
 pub returns-in-Err-clause-answer : goal.returns-in-Err-clause-answer
 returns-in-Err-clause-answer g c =
     answer-closed c.args.line.now 1 (reading_of g.F.Files.told g.F.Files.faults c.args.files.now c.open.new.files)
-    (writing_of g.K.Sink.written g.K.Sink.faults c.args.sink.now c.tell.new.sink) c.in-Err.status c.tell.result c.tell.ensures.same c.in-Err.ensures.closes c.tell.ensures.line
+    (writing_of g.K.Sink.written g.K.Sink.faults c.args.sink.now c.tell.new.sink) c.in-Err.refusal c.tell.result c.tell.ensures.same c.in-Err.ensures.closes c.tell.ensures.line

@@ -10,23 +10,26 @@ use Rattle.fast_run.proofs.Answers.{closes-stopped, job-asks, job-closes}
 use Rattle.fast_run.proofs.Readings.{if-err-through, read-within}
 use Rattle.fast_run.proofs.open.open.Goals as goal
 
-pub returns-in_default-clause-closes : goal.returns-in_default-clause-closes
-returns-in_default-clause-closes g c = Starved refl
+pub returns-in_err-named-clause-closes : goal.returns-in_err-named-clause-closes
+returns-in_err-named-clause-closes g c =
+    let reading = reading_of g.F.Files.told g.F.Files.faults c.args.files.now c.args.files.now in
+    if-err-through (Closes c.args.line.now 1 reading) c.from_residual.result Memory
+    (err_from_is_err_and c.from_residual.result c.from_residual.ensures.1) (Starved refl)
 
 pub returns-in_err-contents-clause-closes : goal.returns-in_err-contents-clause-closes
 returns-in_err-contents-clause-closes g c =
     let status = c.in_err-contents.field-0.0 in
     let line = c.args.line.now in
     let reading = reading_of g.F.Files.told g.F.Files.faults c.args.files.now c.read_files.new.files in
-    let files : c.as_slice.result.now ≡ files_of line = c.as_slice.ensures.value ∙ c.in-Ok.ensures.files in
+    let files : c.as_slice.result.now ≡ files_of line = c.as_slice.ensures.value ∙ c.in_ok-named.ensures.files in
     let P : List NamedFile → Type 0 = λ named. status ≢ Memory → StopsIn reading named status in
-    if-err-through (Closes line 1 reading) c.from_residual.result status (err_from_is_err_and c.from_residual.result c.from_residual.ensures.1)
+    if-err-through (Closes line 1 reading) c.from_residual-in_err-contents.result status (err_from_is_err_and c.from_residual-in_err-contents.result c.from_residual-in_err-contents.ensures.1)
     (closes-stopped line 1 reading status (subst P files c.in_err-contents.ensures.stopped))
 
 pub job_of-requires-clause-within : goal.job_of-requires-clause-within
 job_of-requires-clause-within g c =
     let told = g.F.Files.told c.args.files.now in
-    let files : c.as_slice.result.now ≡ files_of c.args.line.now = c.as_slice.ensures.value ∙ c.in-Ok.ensures.files in
+    let files : c.as_slice.result.now ≡ files_of c.args.line.now = c.as_slice.ensures.value ∙ c.in_ok-named.ensures.files in
     let P : List NamedFile → Type 0 = λ named. AreRead told named c.in_ok-contents.contents.items in
     read-within told (files_of c.args.line.now) c.in_ok-contents.contents.items (subst P files c.in_ok-contents.ensures.read)
 
@@ -35,7 +38,7 @@ returns-clause-closes g c =
     let line = c.args.line.now in
     let told = g.F.Files.told c.args.files.now in
     let contents = c.in_ok-contents.contents.items in
-    let files : c.as_slice.result.now ≡ files_of line = c.as_slice.ensures.value ∙ c.in-Ok.ensures.files in
+    let files : c.as_slice.result.now ≡ files_of line = c.as_slice.ensures.value ∙ c.in_ok-named.ensures.files in
     let P : List NamedFile → Type 0 = λ named. AreRead told named contents in
     job-closes line 1 (reading_of g.F.Files.told g.F.Files.faults c.args.files.now c.read_files.new.files) contents c.job_of.result (subst P files c.in_ok-contents.ensures.read)
     (λ none. c.in_ok-contents.ensures.unread (files ∙ none)) c.job_of.ensures.job
@@ -45,6 +48,6 @@ returns-clause-asks g c =
     let line = c.args.line.now in
     let told = g.F.Files.told c.args.files.now in
     let contents = c.in_ok-contents.contents.items in
-    let files : c.as_slice.result.now ≡ files_of line = c.as_slice.ensures.value ∙ c.in-Ok.ensures.files in
+    let files : c.as_slice.result.now ≡ files_of line = c.as_slice.ensures.value ∙ c.in_ok-named.ensures.files in
     let P : List NamedFile → Type 0 = λ named. AreRead told named contents in
     job-asks line 1 told contents c.job_of.result (subst P files c.in_ok-contents.ensures.read) c.job_of.ensures.job

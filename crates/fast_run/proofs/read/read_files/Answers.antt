@@ -1,4 +1,4 @@
-use Rattle.std.proofs.Common.{◌≡◌, ◌≢◌, ◌++◌, ◌∷◌, [], List, ℕ, Option, take, ◌+◌, ap, sym, ◌∙◌, subst, arith, rules}
+use Rattle.std.proofs.Common.{◌≡◌, ◌≢◌, ◌++◌, ◌∷◌, [], List, ℕ, Option, take, ◌+◌, refl, ap, sym, ◌∙◌, subst, arith}
 use Rattle.std.proofs.lemmas.Result.{err_from_is_err_and}
 use Rattle.fsim_ports.specs.Files.{Names}
 use Rattle.report_text.specs.declared.status.Status.TheVariants.{Memory}
@@ -19,6 +19,18 @@ returns-in_err-bytes-clause-stopped g c =
     (g.F.Files.faults c.load.new.files) c.args.named.now c.loop-file.file-index c.file-item.result c.loop-file.contents.items status c.loop-file-test.true c.file-item.is
     c.loop-file.invariant.read c.loop-file.invariant.told c.loop-file.invariant.count c.in_err-bytes.ensures.loaded)
 
+pub returns-in_err-push-clause-told : goal.returns-in_err-push-clause-told
+returns-in_err-push-clause-told g c =
+    c.in_ok-bytes.ensures.told ∙ c.loop-file.invariant.told
+
+pub returns-in_err-push-clause-stopped : goal.returns-in_err-push-clause-stopped
+returns-in_err-push-clause-stopped g c =
+    let result = c.from_residual-in_err-push.result in
+    if-err-through (λ s. s ≢ Memory → StopsIn (reading_of g.F.Files.told g.F.Files.faults
+    c.args.files.now c.load.new.files) c.args.named.now s)
+    result Memory (err_from_is_err_and result c.from_residual-in_err-push.ensures.1)
+    (λ other. absurd (other refl))
+
 pub loop-file-preserved : goal.loop-file-preserved
 loop-file-preserved g c =
     let told = g.F.Files.told c.args.files.now in
@@ -26,7 +38,7 @@ loop-file-preserved g c =
     let bytes = c.in_ok-bytes.bytes.items in
     let P : Option Names → Type 0 = λ t. IsRead t file bytes in
     let one : P told = subst P c.loop-file.invariant.told c.in_ok-bytes.ensures.loaded in
-    let pushed : c.push.new.self.items ≡ c.loop-file.contents.items ++ c.new.result ∷ [] = search rules in
+    let pushed : c.push.new.self.items ≡ c.loop-file.contents.items ++ c.new.result ∷ [] = c.in_ok-push.ensures.items in
     let items : c.push.new.self.items ≡ c.loop-file.contents.items ++ bytes ∷ [] = pushed ∙ ap (λ (bs : List ℕ). c.loop-file.contents.items ++ bs ∷ []) c.new.ensures.same in
     record {
       told = c.in_ok-bytes.ensures.told ∙ c.loop-file.invariant.told;

@@ -1,0 +1,30 @@
+-- A fault of an image or of a machine file is the refusal of it.
+use Rattle.std.proofs.Common.{◌≡◌, ◌≢◌, ℕ, List, Some, Err, refl, ap}
+use Rattle.std.specs.Prelude.{option_map}
+use Rattle.fsim_base.specs.declared.access.RamRange.{RamRange}
+use Rattle.elf_image.specs.declared.fault.ImageFault.{ImageFault}
+use Rattle.elf_image.specs.declared.fault.ImageFault.TheVariants as image
+use Rattle.elf_image.specs.Image.{image_fault, image_of}
+use Rattle.machine_file.specs.declared.fault.MachineFault.{MachineFault}
+use Rattle.machine_file.specs.declared.fault.MachineFault.TheVariants as machine
+use Rattle.machine_file.specs.File.{machine_fault, params_of}
+use Rattle.report_text.specs.declared.status.Status.TheVariants.{Image, Machine, Memory}
+use Rattle.fast_run.specs.Gives.{unless}
+use Rattle.fast_run.specs.Job.{image_in, machine_in}
+use Rattle.fast_run.specs.Refusal.{refused_image, refused_machine}
+
+pub refused_image-told : (ram : RamRange) (bytes : List ℕ) (fault : ImageFault)
+    → (fault ≢ image.Memory → image_fault bytes ram ≡ Some fault)
+    → refused_image fault ≢ Memory → image_in ram bytes ≡ Err (refused_image fault)
+unfolding image_in
+refused_image-told ram bytes image.Memory told other = absurd (other refl)
+refused_image-told ram bytes fault told other =
+    ap (λ f. unless (option_map Image f) (image_of bytes)) (told (λ same. cc))
+
+pub refused_machine-told : (bytes : List ℕ) (fault : MachineFault)
+    → (fault ≢ machine.Memory → machine_fault bytes ≡ Some fault)
+    → refused_machine fault ≢ Memory → machine_in bytes ≡ Err (refused_machine fault)
+unfolding machine_in
+refused_machine-told bytes machine.Memory told other = absurd (other refl)
+refused_machine-told bytes fault told other =
+    ap (λ f. unless (option_map Machine f) (params_of bytes)) (told (λ same. cc))

@@ -1,0 +1,14 @@
+use Rattle.std.proofs.lemmas.Result.{err_from_is_err_and}
+use Rattle.fast_run.specs.Job.{image_in}
+use Rattle.fast_run.specs.Refusal.{refused_image}
+use Rattle.fast_run.proofs.Jobs.{gives-through}
+use Rattle.fast_run.proofs.Refusals.{refused_image-told}
+use Rattle.fast_run.proofs.image.read_image.Goals as goal
+
+pub returns-in_err-read-clause-image : goal.returns-in_err-read-clause-image
+returns-in_err-read-clause-image c =
+    let fault = c.in_err-read.field-0.0 in
+    gives-through (image_in c.args.ram c.args.bytes.now) c.from_residual.result
+    (refused_image fault)
+    (err_from_is_err_and c.from_residual.result c.from_residual.ensures.1)
+    (refused_image-told c.args.ram c.args.bytes.now fault c.in_err-read.ensures.fault)

@@ -1,0 +1,99 @@
+ghost use Rattle.std.specs.Prelude.{◌≡◌};
+ghost use Rattle.report_text.specs.declared.status.Status.TheVariants.{Memory as NoMemoryLeft};
+
+use elf_image::ImageFault;
+use fsim_base::NoMemory;
+use fsim_ports::Sink;
+use machine_file::MachineFault;
+use report_text::{Status, fault_line};
+use std::alloc::AllocFailed;
+use std::marker::Model;
+
+/// Why there is no job, or none could begin: an answer that has a line, and so none to a run.
+/// Contracts see it as that answer.
+#[derive(Debug, Drop)]
+pub struct Refusal {
+    status: Status,
+}
+
+impl Model for Refusal {
+    ghost use Rattle.std.specs.Prelude.{◌≡◌, true};
+    ghost use Rattle.report_text.specs.declared.status.Status.{Status};
+    ghost use Rattle.report_text.specs.FaultText.{has_line};
+
+    ghost Value = { Status };
+
+    ghost view = { λ refusal. refusal.status };
+
+    ghost invariant = { λ refusal. has_line refusal.status ≡ true };
+}
+
+impl Refusal {
+    ghost use Rattle.std.specs.Prelude.{◌≡◌, ◌≤◌, true};
+    ghost use Rattle.report_text.specs.FaultText.{fault_text, has_line};
+    ghost use Rattle.fast_run.specs.Call.{WroteTo, writing_of};
+
+    /// The refusal that is this answer.
+    pub fn new(status: Status) -> Refusal
+        requires line { has_line status ≡ true }
+        ensures same { result ≡ status }
+    {
+        Refusal { status }
+    }
+
+    /// Writes the line of the answer, and gives the answer, whether or not the sink took the line.
+    pub fn tell<K: Sink>(self, sink: &mut K) -> Status
+        ensures same { result ≡ self }
+        ensures count { K.faults sink.old ≤ K.faults sink.new }
+        ensures line { WroteTo (writing_of K.written K.faults sink.old sink.new)
+            (fault_text self) }
+    {
+        let Refusal { status } = self;
+        let _ = fault_line(&status, sink);
+        status
+    }
+}
+
+impl From<NoMemory> for Refusal {
+    ghost from_gives = { λ _ refusal. refusal ≡ NoMemoryLeft };
+
+    fn from(_fault: NoMemory) -> Refusal {
+        Refusal::new(Status::Memory)
+    }
+}
+
+impl<T: Drop> From<AllocFailed<T>> for Refusal {
+    ghost from_gives = { λ _ refusal. refusal ≡ NoMemoryLeft };
+
+    fn from(_fault: AllocFailed<T>) -> Refusal {
+        Refusal::new(Status::Memory)
+    }
+}
+
+impl From<ImageFault> for Refusal {
+    ghost use Rattle.fast_run.specs.Refusal.{refused_image};
+
+    ghost from_gives = { λ fault refusal. refusal ≡ refused_image fault };
+
+    #[tactic(auto, using(report_text::proofs::Told::image_line_told))]
+    fn from(fault: ImageFault) -> Refusal {
+        match fault {
+            ImageFault::Memory => Refusal::new(Status::Memory),
+            fault => Refusal::new(Status::Image(fault)),
+        }
+    }
+}
+
+impl From<MachineFault> for Refusal {
+    ghost use Rattle.fast_run.specs.Refusal.{refused_machine};
+
+    ghost from_gives = { λ fault refusal. refusal ≡ refused_machine fault };
+
+    #[tactic(auto, using(report_text::proofs::Told::machine_line_told))]
+    fn from(fault: MachineFault) -> Refusal {
+        match fault {
+            MachineFault::Memory => Refusal::new(Status::Memory),
+            fault => Refusal::new(Status::Machine(fault)),
+        }
+    }
+}
