@@ -20,6 +20,8 @@ mod gates;
 mod rows;
 
 use crate::Session;
+use crate::func_worker::FuncWorker;
+use crate::time_worker::TimeWorker;
 use device_bus::{Console, Device, Finisher, Timer, in_order};
 use fsim_ports::{Gate, QuietGate};
 use gates::{MeetingGate, SpinningGate};
@@ -29,6 +31,7 @@ use std::process::Abort;
 use std::sync::Wait;
 use std::test::Fail;
 use std::thread::Threads;
+use trace_ring::rings;
 
 /// Runs a program in two threads through a gate, and compares report and output.
 fn compare_run<R: Threads + Wait + Abort + Sync, D: Device + Send, G: Gate + Sync>(
@@ -72,5 +75,42 @@ fn each_side_has_a_turn_before_the_other_has_its_second(rt: HostRuntime) -> Resu
     let devices = devices!(rt);
     compare_run(&rt, rt.alloc(), devices, &COUNTDOWN[0], &gate)?;
     assert!(rt; !gate.ran_out());
+    Ok(())
+}
+
+/// Both sides in turn on one thread: whenever the timing side finds no entry, the functional side
+/// pushes one, which the next turn takes. Gives how many there were before the first order.
+fn count_entries<R: Wait + Abort, D: Device>(
+    rt: &R,
+    alloc: Global,
+    devices: Vec<D>,
+    row: &Row,
+) -> Result<u32, Fail>
+    requires order { map D.kind devices.items ≡ device_order }
+{
+    let setup = setup(rt, alloc, row)?;
+    let (func_end, time_end) = rings(alloc, &setup)?;
+    let mut func = FuncWorker::new(alloc, &setup, func_end, devices)?;
+    let mut time = TimeWorker::new(alloc, &setup, time_end)?;
+    let mut entries = 0u32;
+    for _ in 0..100u32 {
+        if func.obey(rt) {
+            return Ok(entries);
+        }
+        if !time.turn(rt) {
+            assert!(rt; func.turn(rt));
+            assert!(rt; time.turn(rt));
+            entries = entries.saturating_add(1);
+        }
+    }
+    Err(Fail::from("no order"))
+}
+
+// The first order commits the first instruction, in cycle 3 and before its fetch.
+#[test]
+fn what_one_end_pushes_the_other_takes(rt: HostRuntime) -> Result<(), Fail> {
+    let devices = devices!(rt);
+    let entries = count_entries(&rt, rt.alloc(), devices, &SMALLEST_PASS)?;
+    assert_eq!(rt; entries, 3);
     Ok(())
 }
