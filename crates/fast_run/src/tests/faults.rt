@@ -148,63 +148,49 @@ fn machine_files_and_plans_are_read_to_their_limits(rt: HostRuntime) -> Result<(
     Ok(())
 }
 
-/// Lines, the read that fails, and the answer; each file takes one read for its bytes and one for
-/// its end.
-const FAILING: [(&str, u64, &str); 12] = [
-    ("func echo --input in", 1, "fast: read fault: image\n"),
-    ("func echo --input in", 2, "fast: read fault: image\n"),
-    ("func echo --input in", 3, "fast: read fault: input\n"),
-    ("func echo --input in", 4, "fast: read fault: input\n"),
+/// Lines, the roles of their files in the order in which these are read, and the answer where no
+/// read fails. Each file takes one read for its bytes and one for its end.
+const READ: [(&str, &[&str], u8); 3] = [
+    ("func echo --input in", &["image", "input"], 0),
     (
-        "sched echo eight nothing --input in",
-        1,
-        "fast: read fault: image\n",
+        "run echo eight --input in",
+        &["image", "machine", "input"],
+        0,
     ),
     (
         "sched echo eight nothing --input in",
-        2,
-        "fast: read fault: image\n",
-    ),
-    (
-        "sched echo eight nothing --input in",
-        3,
-        "fast: read fault: machine\n",
-    ),
-    (
-        "sched echo eight nothing --input in",
+        &["image", "machine", "plan", "input"],
         4,
-        "fast: read fault: machine\n",
-    ),
-    (
-        "sched echo eight nothing --input in",
-        5,
-        "fast: read fault: plan\n",
-    ),
-    (
-        "sched echo eight nothing --input in",
-        6,
-        "fast: read fault: plan\n",
-    ),
-    (
-        "sched echo eight nothing --input in",
-        7,
-        "fast: read fault: input\n",
-    ),
-    (
-        "sched echo eight nothing --input in",
-        8,
-        "fast: read fault: input\n",
     ),
 ];
 
 #[test]
 fn each_read_that_fails_is_told_with_its_role(rt: HostRuntime) -> Result<(), Fail> {
     let alloc = rt.alloc();
-    for (text, read, answer) in FAILING {
+    for (text, roles, number) in READ {
         let words: Vec<&str> = text.split(' ').collect(alloc)?;
+        let mut read = 0u64;
+        for role in roles {
+            let answer = format!(in alloc; "fast: read fault: {role}\n")?;
+            for _ in 0..2u8 {
+                read = read.saturating_add(1);
+                let mut files = files_of_runs(alloc)?;
+                files.fail_at(read)?;
+                check(
+                    &rt,
+                    alloc,
+                    words.as_slice(),
+                    &mut files,
+                    14,
+                    answer.as_str(),
+                )?;
+            }
+        }
         let mut files = files_of_runs(alloc)?;
-        files.fail_at(read)?;
-        check(&rt, alloc, words.as_slice(), &mut files, 14, answer)?;
+        files.fail_at(read.saturating_add(1))?;
+        let mut sink = MemorySink::new(alloc, 4096)?;
+        let status = answer_words(&rt, alloc, words.as_slice(), &mut files, &mut sink)?;
+        assert_eq!(rt; status.number(), number, "{text}");
     }
     Ok(())
 }

@@ -291,7 +291,8 @@ pub fn files_of_runs(alloc: Global) -> Result<MemoryFiles, Fail> {
     files.add("in", b"AB")?;
     files.add("nothing", b" \r\n")?;
     files.add("ahead", ahead(alloc)?.as_slice())?;
-    files.add("rounds", repeated(alloc, b"OCPKTS")?.as_slice())?;
+    files.add("rounds", repeated(alloc, b"OCPKTS", 200)?.as_slice())?;
+    files.add("whole", repeated(alloc, b"OCPKTS", 20_000)?.as_slice())?;
     files.add("orders", vec![in alloc; b'O'; 1_048_576]?.as_slice())?;
     Ok(files)
 }
@@ -322,14 +323,14 @@ fn uart(alloc: Global) -> Result<Vec<u8>, Fail> {
 /// Thirteen entries are computed and pushed, and then the timing side has two hundred turns.
 fn ahead(alloc: Global) -> Result<Vec<u8>, Fail> {
     let mut plan = b"CP CP CP CP CP CP CP CP CP CP CP CP CP\r\n".to_vec(alloc)?;
-    plan.extend_from_slice(repeated(alloc, b"KTS")?.as_slice())?;
+    plan.extend_from_slice(repeated(alloc, b"KTS", 200)?.as_slice())?;
     Ok(plan)
 }
 
-/// These events two hundred times.
-fn repeated(alloc: Global, events: &[u8]) -> Result<Vec<u8>, Fail> {
+/// These events so many times.
+fn repeated(alloc: Global, events: &[u8], times: u32) -> Result<Vec<u8>, Fail> {
     let mut plan = Vec::new(alloc);
-    for _ in 0..200 {
+    for _ in 0..times {
         plan.extend_from_slice(events)?;
     }
     Ok(plan)

@@ -562,9 +562,13 @@ fn reports_are_those_worked_out_by_hand(rt: HostRuntime) -> Result<(), Fail> {
     let mut files = files_of_runs(alloc)?;
     for (text, number, lines) in REPORTS {
         check_report(&rt, alloc, text, &mut files, number, lines)?;
-        if text.starts_with("run ") {
-            let text = format!(in alloc; "{text} --threads 1")?;
-            check_report(&rt, alloc, text.as_str(), &mut files, number, lines)?;
+        if let Some(rest) = text.strip_prefix("run ") {
+            for text in [
+                format!(in alloc; "run {rest} --threads 1")?,
+                format!(in alloc; "sched {rest} whole")?,
+            ] {
+                check_report(&rt, alloc, text.as_str(), &mut files, number, lines)?;
+            }
         }
     }
     Ok(())
@@ -578,6 +582,7 @@ fn each_put_that_fails_leaves_a_prefix(rt: HostRuntime) -> Result<(), Fail> {
     for (text, puts) in [
         ("func five --output 4", 18),
         ("run five wide --output 4", 26),
+        ("sched five wide whole --output 4", 26),
     ] {
         let words: Vec<&str> = text.split(' ').collect(alloc)?;
         let mut whole = MemorySink::new(alloc, 4096)?;
