@@ -97,47 +97,8 @@ none_from_zeros words zeros four index =
     ] in
     ap (λ n. bit_at n (index % 64) == 1) word ∙ ap (λ n. n == 1) (bit_at-zero (index % 64))
 
-pub zero_from_none : (words : List ℕ) (k : ℕ) → get_or words k 0 < 2 ^ 64 → ((index : ℕ) → is_set words index ≡ false) → get_or words k 0 ≡ 0
-zero_from_none words k fits none =
-    same_from_bits_below 64 (get_or words k 0) 0 fits (omega arith) (λ i within.
-    let quotient : (64 * k + i) / 64 ≡ k = omega arith in
-    let rest : (64 * k + i) % 64 ≡ i = omega arith in
-    let clear : is_set words (64 * k + i) ≡ false = none (64 * k + i) in
-    let here : (bit_at (get_or words k 0) i == 1) ≡ false = rw (quotient, rest) at clear in
-    let not_one : bit_at (get_or words k 0) i ≢ 1 = eqb-false (bit_at (get_or words k 0) i) 1 here in
-    omega (arith, bit_at-lt (get_or words k 0) i, bit_at-zero i, not_one))
-
--- words whose union is 0 are 0
-zeros_from_or : (a b : ℕ) → bit_or a b ≡ 0 → (a ≡ 0) × (b ≡ 0)
-zeros_from_or a b none =
-    let clear : (i : ℕ) → max (bit_at a i) (bit_at b i) ≡ 0 = λ i. sym (bit_at_or a b i) ∙ ap (λ n. bit_at n i) none ∙ bit_at-zero i in
-    (same_from_bits a 0 (λ i. omega (arith, clear i, bit_at-zero i)), same_from_bits b 0 (λ i. omega (arith, clear i, bit_at-zero i)))
-
 below_four : (k : ℕ) → k < 4 → (k ≡ 0) ⊎ ((k ≡ 1) ⊎ ((k ≡ 2) ⊎ (k ≡ 3)))
 below_four k within = grind arith
-
-abbrev pub union : List ℕ → ℕ
-union words = bit_or (bit_or (bit_or (get_or words 0 0) (get_or words 1 0)) (get_or words 2 0)) (get_or words 3 0)
-
-union_of_zeros : (words : List ℕ) → ((k : ℕ) → get_or words k 0 ≡ 0) → union words ≡ 0
-union_of_zeros words zeros = rw (zeros 0, zeros 1, zeros 2, zeros 3) refl
-
-zeros_from_union : (words : List ℕ) → union words ≡ 0 → (k : ℕ) → k < 4 → get_or words k 0 ≡ 0
-zeros_from_union words none k within =
-    let last = zeros_from_or (bit_or (bit_or (get_or words 0 0) (get_or words 1 0)) (get_or words 2 0)) (get_or words 3 0) none in
-    let third = zeros_from_or (bit_or (get_or words 0 0) (get_or words 1 0)) (get_or words 2 0) last.0 in
-    let second = zeros_from_or (get_or words 0 0) (get_or words 1 0) third.0 in
-    elim (below_four k within) [
-      | inl is ↦ rw is second.0
-      | inr later ↦ elim later [ inl is ↦ rw is second.1 | inr last_two ↦ elim last_two [ inl is ↦ rw is third.1 | inr is ↦ rw is last.1 ] ]
-    ]
-
-pub empty : (words : List ℕ) → length words ≡ 4 → ((k : ℕ) → get_or words k 0 < 2 ^ 64) →
-    IsTrue (union words == 0) ↔ ((index : ℕ) → is_set words index ≡ false)
-empty words four fits = (
-  λ is. none_from_zeros words (zeros_from_union words (eqb-true (union words) 0 is)) four,
-  λ none. eq-eqb (union words) 0 (union_of_zeros words (λ k. zero_from_none words k (fits k) none)),
-)
 
 -- words whose bits are one lower, each with the lowest bit of the next one on top
 abbrev pub halved : ℕ → ℕ → ℕ

@@ -5,6 +5,7 @@ use Rattle.std.proofs.lemmas.Bool.{cases_eq, ne_eqb}
 use Rattle.std.proofs.lemmas.Option.{same_Some}
 use Rattle.reservation_stations.specs.declared.row.Row.{Row}
 use Rattle.reservation_stations.specs.Mask.{holds, is_index}
+use Rattle.reservation_stations.specs.Waits.{waits_on}
 use Rattle.reservation_stations.specs.Readiness.{is_done, is_register}
 use Rattle.reservation_stations.specs.AreTables.{Each, AreRows, IsRow, stations_at, producer, producer_of, unfinished, awaited}
 use Rattle.reservation_stations.proofs.Indices.{reverse_behind}
@@ -22,14 +23,14 @@ is_index-elsewhere : (b c : Bool) (k index : ℕ) → (k == index) ≡ false →
 is_index-elsewhere true c k index is = rw is refl
 is_index-elsewhere false c k index is = rw is refl
 
-is_index-dropped : (lost : ℕ → Bool) (k : ℕ) (o : Option ℕ) → is_index k (dropped lost o) ≡ (is_index k o && not (lost k))
+pub is_index-dropped : (lost : ℕ → Bool) (k : ℕ) (o : Option ℕ) → is_index k (dropped lost o) ≡ (is_index k o && not (lost k))
 is_index-dropped lost k None = refl
 is_index-dropped lost k (Some index) = elim (cases_eq k index) [
   | inl same ↦ rw same (is_index-here (lost index) index)
   | inr differ ↦ is_index-elsewhere (lost index) (not (lost k)) k index (ne_eqb k index differ)
 ]
 
-either_kept : (a b c : Bool) → ((a || b) && c) ≡ ((a && c) || (b && c))
+pub either_kept : (a b c : Bool) → ((a || b) && c) ≡ ((a && c) || (b && c))
 either_kept true true true = refl
 either_kept true true false = refl
 either_kept true false true = refl
@@ -46,7 +47,7 @@ module _ (at at' : ℕ → Row) (lost gone : ℕ → Bool) where
     pub done : is_done (at' index).mark ≡ (is_done (at index).mark || lost index)
     pub stays : gone index ≡ false
     pub displaced : (at' index).displaced ≡ dropped gone (at index).displaced
-    pub waits : (k : ℕ) → holds (at' index).waits k ≡ (holds (at index).waits k && not (lost k))
+    pub waits : (k : ℕ) → waits_on (at' index).waits k ≡ (waits_on (at index).waits k && not (lost k))
 
   -- what the older ones are behind the change
   pub record Carries (older older' : List ℕ) : Type 0 where

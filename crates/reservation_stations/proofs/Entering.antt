@@ -9,6 +9,7 @@ use Rattle.circular_buffer.specs.Buffer.{Buffer, buffer}
 use Rattle.reservation_stations.specs.declared.station.Station.{Station}
 use Rattle.reservation_stations.specs.declared.row.Row.{Row}
 use Rattle.reservation_stations.specs.Mask.{holds, is_index}
+use Rattle.reservation_stations.specs.Waits.{waits_on}
 use Rattle.reservation_stations.specs.Readiness.{Window, is_waiting, is_done, is_register, station_of, youngest_index, waiting_count}
 use Rattle.reservation_stations.specs.AreTables.{AreTables, Each, AreDistinct, IsRow, row_at, stations_at, station_in, producer, producer_of, awaited}
 use Rattle.reservation_stations.specs.Changes.{with_producer}
@@ -76,7 +77,7 @@ module _ (capacity : ℕ) (indices : List ℕ) (old : List Row) (producers : Lis
         done = ap (λ (e : Row). is_done e.mark) same ∙ or_false (is_done (row_at old other).mark);
         stays = refl;
         displaced = ap (λ (e : Row). e.displaced) same ∙ sym (dropped_none (row_at old other).displaced);
-        waits = λ k. ap (λ (e : Row). holds e.waits k) same ∙ and_true (holds (row_at old other).waits k);
+        waits = λ k. ap (λ (e : Row). waits_on e.waits k) same ∙ and_true (waits_on (row_at old other).waits k);
       }
 
   Stays-none : (other : ℕ) → other ≢ index → Stays (row_at old) (row_at (slice_set old index row)) other
@@ -158,7 +159,7 @@ module _ {capacity : ℕ} {indices : List ℕ} {rows : List Row} {producers : Li
     pub is_pushed : order ≡ buffer (indices ++ index ∷ []) capacity
     is_pushed = pushed r variant room ok
 
-    pub AreTables-entered : (table : List (Option ℕ)) → ((k : ℕ) → holds row.waits k ≡ (is_index k (awaited (reverse w.stations) row.first) || is_index k (awaited (reverse w.stations) row.second))) →
+    pub AreTables-entered : (table : List (Option ℕ)) → ((k : ℕ) → waits_on row.waits k ≡ (is_index k (awaited (reverse w.stations) row.first) || is_index k (awaited (reverse w.stations) row.second))) →
         row.displaced ≡ producer_of (reverse w.stations) row.destination → is_waiting row.mark ≡ true → table ≡ with_producer row.destination (Some index) producers →
         AreTables order.capacity order.items (slice_set rows index row) table (waiting + 1)
     AreTables-entered table waits displaced is_waits set =

@@ -6,12 +6,14 @@ use Rattle.std.proofs.lemmas.List.{length-set, append-nil, get_or_read}
 use Rattle.reservation_stations.specs.declared.station.Mark.{Mark}
 use Rattle.reservation_stations.specs.declared.station.Mark.TheVariants.{Waiting, Issued, Done, Faulted}
 use Rattle.reservation_stations.specs.declared.row.Row.{Row}
-use Rattle.reservation_stations.specs.Mask.{holds}
+use Rattle.reservation_stations.specs.Mask.{is_index}
+use Rattle.reservation_stations.specs.declared.waits.Waits.{Waits}
+use Rattle.reservation_stations.specs.Waits.{waits_on}
 use Rattle.reservation_stations.specs.Readiness.{Window, is_waiting, is_done, station_of, mark_of, marked, waiting_count}
 use Rattle.reservation_stations.specs.AreTables.{AreTables, Each, row_at, free_row, stations_at, producer}
 use Rattle.reservation_stations.specs.Changes.{without, Releases, EachChanges}
 use Rattle.reservation_stations.proofs.Indices.{Each-map}
-use Rattle.reservation_stations.proofs.Carried.{dropped, Changes, Carries, AreRows-carried, Carries-behind}
+use Rattle.reservation_stations.proofs.Carried.{is_index-dropped, either_kept, dropped, Changes, Carries, AreRows-carried, Carries-behind}
 use Rattle.reservation_stations.proofs.Marking.{row_at-set, with_mark_of, mark_of-held, Marks, stations_at-marked, waiting_count-same, waiting_count-one_less}
 
 abbrev pub none : ℕ → Bool
@@ -27,6 +29,17 @@ one index other = other == index
 pub dropped_one : (index : ℕ) (o : Option ℕ) → dropped (one index) o ≡ without index o
 dropped_one index None = refl
 dropped_one index (Some other) = refl
+
+-- what is waited for, without an index
+index_without : (k index : ℕ) (o : Option ℕ) → is_index k (without index o) ≡ (is_index k o && not (k == index))
+index_without k index o = ap (is_index k) (sym (dropped_one index o)) ∙ is_index-dropped (one index) k o
+
+pub waits_without : (old new : Waits) (index : ℕ) → new.first ≡ without index old.first → new.second ≡ without index old.second →
+    (other : ℕ) → waits_on new other ≡ (waits_on old other && not (other == index))
+waits_without old new index first second other =
+    (λ i. is_index other (first i) || is_index other (second i))
+    ∙ (λ i. index_without other index old.first i || index_without other index old.second i)
+    ∙ sym (either_kept (is_index other old.first) (is_index other old.second) (not (other == index)))
 
 pub or_false : (b : Bool) → b ≡ (b || false)
 or_false true = refl
@@ -106,7 +119,7 @@ module _ (rows : List Row) (index : ℕ) (mark : Mark) (row : Row) (within : ind
     done = done_by other alike ∙ or_false (is_done (row_at rows other).mark);
     stays = refl;
     displaced = field (λ e. e.displaced) refl other ∙ sym (dropped_none (row_at rows other).displaced);
-    waits = λ k. field (λ e. holds e.waits k) refl other ∙ and_true (holds (row_at rows other).waits k);
+    waits = λ k. field (λ e. waits_on e.waits k) refl other ∙ and_true (waits_on (row_at rows other).waits k);
   }
 
 -- what contracts see of the tables
@@ -224,7 +237,7 @@ module _ {capacity : ℕ} {indices : List ℕ} {rows : List Row} {producers : Li
             ap (λ (e : Row). e.displaced) r.kept ∙ field rows index Done row inside is_row (λ e. e.displaced) refl other
             ∙ sym (dropped_none (row_at rows other).displaced);
         waits = λ k.
-            r.waits k ∙ ap (λ b. b && not (k == index)) (field rows index Done row inside is_row (λ e. holds e.waits k) refl other);
+            r.waits k ∙ ap (λ b. b && not (k == index)) (field rows index Done row inside is_row (λ e. waits_on e.waits k) refl other);
       }
 
   waits_freed : (other : ℕ) → other < capacity → is_waiting (row_at freed other).mark ≡ is_waiting (row_at rows other).mark

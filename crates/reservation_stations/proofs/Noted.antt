@@ -8,6 +8,8 @@ use Rattle.reservation_stations.specs.declared.mask.Mask.{Mask}
 use Rattle.reservation_stations.specs.declared.station.Mark.{Mark}
 use Rattle.reservation_stations.specs.declared.row.Row.{Row}
 use Rattle.reservation_stations.specs.Mask.{holds, is_index}
+use Rattle.reservation_stations.specs.declared.waits.Waits.{Waits}
+use Rattle.reservation_stations.specs.Waits.{waits_on}
 use Rattle.reservation_stations.specs.AreTables.{row_at, free_row}
 use Rattle.reservation_stations.specs.Changes.{without, Releases, Forgets, EachChanges}
 use Rattle.reservation_stations.specs.Covers.{AreCovered, Notes, dependents_of, no_indices}
@@ -75,8 +77,8 @@ both_true false c is = cc
 
 -- a row that doesn't depend on an index stands as it is
 module _ (rows : List Row) (dependents : List Mask) (index : ℕ) (covers : AreCovered rows dependents) where
-  no_wait : (k : ℕ) → k < length rows → holds (dependents_of dependents index) k ≡ false → (other : ℕ) → holds (row_at rows k).waits other ≡ (holds (row_at rows k).waits other && not (other == index))
-  no_wait k within none other = and_not (holds (row_at rows k).waits other) (other == index) (λ waits. elim (cases_eq other index) [
+  no_wait : (k : ℕ) → k < length rows → holds (dependents_of dependents index) k ≡ false → (other : ℕ) → waits_on (row_at rows k).waits other ≡ (waits_on (row_at rows k).waits other && not (other == index))
+  no_wait k within none other = and_not (waits_on (row_at rows k).waits other) (other == index) (λ waits. elim (cases_eq other index) [
     | inl same ↦
         let noted : holds (dependents_of dependents index) k ≡ true = covers.waits k index within (rw same at waits) in
         let e : true ≡ false = sym noted ∙ none in cc
@@ -107,7 +109,7 @@ module _ (rows : List Row) (dependents : List Mask) (index : ℕ) (covers : AreC
     waits = λ k other within is.
         let inside : k < length rows = omega (arith, within, each.every_index) in
         let e = each.each_row k inside in
-        covers.waits k other inside (both_true (holds (row_at rows k).waits other) (not (other == index)) (sym (e.waits other) ∙ is));
+        covers.waits k other inside (both_true (waits_on (row_at rows k).waits other) (not (other == index)) (sym (e.waits other) ∙ is));
     displaced = λ k other within is.
         let inside : k < length rows = omega (arith, within, each.every_index) in
         let e = each.each_row k inside in
@@ -160,12 +162,12 @@ module _ (rows : List Row) (dependents : List Mask) (index : ℕ) (covers : AreC
         waits = λ k other within is.
             let inside : k < length rows = omega (arith, within, each.every_index) in
             let e = each.each_row k inside in
-            let was : (holds (row_at rows k).waits other && not (other == index)) ≡ true = sym (e.waits other) ∙ is in
+            let was : (waits_on (row_at rows k).waits other && not (other == index)) ≡ true = sym (e.waits other) ∙ is in
             elim (cases_eq other index) [
               | inl same ↦
-                  let was_here : (holds (row_at rows k).waits index && not (index == index)) ≡ true = rw same at was in
-                  let f : true ≡ false = sym was_here ∙ not_itself (holds (row_at rows k).waits index) in cc
-              | inr apart ↦ ap (λ (m : Mask). holds m k) (kept other apart) ∙ covers.waits k other inside (both_true (holds (row_at rows k).waits other) (not (other == index)) was)
+                  let was_here : (waits_on (row_at rows k).waits index && not (index == index)) ≡ true = rw same at was in
+                  let f : true ≡ false = sym was_here ∙ not_itself (waits_on (row_at rows k).waits index) in cc
+              | inr apart ↦ ap (λ (m : Mask). holds m k) (kept other apart) ∙ covers.waits k other inside (both_true (waits_on (row_at rows k).waits other) (not (other == index)) was)
             ];
         displaced = λ k other within is.
             let inside : k < length rows = omega (arith, within, each.every_index) in
@@ -192,7 +194,7 @@ module _ (rows : List Row) (dependents : List Mask) (index : ℕ) (covers : AreC
       record {
         every_index = covers.every_index ∙ sym long;
         within = λ other k is. omega (arith, covers.within other k is, long);
-        waits = λ k other within is. covers.waits k other (omega (arith, within, long)) (ap (λ (m : Mask). holds m other) (sym (same_waits k)) ∙ is);
+        waits = λ k other within is. covers.waits k other (omega (arith, within, long)) (ap (λ (m : Waits). waits_on m other) (sym (same_waits k)) ∙ is);
         displaced = λ k other within is. covers.displaced k other (omega (arith, within, long)) (sym (same_displaced k) ∙ is);
       }
 
@@ -211,7 +213,7 @@ noted_at index (Some k) other old new notes is = subst (λ m. holds (dependents_
 -- a row that waits for those two, and displaced that one
 pub covered_entered : (rows : List Row) (d0 d1 d2 d3 : List Mask) (index : ℕ) (first second displaced : Option ℕ) (row : Row) → AreCovered rows d0 →
     Notes index first d0 d1 → Notes index second d1 d2 → Notes index displaced d2 d3 → index < length rows →
-    ((k : ℕ) → holds row.waits k ≡ (is_index k first || is_index k second)) → row.displaced ≡ displaced → AreCovered (slice_set rows index row) d3
+    ((k : ℕ) → waits_on row.waits k ≡ (is_index k first || is_index k second)) → row.displaced ≡ displaced → AreCovered (slice_set rows index row) d3
 covered_entered rows d0 d1 d2 d3 index first second displaced row covers one two three inside waits displaces =
     let other_row : (k : ℕ) → k ≢ index → row_at (slice_set rows index row) k ≡ row_at rows k = λ k apart. get_or-set_other rows index k row free_row apart in
     let mine : row_at (slice_set rows index row) index ≡ row = get_or-set_same rows index row free_row inside in
@@ -225,13 +227,13 @@ covered_entered rows d0 d1 d2 d3 index first second displaced row covers one two
       ];
       waits = λ k other within is. elim (cases_eq k index) [
         | inl same ↦
-            let here : holds (row_at (slice_set rows index row) index).waits other ≡ true = rw same at is in
-            let any : (is_index other first || is_index other second) ≡ true = sym (waits other) ∙ ap (λ (e : Row). holds e.waits other) (sym mine) ∙ here in
+            let here : waits_on (row_at (slice_set rows index row) index).waits other ≡ true = rw same at is in
+            let any : (is_index other first || is_index other second) ≡ true = sym (waits other) ∙ ap (λ (e : Row). waits_on e.waits other) (sym mine) ∙ here in
             rw same (elim (either_is (is_index other first) (is_index other second) any) [
               | inl is_first ↦ three.kept other index (two.kept other index (noted_at index first other d0 d1 one (is_some_index other first is_first)))
               | inr is_second ↦ three.kept other index (noted_at index second other d1 d2 two (is_some_index other second is_second))
             ])
-        | inr apart ↦ grows other k (covers.waits k other (omega (arith, within, long)) (ap (λ (e : Row). holds e.waits other) (sym (other_row k apart)) ∙ is))
+        | inr apart ↦ grows other k (covers.waits k other (omega (arith, within, long)) (ap (λ (e : Row). waits_on e.waits other) (sym (other_row k apart)) ∙ is))
       ];
       displaced = λ k other within is. elim (cases_eq k index) [
         | inl same ↦

@@ -9,6 +9,7 @@ use Rattle.reservation_stations.specs.declared.station.Mark.TheVariants.{Waiting
 use Rattle.reservation_stations.specs.declared.mask.Mask.{Mask}
 use Rattle.reservation_stations.specs.declared.row.Row.{Row}
 use Rattle.reservation_stations.specs.Mask.{holds}
+use Rattle.reservation_stations.specs.Waits.{waits_on}
 use Rattle.reservation_stations.specs.Readiness.{is_waiting, is_issued, mark_of}
 use Rattle.reservation_stations.specs.AreTables.{AreTables, Each, row_at, free_row, stations_at}
 use Rattle.reservation_stations.specs.Covers.{AreCovered, dependents_of, depends, no_indices}
@@ -68,7 +69,7 @@ waits_in retired indices rows turned index waits = elim (find_place indices inde
 -- a row that waits for fewer, and its place where it can begin
 module _ (retired : ℕ) (rows : List Row) (ready ready' : Mask) (index : ℕ) (row : Row) (inside : index < length rows)
     (turn : row.turn ≡ (row_at rows index).turn) (mark : row.mark ≡ (row_at rows index).mark)
-    (fewer : (k : ℕ) → holds (row_at rows index).waits k ≡ false → holds row.waits k ≡ false)
+    (fewer : (k : ℕ) → waits_on (row_at rows index).waits k ≡ false → waits_on row.waits k ≡ false)
     (notes : NotesReady retired row ready ready') where
   still_ready : IsReady (row_at rows index) → IsReady row
   still_ready is = record { waits = ap is_waiting mark ∙ is.waits; nothing = λ k. fewer k (is.nothing k) }
@@ -438,14 +439,14 @@ depends_none n other index mask empty = elim (mask_of n other mask) [
   | inr is ↦ ap (λ (m : Mask). holds m index) is ∙ none_from_zeros no_indices.words (λ k within. get_or-replicate 4 k 0 0 within) refl index
 ]
 
-pub covers_none : (capacity : ℕ) (row : Row) (mask : Mask) → row.displaced ≡ None → ((k : ℕ) → holds row.waits k ≡ false) → ((k : ℕ) → holds mask k ≡ false) →
+pub covers_none : (capacity : ℕ) (row : Row) (mask : Mask) → row.displaced ≡ None → ((k : ℕ) → waits_on row.waits k ≡ false) → ((k : ℕ) → holds mask k ≡ false) →
     AreCovered (replicate capacity row) (replicate capacity mask)
 covers_none capacity row mask displaced waits empty = record {
   every_index = length-replicate capacity mask ∙ sym (length-replicate capacity row);
   within = λ other index is. absurd (let off = depends_none capacity other index mask empty in cc);
   waits = λ index other inside is. absurd (
       let its : row_at (replicate capacity row) index ≡ row = get_or-replicate capacity index row free_row (omega (arith, inside, length-replicate capacity row)) in
-      let off = ap (λ (e : Row). holds e.waits other) its ∙ waits other in cc);
+      let off = ap (λ (e : Row). waits_on e.waits other) its ∙ waits other in cc);
   displaced = λ index other inside is. absurd (
       let its : row_at (replicate capacity row) index ≡ row = get_or-replicate capacity index row free_row (omega (arith, inside, length-replicate capacity row)) in
       let off = ap (λ (e : Row). e.displaced) its ∙ displaced in cc);

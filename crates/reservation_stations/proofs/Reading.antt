@@ -1,5 +1,5 @@
 -- What is read of the tables: producers, what is awaited of them, and whether a record waits for nothing.
-use Rattle.std.proofs.Common.{◌≡◌, ◌≢◌, ◌↔◌, ℕ, zero, suc, ◌<◌, ◌==◌, ◌||◌, ◌&&◌, Bool, true, false, IsTrue, if◌then◌else◌, Option, Some, None, IfSome, IsSome, is_none, List, [], ◌∷◌, ◌++◌, length, take, get_or, reverse, refl, ap, sym, ◌∙◌, arith, eq-eqb, subst, inl, inr}
+use Rattle.std.proofs.Common.{◌≡◌, ◌≢◌, ◌↔◌, ℕ, zero, suc, ◌<◌, ◌==◌, ◌||◌, ◌&&◌, Bool, true, false, IsTrue, if◌then◌else◌, Option, Some, None, IfSome, IsSome, is_none, is_some, not, List, [], ◌∷◌, ◌++◌, length, take, get_or, reverse, refl, ap, sym, ◌∙◌, arith, eq-eqb, subst, inl, inr}
 use Rattle.std.specs.Prelude.{slice_get, option_map, All, AllPairs}
 use Rattle.std.proofs.lemmas.Bool.{both_ways, or_parts}
 use Rattle.std.proofs.lemmas.List.{append-nil, take-map, get_or_read}
@@ -8,6 +8,8 @@ use Rattle.reservation_stations.specs.declared.station.Station.{Station}
 use Rattle.reservation_stations.specs.declared.row.Row.{Row}
 use Rattle.reservation_stations.specs.declared.mask.Mask.{Mask}
 use Rattle.reservation_stations.specs.Mask.{holds, is_index}
+use Rattle.reservation_stations.specs.declared.waits.Waits.{Waits}
+use Rattle.reservation_stations.specs.Waits.{waits_on}
 use Rattle.reservation_stations.specs.Readiness.{Window, is_waiting, is_issued, is_done, executes, executes_at, is_register, has_written_value, has_operand, has_operands, older_than, can_begin, can_begin_at, station_of}
 use Rattle.reservation_stations.specs.AreTables.{AreTables, Each, AreDistinct, IsRow, row_at, free_row, stations_at, station_in, producer, producer_of, unfinished, awaited}
 use Rattle.reservation_stations.specs.Places.{IsReady, IsIssued, HoldsPlaces}
@@ -83,13 +85,28 @@ no_index_awaited None None is index = refl
 no_index_awaited None (Some other) is index = absurd cc
 no_index_awaited (Some other) b is index = absurd cc
 
+none_by : {X : Type 0} (o : Option X) (p : Bool) → is_some o ≡ not p → p ≡ is_none o
+none_by None true is = refl
+none_by None false is = absurd cc
+none_by (Some x) true is = absurd cc
+none_by (Some x) false is = refl
+
+pub some_not_none : {X : Type 0} (o : Option X) → is_some o ≡ not (is_none o)
+some_not_none None = refl
+some_not_none (Some x) = refl
+
+pub waits_for_none : (waits : Waits) (p q r : Bool) → is_some waits.first ≡ not p → is_some waits.second ≡ not q → r ≡ (p && q) → IsTrue r ↔ ((index : ℕ) → waits_on waits index ≡ false)
+waits_for_none waits p q r first second both =
+    let e : r ≡ (is_none waits.first && is_none waits.second) = both ∙ (λ i. none_by waits.first p first i && none_by waits.second q second i) in
+    (λ is. no_index_awaited waits.first waits.second (sym e ∙ is), λ empty. e ∙ nothing_awaited waits.first waits.second empty)
+
 same_answers : (r t : Bool) {P : Type 0} → IsTrue r ↔ P → (P → t ≡ true) → (t ≡ true → P) → r ≡ t
 same_answers true t is to back = sym (to (is.0 refl))
 same_answers false true is to back = is.1 (back refl)
 same_answers false false is to back = refl
 
 -- a row's mask is empty exactly where both its operands have a value
-pub empty-has_operands : (r : Bool) (older : List Station) (index : ℕ) (row : Row) → IsRow older row → IsTrue r ↔ ((k : ℕ) → holds row.waits k ≡ false) →
+pub empty-has_operands : (r : Bool) (older : List Station) (index : ℕ) (row : Row) → IsRow older row → IsTrue r ↔ ((k : ℕ) → waits_on row.waits k ≡ false) →
     r ≡ has_operands older (station_in index row)
 empty-has_operands r older index row is empty =
     let a = awaited older row.first in
@@ -208,14 +225,14 @@ module _ {capacity : ℕ} {indices : List ℕ} {rows : List Row} {producers : Li
 
   -- the operands of the record at a place
   pub ready_seen : (place index : ℕ) (station : Station) (row : Row) (r : Bool) → slice_get w.stations place ≡ Some station → station.index ≡ index →
-      row ≡ get_or rows index row → index < length rows → IsTrue r ↔ ((k : ℕ) → holds row.waits k ≡ false) →
+      row ≡ get_or rows index row → index < length rows → IsTrue r ↔ ((k : ℕ) → waits_on row.waits k ≡ false) →
       r ≡ has_operands (older_than place w.stations) station
   ready_seen place index station row r there holds_it read within empty =
       let found = index_there (slice_get indices place) station (sym (station_seen place) ∙ there) in
       let same : found.0 ≡ index = ap (λ (s : Station). s.index) found.2 ∙ holds_it in
       let is_row : row ≡ row_at rows found.0 = get_or_read rows index row within read free_row ∙ ap (row_at rows) (sym same) in
       empty-has_operands r (older_than place w.stations) found.0 (row_at rows found.0) (row_seen place found.0 found.1)
-      (subst (λ (e : Row). IsTrue r ↔ ((k : ℕ) → holds e.waits k ≡ false)) is_row empty)
+      (subst (λ (e : Row). IsTrue r ↔ ((k : ℕ) → waits_on e.waits k ≡ false)) is_row empty)
       ∙ ap (has_operands (older_than place w.stations)) found.2
 
   -- what is awaited of a producer, by its mark

@@ -4,7 +4,8 @@ use Rattle.std.specs.Prelude.{◌≡◌, ◌≢◌, ℕ, ◌<◌, ◌≤◌, ◌
 use Rattle.reservation_stations.specs.declared.station.Mark.TheVariants.{Done}
 use Rattle.reservation_stations.specs.declared.station.Station.{Station}
 use Rattle.reservation_stations.specs.declared.row.Row.{Row}
-use Rattle.reservation_stations.specs.Mask.{holds, is_index}
+use Rattle.reservation_stations.specs.Mask.{is_index}
+use Rattle.reservation_stations.specs.Waits.{waits_on}
 use Rattle.reservation_stations.specs.Readiness.{is_done, is_register, waiting_count}
 
 -- an index that was never held
@@ -14,7 +15,7 @@ free_row = record {
   second = None;
   destination = None;
   mark = Done;
-  waits = record { words = 0 ∷ 0 ∷ 0 ∷ 0 ∷ [] };
+  waits = record { first = None; second = None };
   displaced = None;
   turn = 0;
 }
@@ -56,7 +57,7 @@ awaited older (Some register) = unfinished older register
 
 -- a row beside the records older than it
 pub record IsRow (older : List Station) (row : Row) : Type 0 where
-  pub waits : (index : ℕ) → holds row.waits index ≡ (is_index index (awaited older row.first) || is_index index (awaited older row.second))
+  pub waits : (index : ℕ) → waits_on row.waits index ≡ (is_index index (awaited older row.first) || is_index index (awaited older row.second))
   pub displaced : row.displaced ≡ producer_of older row.destination
 
 -- the rows of some indices, the oldest first, behind older ones, the youngest first

@@ -1,7 +1,7 @@
 -- How single rows and the table of producers change.
 use Rattle.std.specs.Prelude.{◌≡◌, ℕ, ◌<◌, ◌&&◌, ◌==◌, not, if◌then◌else◌, Option, Some, None, List, length, slice_set, get_or}
 use Rattle.reservation_stations.specs.declared.row.Row.{Row}
-use Rattle.reservation_stations.specs.Mask.{holds}
+use Rattle.reservation_stations.specs.Waits.{waits_on}
 use Rattle.reservation_stations.specs.AreTables.{row_at}
 
 -- the index, where it isn't this one
@@ -12,12 +12,12 @@ without index (Some other) = if other == index then None else Some other
 -- the row no longer waits for an index
 pub record Releases (index : ℕ) (old new : Row) : Type 0 where
   pub kept : record new { waits = old.waits } ≡ old
-  pub waits : (other : ℕ) → holds new.waits other ≡ (holds old.waits other && not (other == index))
+  pub waits : (other : ℕ) → waits_on new.waits other ≡ (waits_on old.waits other && not (other == index))
 
 -- nor does it know it as the one that it displaced
 pub record Forgets (index : ℕ) (old new : Row) : Type 0 where
   pub kept : record new { waits = old.waits; displaced = old.displaced } ≡ old
-  pub waits : (other : ℕ) → holds new.waits other ≡ (holds old.waits other && not (other == index))
+  pub waits : (other : ℕ) → waits_on new.waits other ≡ (waits_on old.waits other && not (other == index))
   pub displaced : new.displaced ≡ without index old.displaced
 
 -- each row changes so

@@ -4,6 +4,7 @@ use Rattle.std.specs.Prelude.{◌≡◌, ◌≢◌, ℕ, ◌<◌, Bool, true, Op
 use Rattle.reservation_stations.specs.declared.mask.Mask.{Mask}
 use Rattle.reservation_stations.specs.declared.row.Row.{Row}
 use Rattle.reservation_stations.specs.Mask.{holds}
+use Rattle.reservation_stations.specs.Waits.{waits_on}
 use Rattle.reservation_stations.specs.AreTables.{row_at}
 
 abbrev pub no_indices : Mask
@@ -20,7 +21,7 @@ pub record AreCovered (rows : List Row) (dependents : List Mask) : Type 0 where
   pub every_index : length dependents ≡ length rows
   pub within : (other index : ℕ) → depends dependents other index ≡ true → index < length rows
   pub waits : (index other : ℕ) → index < length rows →
-      holds (row_at rows index).waits other ≡ true → depends dependents other index ≡ true
+      waits_on (row_at rows index).waits other ≡ true → depends dependents other index ≡ true
   pub displaced : (index other : ℕ) → index < length rows →
       (row_at rows index).displaced ≡ Some other → depends dependents other index ≡ true
 

@@ -1,5 +1,6 @@
 pub mod Readiness
 pub mod Mask
+pub mod Waits
 pub mod AreTables
 pub mod Changes
 pub mod Covers

@@ -4,6 +4,7 @@ use Rattle.std.specs.Prelude.{◌≡◌, ◌≢◌, ◌↔◌, ◌⊎◌, ℕ, �
 use Rattle.reservation_stations.specs.declared.mask.Mask.{Mask}
 use Rattle.reservation_stations.specs.declared.row.Row.{Row}
 use Rattle.reservation_stations.specs.Mask.{holds}
+use Rattle.reservation_stations.specs.Waits.{waits_on}
 use Rattle.reservation_stations.specs.Readiness.{is_waiting, is_issued}
 use Rattle.reservation_stations.specs.AreTables.{Each, row_at}
 
@@ -14,7 +15,7 @@ place_in retired row = (row.turn + (256 - retired)) % 256
 -- it waits for nothing but a unit
 pub record IsReady (row : Row) : Type 0 where
   pub waits : is_waiting row.mark ≡ true
-  pub nothing : (index : ℕ) → holds row.waits index ≡ false
+  pub nothing : (index : ℕ) → waits_on row.waits index ≡ false
 
 abbrev pub IsIssued : Row → Type 0
 IsIssued row = is_issued row.mark ≡ true

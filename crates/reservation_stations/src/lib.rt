@@ -8,6 +8,7 @@ mod stations;
 mod tables;
 #[cfg(test)]
 mod tests;
+mod waits;
 
 pub use station::{Mark, Station};
 pub use stations::Stations;

@@ -1,9 +1,8 @@
 //! A set of indices, or of places, in four words.
-ghost use Rattle.std.specs.Prelude.{◌≡◌, ◌↔◌, ◌+◌, ◌/◌, ◌%◌, ◌*◌, ◌^◌, ◌<◌, ◌≤◌, ◌==◌, ◌&&◌, ◌||◌, not, ℕ, IsTrue, false};
+ghost use Rattle.std.specs.Prelude.{◌≡◌, ◌+◌, ◌/◌, ◌%◌, ◌*◌, ◌^◌, ◌<◌, ◌≤◌, ◌==◌, ◌&&◌, ◌||◌, not, ℕ, IsTrue, false};
 ghost use Rattle.std.specs.Prelude.{IfSome, IfNone};
 ghost use Rattle.std.specs.Int.{bit_at};
-ghost use Rattle.std.specs.Option.{ForSome};
-ghost use Rattle.reservation_stations.specs.Mask.{holds, is_index};
+ghost use Rattle.reservation_stations.specs.Mask.{holds};
 
 /// A set of indices or of places, each below 256: bit `index % 64` of word `index / 64`.
 #[derive(Clone, Copy, Debug, PartialEq, Eq)]
@@ -19,19 +18,12 @@ impl Mask {
         Mask { words: [0; 4] }
     }
 
-    /// The set with one index more, if one is given.
-    pub fn with(self, index: Option<u32>) -> Mask
-        requires within { ForSome index (λ s. s < 256) }
-        ensures with { (other : ℕ) → holds result other ≡ (holds self other || is_index other index) }
+    /// Puts an index into the set.
+    pub fn insert(&mut self, index: u32)
+        requires within { index < 256 }
+        ensures inserted { (other : ℕ) → holds self.new other ≡ (holds self.old other || (other == index)) }
     {
-        match index {
-            None => self,
-            Some(index) => {
-                let mut words = self.words;
-                words[(index / 64) as usize] |= 1 << (index % 64);
-                Mask { words }
-            }
-        }
+        self.words[(index / 64) as usize] |= 1 << (index % 64);
     }
 
     /// Takes an index out of the set.
@@ -73,14 +65,6 @@ impl Mask {
             }
         }
         None
-    }
-
-    /// Whether no index is in the set.
-    pub fn is_empty(&self) -> bool
-        ensures empty { IsTrue result ↔ ((index : ℕ) → holds self.now index ≡ false) }
-    {
-        let [first, second, third, fourth] = self.words;
-        first | second | third | fourth == 0
     }
 }
 

@@ -1,5 +1,5 @@
-use crate::mask::Mask;
 use crate::station::Mark;
+use crate::waits::Waits;
 
 /// What an index of the window keeps of the record that holds it.
 #[derive(Clone, Copy, Debug, PartialEq, Eq)]
@@ -9,7 +9,7 @@ pub struct Row {
     pub destination: Option<u8>,
     pub mark: Mark,
     /// The indices that it still waits for: the producers of its sources that aren't done.
-    pub waits: Mask,
+    pub waits: Waits,
     /// The index that was its destination's producer before it, while that record stands in the window.
     pub displaced: Option<u32>,
     /// Its place plus how many records retired, modulo 256.
@@ -18,22 +18,24 @@ pub struct Row {
 
 impl Row {
     ghost use Rattle.std.specs.Prelude.{◌≡◌, ◌↔◌, ◌+◌, ◌-◌, ◌%◌, ◌<◌, ℕ, false, IsTrue};
-    ghost use Rattle.reservation_stations.specs.Mask.{holds};
+    ghost use Rattle.reservation_stations.specs.Waits.{waits_on};
     ghost use Rattle.reservation_stations.specs.AreTables.{free_row};
     ghost use Rattle.reservation_stations.specs.Changes.{Releases, Forgets};
     ghost use Rattle.reservation_stations.specs.Places.{IsReady, place_in};
 
     /// That of an index that no record held yet.
     pub fn free() -> Row
-        ensures free { record result { waits = free_row.waits } ≡ free_row }
-        ensures waits { (index : ℕ) → holds result.waits index ≡ false }
+        ensures free { result ≡ free_row }
     {
         Row {
             first: None,
             second: None,
             destination: None,
             mark: Mark::Done,
-            waits: Mask::none(),
+            waits: Waits {
+                first: None,
+                second: None,
+            },
             displaced: None,
             turn: 0,
         }
@@ -56,7 +58,6 @@ impl Row {
 
     /// Waits no longer for an index.
     pub fn release(&mut self, index: u32)
-        requires within { index < 256 }
         ensures released { Releases index self.old self.new }
     {
         self.waits.remove(index);
@@ -64,7 +65,6 @@ impl Row {
 
     /// Waits no longer for an index whose record leaves the window, and puts it back no more.
     pub fn forget(&mut self, index: u32)
-        requires within { index < 256 }
         ensures forgotten { Forgets index self.old self.new }
     {
         self.release(index);

@@ -2,6 +2,7 @@ use crate::mask::Mask;
 use crate::row::Row;
 use crate::station::Mark;
 use crate::tables::{drop_producer, forget, note, note_ready, release, set_producer, uncounted};
+use crate::waits::Waits;
 use circular_buffer::HeapCircularBuffer;
 use fsim_base::NoMemory;
 use std::alloc::Global;
@@ -142,7 +143,7 @@ impl Stations {
             second: sources.1,
             destination,
             mark: Mark::Waiting,
-            waits: Mask::none().with(first).with(second),
+            waits: Waits { first, second },
             displaced,
             turn: self.retired.wrapping_add(place),
         };
@@ -174,7 +175,7 @@ impl Stations {
     {
         let place = self.rows[index as usize].place(self.retired);
         self.ready.remove(place);
-        self.executing = self.executing.with(Some(place));
+        self.executing.insert(place);
         self.rows[index as usize].mark = Mark::Issued;
         self.waiting -= 1;
     }

@@ -17,7 +17,7 @@ pub fn note(dependents: &mut Vec<Mask>, on: Option<u32>, index: u32)
     ensures noted { Notes index on dependents.old.items dependents.new.items }
 {
     if let Some(on) = on {
-        dependents[on as usize] = dependents[on as usize].with(Some(index));
+        dependents[on as usize].insert(index);
     }
 }
 
@@ -86,7 +86,7 @@ pub fn note_ready(ready: &mut Mask, row: &Row, retired: u8)
     ensures noted { NotesReady retired row.now ready.old ready.new }
 {
     if row.is_ready() {
-        *ready = ready.with(Some(row.place(retired)));
+        ready.insert(row.place(retired));
     }
 }
 

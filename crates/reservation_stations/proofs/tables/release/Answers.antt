@@ -2,6 +2,7 @@ use Rattle.std.proofs.Common.{◌≡◌, ℕ, ◌<◌, ◌&&◌, ◌==◌, not, 
 use Rattle.std.proofs.lemmas.List.{get_or_read}
 use Rattle.reservation_stations.specs.declared.row.Row.{Row}
 use Rattle.reservation_stations.specs.Mask.{holds}
+use Rattle.reservation_stations.specs.Waits.{waits_on}
 use Rattle.reservation_stations.specs.AreTables.{row_at, free_row}
 use Rattle.reservation_stations.specs.Changes.{Releases}
 use Rattle.reservation_stations.proofs.Noted.{known_within, mask_released, passed_over, passed_read, passed_all}
@@ -44,6 +45,6 @@ loop-from-preserved c =
           (ready_noted c.args.retired mid c.loop-from.ready c.note_ready.new.ready place row inside_mid
           (ap (λ (e : Row). e.turn) changes.kept ∙ ap (λ (e : Row). e.turn) read)
           (ap (λ (e : Row). e.mark) changes.kept ∙ ap (λ (e : Row). e.mark) read)
-          (λ k none. fewer_held (holds c.index_mut-row.result.now.waits k) (k == c.args.index) (holds row.waits k) (changes.waits k) (ap (λ (e : Row). holds e.waits k) read ∙ none))
+          (λ k none. fewer_held (waits_on c.index_mut-row.result.now.waits k) (k == c.args.index) (waits_on row.waits k) (changes.waits k) (ap (λ (e : Row). waits_on e.waits k) read ∙ none))
           c.note_ready.ensures.noted),
     )

@@ -28,17 +28,12 @@ invariant_of-self c =
     in (
       AreTables-entered c.self.invariant.0 c.self.view_is c.args.index c.requires.within c.requires.free _ c.try_push_back.new.self c.try_push_back.result
           c.try_push_back.ensures.variant c.try_push_back.ensures.ok c.set_producer.new.producers.items
-          (λ k.
-          c.with-2.ensures.with k
-          ∙ ap (λ b. b || is_index k c.awaited-second.result) (c.with.ensures.with k ∙ ap (λ b. b || is_index k c.awaited-first.result) (c.none.ensures.none k))
-          ∙ (λ i. is_index k (c.awaited-first.ensures.awaited i) || is_index k (c.awaited-second.ensures.awaited i)))
+          (λ k i. is_index k (c.awaited-first.ensures.awaited i) || is_index k (c.awaited-second.ensures.awaited i))
           c.producer-displaced.ensures.producer refl c.set_producer.ensures.set,
       covered_entered c.self.inside.rows.items c.self.inside.dependents.items c.note.new.dependents.items c.note-2.new.dependents.items c.note-3.new.dependents.items c.args.index
           c.awaited-first.result c.awaited-second.result c.producer-displaced.result _ c.self.invariant.1 c.note.ensures.noted c.note-2.ensures.noted c.note-3.ensures.noted
           within
-          (λ k.
-          c.with-2.ensures.with k
-          ∙ ap (λ b. b || is_index k c.awaited-second.result) (c.with.ensures.with k ∙ ap (λ b. b || is_index k c.awaited-first.result) (c.none.ensures.none k)))
+          (λ k. refl)
           refl,
       rw (ap (λ (o : Buffer ℕ). o.items) pushed)
           (entered_placed c.self.inside.retired c.args.index indices c.self.inside.rows.items c.self.inside.ready c.self.inside.executing c.note_ready.new.ready _ c.self.invariant.2

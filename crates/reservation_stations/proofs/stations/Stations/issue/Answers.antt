@@ -30,9 +30,9 @@ invariant_of-self c =
     let first : c.index.result.now ≡ row_at rows index = get_or_read rows index c.index.result.now held.0 c.index.ensures free_row in (
       AreTables-fewer c.self.invariant.0 c.self.view_is index Waiting Issued c.requires.waiting row c.index_mut.ensures.value refl refl refl,
       covered_marked rows c.self.inside.dependents.items index c.self.invariant.1 row Issued held.0 c.index_mut.ensures.value,
-      issued_placed c.self.inside.retired c.self.inside.order.items rows c.self.inside.ready c.self.inside.executing c.remove.new.self c.with-self-inside.result index c.place-place.result row
+      issued_placed c.self.inside.retired c.self.inside.order.items rows c.self.inside.ready c.self.inside.executing c.remove.new.self c.insert.new.self index c.place-place.result row
           c.self.invariant.2 held.0 read (ap (λ (e : Row). is_waiting e.mark) read ∙ ap is_waiting held.1)
-          (c.place-place.ensures.place ∙ ap (place_in c.self.inside.retired) (first ∙ sym read)) c.remove.ensures.removed c.with-self-inside.ensures.with,
+          (c.place-place.ensures.place ∙ ap (place_in c.self.inside.retired) (first ∙ sym read)) c.remove.ensures.removed c.insert.ensures.inserted,
     )
 
 pub returns : goal.returns
