@@ -19,7 +19,7 @@ use Rattle.split_core.specs.declared.state.SplitState.{SplitState}
 use Rattle.split_core.specs.Standing.{SplitStandsFor, IsStanding}
 use Rattle.split_core.specs.Plays.{IsPlayed}
 use Rattle.split_core.proofs.Standing.{none_is}
-use Rattle.split_core.proofs.Ranges.{setup_ring_some}
+use Rattle.mono_model.proofs.Sound.{setup_facts}
 use Rattle.split_core.proofs.Computing.{computed_stands}
 use Rattle.split_core.proofs.Listing.{entry_pushed}
 use Rattle.split_core.proofs.Taking.{entry_taken, is_right}
@@ -56,7 +56,7 @@ module _ {D : Type 0} (state : SplitState D) (free : is_none state.computed ≡ 
     has_room =
         let none : length state.entries.items ≡ 0 = ap (length {A = Entry}) empty in
         let ring : state.entries.capacity ≡ s.ring = ap (λ (b : Buffer Entry). b.capacity) h.entries in
-        omega (arith, none, ring, setup_ring_some s sound)
+        omega (arith, none, ring, (setup_facts s sound).some_ring)
 
     way_stands : SplitStandsFor s (event_at s push (event_at s compute x)) on_way
     way_stands =
