@@ -1,4 +1,5 @@
-//! The branch predictor of the timing side: two-bit counters, a global history and a buffer of branch targets.
+//! The branch predictor of the timing side: two-bit counters, a global history and a buffer of
+//! branch targets.
 #![tactic(auto)]
 
 mod number;

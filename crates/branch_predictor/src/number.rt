@@ -7,7 +7,7 @@ use crate::params::PredKind;
 /// The place of a number in a table of so many entries.
 #[tactic(auto, using(fsim_base::proofs::Powers::and_power, fsim_base::proofs::Powers::power_positive))]
 pub fn place_in(entries: u32, number: u32) -> usize
-    requires { IsTrue (is_power_of_two entries) }
+    requires power { IsTrue (is_power_of_two entries) }
     ensures remainder { result ≡ number % entries }
     ensures within { result < entries }
 {

@@ -9,7 +9,8 @@ pub enum PredKind {
     Static,
     /// By a two-bit counter that the branch's address selects.
     Bimodal,
-    /// By a two-bit counter that the address and the latest outcomes of all branches select together.
+    /// By a two-bit counter that the address and the latest outcomes of all branches select
+    /// together.
     Gshare,
 }
 

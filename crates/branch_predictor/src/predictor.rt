@@ -22,7 +22,9 @@ pub struct Predictor {
 
 impl Predictor {
     ghost use Rattle.std.specs.Prelude.{ℕ, IfOk};
-    ghost use Rattle.branch_predictor.specs.Predictor.{Predicting, untrained, counter_index, is_taken, target_of, predicted, counted, placed, trained};
+    ghost use Rattle.branch_predictor.specs.Predictor.{Predicting, untrained, counter_index};
+    ghost use Rattle.branch_predictor.specs.Predictor.{is_taken, target_of, predicted, counted};
+    ghost use Rattle.branch_predictor.specs.Predictor.{placed, trained};
     ghost use Rattle.branch_predictor.specs.PredictorStandsFor.{PredictorStandsFor};
 
     /// A predictor of these sizes that has learnt nothing. It takes its memory here and none later.
@@ -115,7 +117,8 @@ impl Predictor {
         }
     }
 
-    /// Learns from an instruction that was committed without a fault and went from `addr` to `next`.
+    /// Learns from an instruction that was committed without a fault and went from `addr` to
+    /// `next`.
     #[tactic(auto, unfolding(crate::specs::Predictor::trained))]
     pub fn train(&mut self, addr: u32, flow: Flow, next: u32)
         ensures trained { (p : PredParams) (s : Predicting) → PredictorStandsFor self.old p s →

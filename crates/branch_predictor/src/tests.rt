@@ -21,7 +21,8 @@ fn check(rt: &impl Abort, alloc: Global, p: PredParams, steps: &[((u32, Flow, u3
     }
 }
 
-/// From weakly not taken up to strongly taken, and down to strongly not taken. A place is written by the first taken branch.
+/// From weakly not taken up to strongly taken, and down to strongly not taken. A place is written
+/// by the first taken branch.
 #[test]
 fn two_bit_counter_goes_through_its_four_states(rt: HostRuntime) {
     let steps = [
@@ -47,8 +48,8 @@ fn two_bit_counter_goes_through_its_four_states(rt: HostRuntime) {
     }
 }
 
-/// A branch that is taken every second time: once twelve outcomes fill the history, it tells the two cases apart. Each is then
-/// met once more before its counter is right.
+/// A branch that is taken every second time: once twelve outcomes fill the history, it tells the
+/// two cases apart. Each is then met once more before its counter is right.
 #[test]
 fn gshare_learns_an_alternating_branch(rt: HostRuntime) {
     let p = PredParams {

@@ -7,7 +7,7 @@ pub const START: u64 = 0xfedc_ba98_7654_3210;
 
 /// The age of a way: 0 is that of the way used last.
 pub fn age_of(ages: u64, way: u32) -> u64
-    requires { way < 16 }
+    requires way { way < 16 }
     ensures age { result ≡ age_of ages way }
     ensures within { result < 16 }
 {
@@ -19,7 +19,8 @@ pub fn oldest(ages: u64, ways: u32) -> u32
     requires some { 0 < ways }
     requires few { ways ≤ 16 }
     ensures within { result < ways }
-    ensures oldest { (way : ℕ) → way < ways → age_of ages way ≡ ways - 1 → age_of ages result ≡ ways - 1 }
+    ensures oldest { (way : ℕ) → way < ways → age_of ages way ≡ ways - 1
+        → age_of ages result ≡ ways - 1 }
 {
     for way in 0..ways {
         if age_of(ages, way) == u64::from(ways - 1) {

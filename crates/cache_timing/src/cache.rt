@@ -109,11 +109,13 @@ impl Cache {
 
     /// The way of a set that holds the line of this number, with the line.
     fn find(&self, set: u32, number: u32) -> Option<(u32, Line)>
-        requires { set < self.now.params.sets }
+        requires set { set < self.now.params.sets }
         ensures within { IfSome result (λ found. found.0 < self.now.params.ways) }
         ensures there { IfSome result (λ found. line_at self.now set found.0 ≡ Some found.1) }
         ensures its_own { IfSome result (λ found. found.1.number ≡ number) }
-        ensures missing { IfNone result ((way : ℕ) (held : Line) → way < self.now.params.ways → line_at self.now set way ≡ Some held → held.number ≢ number) }
+        ensures missing { IfNone result
+            ((way : ℕ) (held : Line) → way < self.now.params.ways → line_at self.now set way ≡ Some
+            held → held.number ≢ number) }
     {
         for way in 0..self.params.ways {
             if let Some(line) = self.line_at(set, way)
@@ -160,7 +162,8 @@ impl Cache {
     fn dirty_address(&self, set: u32, way: u32) -> Option<u32>
         requires set_within { set < self.now.params.sets }
         requires way_within { way < self.now.params.ways }
-        ensures { (p : CacheParams) (back : Bool) (sets : ℕ → List Line) → CacheStandsFor self.now p back sets →
+        ensures { (p : CacheParams) (back : Bool) (sets : ℕ → List Line)
+            → CacheStandsFor self.now p back sets →
             result ≡ written_back p.line (line_at self.now set way) }
     {
         match self.line_at(set, way) {
@@ -175,15 +178,18 @@ impl Cache {
         requires set_within { set < self.old.params.sets }
         requires way_within { way < self.old.params.ways }
         requires held { line_at self.old set way ≡ Some held }
-        ensures met { (p : CacheParams) (back : Bool) (sets : ℕ → List Line) → CacheStandsFor self.old p back sets →
+        ensures met { (p : CacheParams) (back : Bool) (sets : ℕ → List Line)
+            → CacheStandsFor self.old p back sets →
             (touched_line p held.number writes sets).touch ≡ Touch.Hit }
-        ensures kept { (p : CacheParams) (back : Bool) (sets : ℕ → List Line) → CacheStandsFor self.old p back sets →
+        ensures kept { (p : CacheParams) (back : Bool) (sets : ℕ → List Line)
+            → CacheStandsFor self.old p back sets →
             CacheStandsFor self.new p back (touched_line p held.number writes sets).sets }
     {
         self.put(set, way, held.touched(writes));
     }
 
-    /// Puts a line that its set lacks in front of it. The result is the first address of the dirty line that is dropped.
+    /// Puts a line that its set lacks in front of it. The result is the first address of the dirty
+    /// line that is dropped.
     fn miss(&mut self, set: u32, line: Line) -> Option<u32>
         requires place { set ≡ line.number % self.old.params.sets }
         requires set_within { set < self.old.params.sets }
@@ -192,9 +198,11 @@ impl Cache {
             line_at self.old set way ≡ Some held →
             held.number ≢ line.number }
         requires fits { line.number * self.old.params.line < 2 ^ 32 }
-        ensures met { (p : CacheParams) (back : Bool) (sets : ℕ → List Line) → CacheStandsFor self.old p back sets →
+        ensures met { (p : CacheParams) (back : Bool) (sets : ℕ → List Line)
+            → CacheStandsFor self.old p back sets →
             (touched_line p line.number line.dirty sets).touch ≡ Touch.Miss result }
-        ensures kept { (p : CacheParams) (back : Bool) (sets : ℕ → List Line) → CacheStandsFor self.old p back sets →
+        ensures kept { (p : CacheParams) (back : Bool) (sets : ℕ → List Line)
+            → CacheStandsFor self.old p back sets →
             CacheStandsFor self.new p back (touched_line p line.number line.dirty sets).sets }
     {
         let way = self.oldest(set);
@@ -207,9 +215,11 @@ impl Cache {
     fn access_line(&mut self, number: u32, writes: bool) -> Touch
         requires some_way { 0 < self.old.params.ways }
         requires fits { number * self.old.params.line < 2 ^ 32 }
-        ensures met { (p : CacheParams) (back : Bool) (sets : ℕ → List Line) → CacheStandsFor self.old p back sets →
+        ensures met { (p : CacheParams) (back : Bool) (sets : ℕ → List Line)
+            → CacheStandsFor self.old p back sets →
             (touched_line p number writes sets).touch ≡ result }
-        ensures kept { (p : CacheParams) (back : Bool) (sets : ℕ → List Line) → CacheStandsFor self.old p back sets →
+        ensures kept { (p : CacheParams) (back : Bool) (sets : ℕ → List Line)
+            → CacheStandsFor self.old p back sets →
             CacheStandsFor self.new p back (touched_line p number writes sets).sets }
     {
         let set = place_in(self.params.sets, number);
@@ -231,9 +241,11 @@ impl Cache {
 
     /// An access to an address. `Touch::None` comes exactly where the cache has no ways.
     pub fn access(&mut self, addr: u32, write: bool) -> Touch
-        ensures touch { (p : CacheParams) (back : Bool) (sets : ℕ → List Line) → CacheStandsFor self.old p back sets →
+        ensures touch { (p : CacheParams) (back : Bool) (sets : ℕ → List Line)
+            → CacheStandsFor self.old p back sets →
             result ≡ (touched p back sets addr write).touch }
-        ensures sets { (p : CacheParams) (back : Bool) (sets : ℕ → List Line) → CacheStandsFor self.old p back sets →
+        ensures sets { (p : CacheParams) (back : Bool) (sets : ℕ → List Line)
+            → CacheStandsFor self.old p back sets →
             CacheStandsFor self.new p back (touched p back sets addr write).sets }
     {
         if self.params.ways == 0 {

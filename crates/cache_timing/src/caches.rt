@@ -17,7 +17,9 @@ pub struct Caches {
 impl Caches {
     ghost use Rattle.std.specs.Prelude.{◌≡◌, ℕ, false, IfOk};
     ghost use Rattle.cache_timing.specs.Params.{AreInRange};
-    ghost use Rattle.cache_timing.specs.Caches.{CachesState, cold, icache_touched, dcache_touched, l2_touched, missed, drained, followed, fetched, loaded, stored};
+    ghost use Rattle.cache_timing.specs.Caches.{CachesState, cold, icache_touched, dcache_touched};
+    ghost use Rattle.cache_timing.specs.Caches.{l2_touched, missed, drained, followed, fetched};
+    ghost use Rattle.cache_timing.specs.Caches.{loaded, stored};
     ghost use Rattle.cache_timing.specs.Cache.{touched};
     ghost use Rattle.cache_timing.specs.CachesStandFor.{CachesStandFor};
 
@@ -79,7 +81,8 @@ impl Caches {
         touch
     }
 
-    /// Sends a miss of the first level on to the second. The result is the cycles that it adds: `own` without a second level.
+    /// Sends a miss of the first level on to the second. The result is the cycles that it adds:
+    /// `own` without a second level.
     fn miss(&mut self, own: u32, addr: u32) -> u32
         ensures cycles { (p : AllCaches) (s : CachesState) → CachesStandFor self.old p s →
             result ≡ (missed p own s addr).cycles }

@@ -15,7 +15,8 @@ pub struct CacheCounts {
 
 impl CacheCounts {
     ghost use Rattle.std.specs.Prelude.{◌≡◌};
-    ghost use Rattle.cache_timing.specs.Caches.{cold, accesses_after, misses_after, icache_counted, dcache_counted, l2_counted, writeback_counted};
+    ghost use Rattle.cache_timing.specs.Caches.{cold, accesses_after, misses_after, icache_counted};
+    ghost use Rattle.cache_timing.specs.Caches.{dcache_counted, l2_counted, writeback_counted};
 
     /// Nothing was counted.
     pub(crate) fn new() -> CacheCounts

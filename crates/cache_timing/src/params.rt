@@ -37,8 +37,8 @@ pub struct AllCaches {
     pub icache: CacheParams,
     /// The data cache, of at most 4,096 sets.
     pub dcache: CacheParams,
-    /// Whether a store waits in the data cache until its line is dropped (write-back), or also goes on at once
-    /// (write-through).
+    /// Whether a store waits in the data cache until its line is dropped (write-back), or also goes
+    /// on at once (write-through).
     pub back: bool,
     /// The second level, behind both.
     pub l2: CacheParams,

@@ -94,7 +94,8 @@ enum Access {
     Store,
 }
 
-/// Makes one access after the other, each with the cycles that it is to add, and looks at the counts at the end.
+/// Makes one access after the other, each with the cycles that it is to add, and looks at the
+/// counts at the end.
 fn check_all(
     rt: &impl Abort,
     alloc: Global,

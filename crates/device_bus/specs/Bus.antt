@@ -1,5 +1,6 @@
 -- The three devices on one bus.
-use Rattle.std.specs.Prelude.{ℕ, ◌+◌, ◌-◌, ◌==◌, if◌then◌else◌, List, [], ◌∷◌, Option, Some, None}
+use Rattle.std.specs.Prelude.{◌≡◌, ℕ, zero, suc, ◌+◌, ◌-◌, ◌≤◌, ◌==◌, if◌then◌else◌}
+use Rattle.std.specs.Prelude.{List, [], ◌∷◌, ◌++◌, Option, Some, None}
 use Rattle.fsim_base.specs.declared.access.Width.{Width}
 use Rattle.device_bus.specs.declared.kind.DeviceKind.{DeviceKind}
 use Rattle.device_bus.specs.declared.kind.DeviceKind.TheVariants.{Console, Timer, Finisher}
@@ -14,6 +15,17 @@ unfoldable pub use Rattle.device_bus.specs.Range.{accepts_of}
 -- the devices in the order in which they are counted
 abbrev pub device_order : List DeviceKind
 device_order = Console ∷ Timer ∷ Finisher ∷ []
+
+-- the kinds of so many sets of devices, one set behind the other
+abbrev pub sets_order : ℕ → List DeviceKind
+sets_order zero = []
+sets_order (suc sets) = device_order ++ sets_order sets
+
+-- from 1 to 64 sets of devices, one behind the other
+pub record AreSets (sets : ℕ) (kinds : List DeviceKind) : Type 0 where
+  pub some : 1 ≤ sets
+  pub most : sets ≤ 64
+  pub order : kinds ≡ sets_order sets
 
 -- the kind of the device that has this number
 abbrev pub kind_at : ℕ → DeviceKind
@@ -62,7 +74,8 @@ with_state devices Finisher state = record devices { finisher = state }
 
 -- the devices with the numbers of one of them replaced, and all else as it is
 abbrev pub with_numbers : Devices → DeviceKind → List ℕ → Devices
-with_numbers devices kind numbers = with_state devices kind (renumbered (state_of devices kind) numbers)
+with_numbers devices kind numbers =
+    with_state devices kind (renumbered (state_of devices kind) numbers)
 
 -- what one of the devices does at an access
 abbrev pub answer_at : Devices → DeviceKind → DeviceAccess → DeviceAnswer
@@ -70,8 +83,10 @@ answer_at devices kind access = answer_of kind (state_of devices kind) access
 
 -- the devices after an access to one of them
 abbrev pub devices_after : Devices → DeviceKind → DeviceAccess → Devices
-devices_after devices kind access = with_state devices kind (state_after kind (state_of devices kind) access)
+devices_after devices kind access =
+    with_state devices kind (state_after kind (state_of devices kind) access)
 
 -- the devices once an access to one of them is taken back
 abbrev pub devices_undone : Devices → DeviceKind → DevUndo → Devices
-devices_undone devices kind undo = with_state devices kind (state_undone (state_of devices kind) undo)
+devices_undone devices kind undo =
+    with_state devices kind (state_undone (state_of devices kind) undo)

@@ -1,15 +1,17 @@
 -- What each access to a device does, register by register.
 --
--- A device is its kind, what it was given of the input, and its numbers, which are counted by slots:
--- the console's are the line control register (0) and how many bytes of the input were received (1),
--- the timer's the low (0) and the high half (1) of mtimecmp; the finisher has none.
+-- A device is its kind, what it was given of the input, and its numbers, which are counted by
+-- slots: the console's are the line control register (0) and how many bytes of the input were
+-- received (1), the timer's the low (0) and the high half (1) of mtimecmp; the finisher has none.
 --
--- Console: National Semiconductor PC16550D data sheet, the receiver buffer and transmitter holding registers,
--- the line control register (bit 7 is the divisor latch access bit) and the line status register (bit 0 says
--- that data is ready, bits 5 and 6 that the transmitter is empty).
+-- Console: National Semiconductor PC16550D data sheet, the receiver buffer and transmitter holding
+-- registers, the line control register (bit 7 is the divisor latch access bit) and the line status
+-- register (bit 0 says that data is ready, bits 5 and 6 that the transmitter is empty).
 -- Timer: RISC-V privileged manual, section 3.2.1, at the offsets of SiFive's CLINT.
 -- Finisher: SiFive's test finisher.
-use Rattle.std.specs.Prelude.{◌≡◌, ◌≢◌, ℕ, zero, suc, ◌+◌, ◌/◌, ◌%◌, ◌^◌, nat_lt, ◌==◌, if◌then◌else◌, Bool, not, ◌||◌, List, [], ◌∷◌, length, slice_index, slice_set}
+use Rattle.std.specs.Prelude.{◌≡◌, ◌≢◌, ℕ, zero, suc, ◌+◌, ◌/◌, ◌%◌, ◌^◌, nat_lt, ◌==◌}
+use Rattle.std.specs.Prelude.{if◌then◌else◌, Bool, not, ◌||◌, List, [], ◌∷◌, length, slice_index}
+use Rattle.std.specs.Prelude.{slice_set}
 use Rattle.fsim_base.specs.declared.access.Width.{Width}
 use Rattle.fsim_base.specs.declared.access.Width.TheVariants.{Byte, Half, Word}
 use Rattle.fsim_base.specs.declared.instruction.Halt.TheVariants.{Pass, Fail}
@@ -50,19 +52,22 @@ opening_state kind input = record { given = input_for kind input; numbers = open
 abbrev pub renumbered : DeviceState → List ℕ → DeviceState
 renumbered state numbers = record { given = state.given; numbers = numbers }
 
--- one access that a device accepts, at an offset in its range: a load at a time, or a store of a value
+-- one access that a device accepts, at an offset in its range: a load at a time, or a store of a
+-- value
 pub data DeviceAccess : Type 0 where
   loading : ℕ → Width → ℕ → DeviceAccess
   storing : ℕ → Width → ℕ → DeviceAccess
 
--- what an access gives: the loaded value (0 of a store), the numbers after it, and what it does outside the device
+-- what an access gives: the loaded value (0 of a store), the numbers after it, and what it does
+-- outside the device
 pub record DeviceAnswer : Type 0 where
   pub value : ℕ
   pub numbers : List ℕ
   pub note : Note
 
--- the registers: the console's receiver buffer and transmitter holding register, which are one offset, its line
--- control and its line status; the halves of mtimecmp and of mtime; the test finisher; and what no device has
+-- the registers: the console's receiver buffer and transmitter holding register, which are one
+-- offset, its line control and its line status; the halves of mtimecmp and of mtime; the test
+-- finisher; and what no device has
 pub data Register : Type 0 where
   transfer : Register
   line_control : Register
@@ -110,7 +115,8 @@ plain_answer value numbers = record { value = value; numbers = numbers; note = N
 
 -- a store that puts a number into a slot
 abbrev pub put_answer : ℕ → ℕ → List ℕ → DeviceAnswer
-put_answer slot number numbers = record { value = 0; numbers = slice_set numbers slot number; note = Nothing }
+put_answer slot number numbers =
+    record { value = 0; numbers = slice_set numbers slot number; note = Nothing }
 
 -- a store that acts outside the device
 abbrev pub note_answer : Note → List ℕ → DeviceAnswer
@@ -137,7 +143,8 @@ load_answer transfer input numbers time =
     then plain_answer 0 numbers
     else receive_answer input numbers
 load_answer line_control input numbers time = plain_answer (slice_index numbers 0) numbers
-load_answer line_status input numbers time = plain_answer (if has_input input numbers then 0x61 else 0x60) numbers
+load_answer line_status input numbers time =
+    plain_answer (if has_input input numbers then 0x61 else 0x60) numbers
 load_answer compare_low input numbers time = plain_answer (slice_index numbers 0) numbers
 load_answer compare_high input numbers time = plain_answer (slice_index numbers 1) numbers
 load_answer time_low input numbers time = plain_answer (time % 2 ^ 32) numbers
@@ -162,8 +169,10 @@ store_answer reserved numbers width value = plain_answer 0 numbers
 
 -- what a device of a kind, with its input and its numbers, does at an access
 unfoldable pub dev : DeviceKind → List ℕ → List ℕ → DeviceAccess → DeviceAnswer
-dev kind input numbers (loading off width time) = load_answer (register_at kind off) input numbers time
-dev kind input numbers (storing off width value) = store_answer (register_at kind off) numbers width value
+dev kind input numbers (loading off width time) =
+    load_answer (register_at kind off) input numbers time
+dev kind input numbers (storing off width value) =
+    store_answer (register_at kind off) numbers width value
 
 -- the same of a device's state
 abbrev pub answer_of : DeviceKind → DeviceState → DeviceAccess → DeviceAnswer

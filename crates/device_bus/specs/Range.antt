@@ -1,5 +1,5 @@
--- Where the devices stand in the address space: three fixed ranges, at the addresses of QEMU's board `virt`
--- (hw/riscv/virt.c: VIRT_UART0, VIRT_CLINT, VIRT_TEST).
+-- Where the devices stand in the address space: three fixed ranges, at the addresses of QEMU's
+-- board `virt` (hw/riscv/virt.c: VIRT_UART0, VIRT_CLINT, VIRT_TEST).
 use Rattle.std.specs.Prelude.{ℕ, ◌+◌, ◌<◌, ◌≤◌, nat_lt, nat_le, Bool, true, false, ◌&&◌}
 use Rattle.fsim_base.specs.declared.access.Width.{Width}
 use Rattle.fsim_base.specs.declared.access.Width.TheVariants.{Byte, Half, Word}
@@ -19,7 +19,8 @@ range_of Finisher = record { base = 0x0010_0000; size = 4096 }
 
 -- the address lies in the device's range
 abbrev pub IsInRange : DeviceKind → ℕ → Type 0
-IsInRange kind addr = ((range_of kind).base ≤ addr) × (addr < (range_of kind).base + (range_of kind).size)
+IsInRange kind addr =
+    ((range_of kind).base ≤ addr) × (addr < (range_of kind).base + (range_of kind).size)
 
 -- the same as a test
 abbrev pub is_in_range : DeviceKind → ℕ → Bool
@@ -37,4 +38,5 @@ has_width Finisher width = true
 -- an access that a device accepts: of a width that it has, aligned, and whole inside its range
 unfoldable pub accepts_of : DeviceKind → ℕ → Width → Bool
 accepts_of kind off width =
-    has_width kind width && is_aligned off width && nat_le (off + width_bytes width) (range_of kind).size
+    has_width kind width && is_aligned off width
+    && nat_le (off + width_bytes width) (range_of kind).size

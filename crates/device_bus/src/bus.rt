@@ -1,8 +1,11 @@
-ghost use Rattle.std.specs.Prelude.{◌≡◌, ◌<◌, ◌≤◌, ◌↔◌, [], ◌∷◌, length, map, slice_index, IsTrue, IsNone, IfSome, OnOk};
+ghost use Rattle.std.specs.Prelude.{◌≡◌, ◌/◌, ◌<◌, ◌≤◌, ◌↔◌, [], ◌∷◌, length, map, slice_index};
+ghost use Rattle.std.specs.Prelude.{IsTrue, IsNone, IfSome, OnOk};
 ghost use Rattle.device_bus.specs.Range.{accepts_of, IsInRange};
 ghost use Rattle.device_bus.specs.Device.{loading, storing, slots_of};
 ghost use Rattle.device_bus.specs.Undo.{NamesSlot, Undoes};
-ghost use Rattle.device_bus.specs.Bus.{device_order, kind_at, find_of, state_of, opening_devices, answer_at, devices_after, devices_undone};
+ghost use Rattle.device_bus.specs.Bus.{device_order, sets_order, AreSets};
+ghost use Rattle.device_bus.specs.Bus.{kind_at, find_of, state_of, opening_devices, answer_at};
+ghost use Rattle.device_bus.specs.Bus.{devices_after, devices_undone};
 
 use crate::device::{Device, INPUT_LIMIT};
 use crate::kind::DeviceKind;
@@ -23,10 +26,48 @@ fn are_in_order<D: Device>(devices: &[D]) -> bool
     ensures order { IsTrue result ↔ (map D.kind devices.now ≡ device_order) }
 {
     match devices {
-        [console, timer, finisher] => {
-            console.kind() == DeviceKind::Console
-                && timer.kind() == DeviceKind::Timer
-                && finisher.kind() == DeviceKind::Finisher
+        [console, timer, finisher] => is_set(console, timer, finisher),
+        _ => false,
+    }
+}
+
+/// Whether three devices are console, timer and finisher, in this order.
+fn is_set<D: Device>(console: &D, timer: &D, finisher: &D) -> bool
+    ensures order { IsTrue result
+        ↔ (D.kind console.now ∷ D.kind timer.now ∷ D.kind finisher.now ∷ [] ≡ device_order) }
+{
+    console.kind() == DeviceKind::Console
+        && timer.kind() == DeviceKind::Timer
+        && finisher.kind() == DeviceKind::Finisher
+}
+
+/// How many sets of devices there may be.
+const SETS_LIMIT: usize = 64;
+
+/// Whether there are from 1 to 64 sets of three devices, each console, timer, finisher, in this
+/// order.
+pub fn sets_in_order(devices: &[Box<dyn Device + Send>]) -> bool
+    ensures order { IsTrue result
+        ↔ AreSets (length devices.now / 3) (map (λ b. kind b) devices.now) }
+{
+    are_sets_in_order(devices)
+}
+
+fn are_sets_in_order<D: Device>(devices: &[D]) -> bool
+    ensures order { IsTrue result ↔ AreSets (length devices.now / 3) (map D.kind devices.now) }
+{
+    let sets = devices.len() / 3;
+    1 <= sets && sets <= SETS_LIMIT && are_whole_sets(devices)
+}
+
+/// Whether the devices are any number of sets, none among them.
+fn are_whole_sets<D: Device>(devices: &[D]) -> bool
+    ensures order { IsTrue result ↔ (map D.kind devices.now ≡ sets_order (length devices.now / 3)) }
+{
+    match devices {
+        [] => true,
+        [console, timer, finisher, rest @ ..] => {
+            is_set(console, timer, finisher) && are_whole_sets(rest)
         }
         _ => false,
     }
@@ -77,9 +118,10 @@ impl<D: Device> Bus<D> {
         }
     }
 
-    /// Makes the devices ready for a run with this input. Want of memory leaves them unfit for a run.
+    /// Makes the devices ready for a run with this input. Want of memory leaves them unfit for a
+    /// run.
     pub fn start(&mut self, alloc: Global, input: &[u8]) -> Result<(), NoMemory>
-        requires { length input.now ≤ INPUT_LIMIT }
+        requires input { length input.now ≤ INPUT_LIMIT }
         ensures started { OnOk result (self.new ≡ opening_devices input.now) }
     {
         self.console.start(alloc, input)?;
@@ -88,8 +130,8 @@ impl<D: Device> Bus<D> {
         Ok(())
     }
 
-    /// Where an address lies among the devices, and whether the device accepts an access of this width there. It
-    /// accepts no misaligned one.
+    /// Where an address lies among the devices, and whether the device accepts an access of this
+    /// width there. It accepts no misaligned one.
     #[tactic(auto, unfolding(crate::specs::Bus::find_of))]
     pub fn find(&self, addr: u32, width: Width) -> Option<Place>
         ensures place { result ≡ find_of addr width }
@@ -112,7 +154,8 @@ impl<D: Device> Bus<D> {
         })
     }
 
-    /// A load from a device at a time: its value, and what takes it back. The others stay as they are.
+    /// A load from a device at a time: its value, and what takes it back. The others stay as they
+    /// are.
     pub fn load(&mut self, device: u32, off: u32, width: Width, time: u64) -> (u32, DevUndo)
         requires device { device < 3 }
         requires accepted { IsTrue (accepts_of (kind_at device) off width) }
@@ -130,7 +173,8 @@ impl<D: Device> Bus<D> {
         }
     }
 
-    /// A store to a device: what it does outside it, and what takes it back. The others stay as they are.
+    /// A store to a device: what it does outside it, and what takes it back. The others stay as
+    /// they are.
     pub fn store(&mut self, device: u32, off: u32, width: Width, value: u32) -> (Note, DevUndo)
         requires device { device < 3 }
         requires accepted { IsTrue (accepts_of (kind_at device) off width) }

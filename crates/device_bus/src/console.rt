@@ -8,7 +8,8 @@ use fsim_base::{NoMemory, Width};
 use std::alloc::Global;
 use std::marker::Model;
 
-/// A UART that a driver polls: its receiver hands over the run's input, and what it transmits is the output.
+/// A UART that a driver polls: its receiver hands over the run's input, and what it transmits is
+/// the output.
 #[derive(Debug, Drop)]
 pub struct Console {
     input: Vec<u8>,
@@ -30,7 +31,8 @@ impl Model for Console {
     ghost invariant = { λ c. length c.input.items ≤ INPUT_LIMIT };
 }
 
-/// Offset of the receiver buffer, which is loaded, and the transmitter holding register, which is stored.
+/// Offset of the receiver buffer, which is loaded, and the transmitter holding register, which is
+/// stored.
 const TRANSFER: u32 = 0;
 
 /// Offset of the line control register.
@@ -82,7 +84,7 @@ impl Console {
 
     /// Receives the next byte of the input.
     fn receive(&mut self) -> (u32, DevUndo)
-        requires { IsTrue (has_input self.old.given self.old.numbers) }
+        requires input { IsTrue (has_input self.old.given self.old.numbers) }
         ensures value { result.0 ≡ (receive_answer self.old.given self.old.numbers).value }
         ensures state { self.new
             ≡ renumbered self.old (receive_answer self.old.given self.old.numbers).numbers }

@@ -1,7 +1,8 @@
 ghost use Rattle.std.specs.Prelude.{◌≡◌, ◌<◌, ◌≤◌, length, IsTrue, OnOk, slice_index};
 ghost use Rattle.device_bus.specs.declared.kind.DeviceKind.{DeviceKind};
 ghost use Rattle.device_bus.specs.Range.{accepts_of};
-ghost use Rattle.device_bus.specs.Device.{DeviceState, opening_state, slots_of, loading, storing, answer_of, state_after};
+ghost use Rattle.device_bus.specs.Device.{DeviceState, opening_state, slots_of, loading, storing};
+ghost use Rattle.device_bus.specs.Device.{answer_of, state_after};
 ghost use Rattle.device_bus.specs.Undo.{NamesSlot, Undoes, state_undone};
 
 use crate::kind::DeviceKind;
@@ -14,8 +15,8 @@ pub const INPUT_LIMIT: usize = 0x100_0000;
 
 /// A device, as contracts see it: its kind, what it was given of the input, and its numbers.
 ///
-/// Loads and stores take constant time and no memory. Each changes at most one number, and tells how to take
-/// that back. Offsets are in bytes from the base of the device's range.
+/// Loads and stores take constant time and no memory. Each changes at most one number, and tells
+/// how to take that back. Offsets are in bytes from the base of the device's range.
 pub trait Device: Drop {
     ghost kind: { Self → DeviceKind };
 
@@ -29,7 +30,7 @@ pub trait Device: Drop {
     ///
     /// Its one refusal is want of memory, which leaves the device unfit for a run.
     fn start(&mut self, alloc: Global, input: &[u8]) -> Result<(), NoMemory>
-        requires { length input.now ≤ INPUT_LIMIT }
+        requires input { length input.now ≤ INPUT_LIMIT }
         ensures kind { kind self.new ≡ kind self.old }
         ensures opening { OnOk result (state self.new ≡ opening_state (kind self.old) input.now) };
 
@@ -42,7 +43,7 @@ pub trait Device: Drop {
 
     /// A load at a time: its value, and what takes it back.
     fn load(&mut self, off: u32, width: Width, time: u64) -> (u32, DevUndo)
-        requires { IsTrue (accepts_of (kind self.old) off width) }
+        requires accepted { IsTrue (accepts_of (kind self.old) off width) }
         ensures kind { kind self.new ≡ kind self.old }
         ensures value { result.0
             ≡ (answer_of (kind self.old) (state self.old) (loading off width time)).value }
@@ -50,9 +51,10 @@ pub trait Device: Drop {
             ≡ state_after (kind self.old) (state self.old) (loading off width time) }
         ensures undoes { Undoes (kind self.old) result.1 (state self.old) (state self.new) };
 
-    /// A store of the low bytes of a value: what it does outside the device, and what takes it back.
+    /// A store of the low bytes of a value: what it does outside the device, and what takes it
+    /// back.
     fn store(&mut self, off: u32, width: Width, value: u32) -> (Note, DevUndo)
-        requires { IsTrue (accepts_of (kind self.old) off width) }
+        requires accepted { IsTrue (accepts_of (kind self.old) off width) }
         ensures kind { kind self.new ≡ kind self.old }
         ensures note { result.0
             ≡ (answer_of (kind self.old) (state self.old) (storing off width value)).note }
@@ -62,13 +64,13 @@ pub trait Device: Drop {
 
     /// Sets back the number that an access changed, and changes nothing else.
     fn undo(&mut self, undo: DevUndo)
-        requires { NamesSlot (kind self.old) undo }
+        requires slot { NamesSlot (kind self.old) undo }
         ensures kind { kind self.new ≡ kind self.old }
         ensures state { state self.new ≡ state_undone (state self.old) undo };
 
     /// One of the device's numbers.
     fn number(&self, slot: u32) -> u32
-        requires { slot < slots_of (kind self.now) }
+        requires slot { slot < slots_of (kind self.now) }
         ensures number { result ≡ slice_index (state self.now).numbers slot };
 }
 

@@ -71,8 +71,8 @@ impl DeviceKind {
         }
     }
 
-    /// Whether a device of this kind accepts an access at an offset of its range: one of a width that it has,
-    /// aligned, and whole inside the range.
+    /// Whether a device of this kind accepts an access at an offset of its range: one of a width
+    /// that it has, aligned, and whole inside the range.
     #[tactic(auto, unfolding(crate::specs::Range::accepts_of))]
     pub fn accepts(self, off: u32, width: Width) -> bool
         ensures accepted { result ≡ accepts_of self off width }

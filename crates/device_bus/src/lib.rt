@@ -11,7 +11,7 @@ mod place;
 mod timer;
 mod undo;
 
-pub use bus::{Bus, in_order};
+pub use bus::{Bus, in_order, sets_in_order};
 pub use console::Console;
 pub use device::{Device, INPUT_LIMIT};
 pub use finisher::Finisher;

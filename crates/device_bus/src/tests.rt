@@ -1,7 +1,7 @@
 ghost use Rattle.std.specs.Prelude.{◌≡◌, map};
 ghost use Rattle.device_bus.specs.Bus.{device_order};
 
-use crate::bus::{Bus, in_order};
+use crate::bus::{Bus, in_order, sets_in_order};
 use crate::console::Console;
 use crate::device::Device;
 use crate::finisher::Finisher;
@@ -22,8 +22,8 @@ enum Access {
     Store(u32, Width, u32, Note),
 }
 
-/// A driver's walk over the console with the input `AB`: the divisor latch hides data, and the line status tells of
-/// input.
+/// A driver's walk over the console with the input `AB`: the divisor latch hides data, and the line
+/// status tells of input.
 static CONSOLE: [Access; 16] = [
     Access::Load(5, Width::Byte, 0, 0x61),
     Access::Store(3, Width::Byte, 0x80, Note::Nothing),
@@ -99,7 +99,8 @@ fn check<D: Device>(rt: &impl Abort, device: &mut D, access: Access) {
     }
 }
 
-/// A load takes the next byte of the input, its undo gives it back, and the next load takes the same byte.
+/// A load takes the next byte of the input, its undo gives it back, and the next load takes the
+/// same byte.
 #[test]
 #[tactic(auto, unfolding(crate::specs::Range::accepts_of))]
 fn console_load_is_taken_back(rt: HostRuntime) -> Result<(), Fail> {
@@ -180,7 +181,7 @@ static PLACES: [(u32, Width, Option<Place>); 10] = [
 /// Places, accesses and undos on a bus.
 #[tactic(auto, unfolding(crate::specs::Range::accepts_of))]
 fn drive<D: Device>(rt: &impl Abort, alloc: Global, devices: Vec<D>)
-    requires { map D.kind devices.items ≡ device_order }
+    requires order { map D.kind devices.items ≡ device_order }
 {
     let mut bus = Bus::new(devices);
     assert!(rt; bus.start(alloc, b"AB").is_ok());
@@ -212,5 +213,32 @@ fn bus_of_boxes(rt: HostRuntime) -> Result<(), Fail> {
     devices.push(Box::new(alloc, Finisher::new())?)?;
     assert!(rt; in_order(&devices));
     drive(&rt, alloc, devices);
+    Ok(())
+}
+
+/// Adds a set of devices.
+fn push_set(alloc: Global, devices: &mut Vec<Box<dyn Device + Send>>) -> Result<(), Fail> {
+    devices.push(Box::new(alloc, Console::new(alloc).ok().ok_or("no memory")?)?)?;
+    devices.push(Box::new(alloc, Timer::new())?)?;
+    devices.push(Box::new(alloc, Finisher::new())?)?;
+    Ok(())
+}
+
+#[test]
+fn sets_of_boxes(rt: HostRuntime) -> Result<(), Fail> {
+    let alloc = rt.alloc();
+    let mut devices: Vec<Box<dyn Device + Send>> = Vec::new(alloc);
+    assert!(rt; !sets_in_order(&devices));
+    for _ in 0..64 {
+        push_set(alloc, &mut devices)?;
+        assert!(rt; sets_in_order(&devices));
+    }
+    assert!(rt; !in_order(&devices));
+    let _ = devices.pop();
+    assert!(rt; !sets_in_order(&devices), "a set has three devices");
+    devices.push(Box::new(alloc, Finisher::new())?)?;
+    assert!(rt; sets_in_order(&devices));
+    push_set(alloc, &mut devices)?;
+    assert!(rt; !sets_in_order(&devices), "there are 64 sets at most");
     Ok(())
 }

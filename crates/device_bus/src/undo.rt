@@ -1,6 +1,7 @@
 use fsim_base::Halt;
 
-/// What takes back one access to a device: the slot of the number that it changed, and the number from before it.
+/// What takes back one access to a device: the slot of the number that it changed, and the number
+/// from before it.
 #[derive(Clone, Copy, Debug, PartialEq, Eq)]
 pub struct DevUndo {
     /// None where the access changed no number; `old` then says nothing.

@@ -1,5 +1,6 @@
--- The fields of an ELF file of 32 bits, by their places, little endian (Tool Interface Standard, Executable and Linking
--- Format specification 1.2, figure 1-3: ELF header, and figure 2-1: program header).
+-- The fields of an ELF file of 32 bits, by their places, little endian (Tool Interface Standard,
+-- Executable and Linking Format specification 1.2, figure 1-3: ELF header, and figure 2-1: program
+-- header).
 use Rattle.std.specs.Prelude.{ℕ, ◌+◌, ◌*◌, ◌<◌, ◌≤◌, List, length, drop, slice_index}
 use Rattle.byteorder.specs.Endian.{little_number}
 use Rattle.elf_image.specs.declared.header.ProgramHeader.{ProgramHeader}
@@ -38,7 +39,8 @@ header_count bytes = number_at 2 44 bytes
 abbrev pub table_end : List ℕ → ℕ
 table_end bytes = table_place bytes + 32 * header_count bytes
 
--- the program header at the front of some bytes: eight words, of which p_vaddr and p_align don't matter
+-- the program header at the front of some bytes: eight words, of which p_vaddr and p_align don't
+-- matter
 unfoldable pub header_of : List ℕ → ProgramHeader
 header_of bytes = record {
   kind = number_at 4 0 bytes;

@@ -1,13 +1,19 @@
 -- Which bytes are an image for a range of RAM, and which image they are. Sums don't wrap.
-use Rattle.std.specs.Prelude.{◌≡◌, ℕ, ◌+◌, ◌%◌, ◌<◌, ◌≤◌, Bool, true, not, ◌&&◌, if◌then◌else◌, ◌==◌, nat_lt, nat_eq, min, max, List, [], ◌∷◌, ◌++◌, length, take, drop, map, filter, flat_map, Option, Some, None}
+use Rattle.std.specs.Prelude.{◌≡◌, ℕ, ◌+◌, ◌%◌, ◌<◌, ◌≤◌, Bool, true, not, ◌&&◌, if◌then◌else◌}
+use Rattle.std.specs.Prelude.{◌==◌, nat_lt, nat_eq, min, max, List, [], ◌∷◌, ◌++◌, length, take}
+use Rattle.std.specs.Prelude.{drop, map, filter, flat_map, Option, Some, None}
 use Rattle.std.specs.List.{starts_with, range_with_len}
 use Rattle.fsim_base.specs.declared.access.RamRange.{RamRange}
 use Rattle.fsim_base.specs.Range.{is_inside}
 use Rattle.elf_image.specs.declared.fault.ImageFault.{ImageFault}
-use Rattle.elf_image.specs.declared.fault.ImageFault.TheVariants.{Short, Magic, Class, Endian, FileType, Machine, EntrySize, Count, TableOutside, FileOutside, Larger, OutsideRam, Overlap}
+use Rattle.elf_image.specs.declared.fault.ImageFault.TheVariants.{Short, Magic, Class, Endian}
+use Rattle.elf_image.specs.declared.fault.ImageFault.TheVariants.{FileType, Machine, EntrySize}
+use Rattle.elf_image.specs.declared.fault.ImageFault.TheVariants.{Count, TableOutside, FileOutside}
+use Rattle.elf_image.specs.declared.fault.ImageFault.TheVariants.{Larger, OutsideRam, Overlap}
 use Rattle.elf_image.specs.declared.segment.Segment.{Segment}
 use Rattle.elf_image.specs.declared.image.Image.{Image}
-use Rattle.elf_image.specs.Fields.{header_at, class_of, byte_order_of, file_type_of, machine_of, entry_of, table_end, header_size, header_count}
+use Rattle.elf_image.specs.Fields.{header_at, class_of, byte_order_of, file_type_of, machine_of}
+use Rattle.elf_image.specs.Fields.{entry_of, table_end, header_size, header_count}
 
 -- a fault, and whether its condition holds
 abbrev pub Row : Type 0
@@ -36,8 +42,8 @@ file_rows bytes =
     ∷ (TableOutside, nat_lt 0 (header_count bytes) && nat_lt (length bytes) (table_end bytes))
     ∷ []
 
--- whether two runs of bytes, given by their first addresses and sizes, share a byte: the later begins before the earlier
--- ends
+-- whether two runs of bytes, given by their first addresses and sizes, share a byte: the later
+-- begins before the earlier ends
 abbrev pub share_a_byte : ℕ → ℕ → ℕ → ℕ → Bool
 share_a_byte addr size addr' size' = nat_lt (max addr addr') (min (addr + size) (addr' + size'))
 
@@ -63,7 +69,11 @@ header_rows bytes ram i =
     let header = header_at bytes i in
     (FileOutside i, nat_lt (length bytes) (header.offset + header.file_size))
     ∷ (Larger i, nat_lt header.memory_size header.file_size)
-    ∷ (OutsideRam i, nat_lt 0 header.memory_size && not (is_inside ram header.address header.memory_size))
+    ∷ (
+      OutsideRam i,
+      nat_lt 0 header.memory_size
+          && not (is_inside ram header.address header.memory_size),
+    )
     ∷ overlap_rows bytes i 0 i
 
 -- the faults of `count` program headers from the i-th on, in table order

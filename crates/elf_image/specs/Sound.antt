@@ -1,5 +1,6 @@
 -- Which images can be loaded into a range of RAM.
-use Rattle.std.specs.Prelude.{◌≡◌, ◌<◌, ◌≤◌, Bool, true, false, not, ◌&&◌, nat_lt, nat_le, List, [], ◌∷◌, length, All, AllPairs}
+use Rattle.std.specs.Prelude.{◌≡◌, ◌<◌, ◌≤◌, Bool, true, false, not, ◌&&◌, nat_lt, nat_le, List, []}
+use Rattle.std.specs.Prelude.{◌∷◌, length, All, AllPairs}
 use Rattle.std.specs.List.{list_all}
 use Rattle.fsim_base.specs.declared.access.RamRange.{RamRange}
 use Rattle.fsim_base.specs.Range.{IsInside, is_inside}
@@ -28,7 +29,8 @@ pub record IsSound (image : Image) (ram : RamRange) : Type 0 where
 -- the same as a test
 abbrev pub is_placed : RamRange → Segment → Bool
 is_placed ram s =
-    nat_lt s.index 64 && nat_lt 0 s.size && nat_le (length s.bytes) s.size && is_inside ram s.addr s.size
+    nat_lt s.index 64 && nat_lt 0 s.size && nat_le (length s.bytes) s.size
+    && is_inside ram s.addr s.size
 
 abbrev pub is_before : Segment → Segment → Bool
 is_before a b = nat_lt a.index b.index && not (share_a_byte a.addr a.size b.addr b.size)
@@ -40,4 +42,5 @@ are_ordered (s ∷ rest) = list_all (is_before s) rest && are_ordered rest
 
 unfoldable pub is_sound : Image → RamRange → Bool
 is_sound image ram =
-    nat_le (length image.segments) 64 && list_all (is_placed ram) image.segments && are_ordered image.segments
+    nat_le (length image.segments) 64 && list_all (is_placed ram) image.segments
+    && are_ordered image.segments

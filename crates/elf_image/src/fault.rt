@@ -1,4 +1,5 @@
-/// Why bytes are no image for a range of RAM. Numbers are places in the table of program headers, from 0.
+/// Why bytes are no image for a range of RAM. Numbers are places in the table of program headers,
+/// from 0.
 #[derive(Clone, Copy, Debug, PartialEq, Eq)]
 pub enum ImageFault {
     /// Fewer bytes than an ELF header has.
@@ -25,8 +26,8 @@ pub enum ImageFault {
     Larger(u32),
     /// This header's segment isn't inside RAM.
     OutsideRam(u32),
-    /// The first header's segment shares a byte of memory with that of the second, an earlier one; it is
-    /// the first such.
+    /// The first header's segment shares a byte of memory with that of the second, an earlier one;
+    /// it is the first such.
     Overlap(u32, u32),
     /// Memory was wanted and not found.
     Memory,

@@ -26,7 +26,7 @@ pub struct ProgramHeader {
 /// The number in the two bytes from a place.
 #[tactic(auto, unfolding(crate::specs::Fields::number_at))]
 pub fn half_at(bytes: &[u8], at: usize) -> u16
-    requires { at + 2 ≤ length bytes.now }
+    requires inside { at + 2 ≤ length bytes.now }
     ensures { result ≡ number_at 2 at bytes.now }
 {
     LittleEndian::read_u16(&bytes[at..])
@@ -35,7 +35,7 @@ pub fn half_at(bytes: &[u8], at: usize) -> u16
 /// The number in the four bytes from a place.
 #[tactic(auto, unfolding(crate::specs::Fields::number_at))]
 pub fn word_at(bytes: &[u8], at: usize) -> u32
-    requires { at + 4 ≤ length bytes.now }
+    requires inside { at + 4 ≤ length bytes.now }
     ensures { result ≡ number_at 4 at bytes.now }
 {
     LittleEndian::read_u32(&bytes[at..])
@@ -44,7 +44,7 @@ pub fn word_at(bytes: &[u8], at: usize) -> u32
 /// The program header at the front of some bytes.
 #[tactic(auto, unfolding(crate::specs::Fields::header_of))]
 fn first_header(bytes: &[u8]) -> ProgramHeader
-    requires { 32 ≤ length bytes.now }
+    requires inside { 32 ≤ length bytes.now }
     ensures { result ≡ header_of bytes.now }
 {
     ProgramHeader {

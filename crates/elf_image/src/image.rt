@@ -43,8 +43,9 @@ pub struct Image {
 impl Image {
     ghost use Rattle.elf_image.specs.Sound.{IsSound, is_sound};
 
-    /// Whether the image can be loaded into this RAM: at most 64 segments with rising indexes below 64,
-    /// each with a size above 0, at most that many bytes and inside RAM, and no two with a byte in common.
+    /// Whether the image can be loaded into this RAM: at most 64 segments with rising indexes below
+    /// 64, each with a size above 0, at most that many bytes and inside RAM, and no two with a byte
+    /// in common.
     #[tactic(auto, unfolding(crate::specs::Sound::is_sound))]
     pub fn sound(&self, ram: RamRange) -> bool
         ensures sound { IsTrue result ↔ IsSound self.now ram }

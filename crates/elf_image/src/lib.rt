@@ -1,5 +1,5 @@
-//! ELF images of 32-bit RISC-V programs: which bytes are an image for a range of RAM, what the image puts
-//! there, and the bytes that hold an image.
+//! ELF images of 32-bit RISC-V programs: which bytes are an image for a range of RAM, what the
+//! image puts there, and the bytes that hold an image.
 #![tactic(auto)]
 
 mod fault;

@@ -1,6 +1,9 @@
-ghost use Rattle.std.specs.Prelude.{◌≡◌, ◌≢◌, ◌==◌, ◌&&◌, ◌+◌, ◌<◌, ◌≤◌, length, None, IfOk, IfErr, IfSome};
+ghost use Rattle.std.specs.Prelude.{◌≡◌, ◌≢◌, ◌==◌, ◌&&◌, ◌+◌, ◌<◌, ◌≤◌, length, None, IfOk, IfErr};
+ghost use Rattle.std.specs.Prelude.{IfSome};
 ghost use Rattle.elf_image.specs.Fields.{HasTable, header_count, header_at};
-ghost use Rattle.elf_image.specs.Image.{first_fault, file_rows, table_rows, overlap_rows, image_fault, share_a_byte, HasContents, segment_at, segments_of, IsImage};
+ghost use Rattle.elf_image.specs.Image.{first_fault, file_rows, table_rows, overlap_rows};
+ghost use Rattle.elf_image.specs.Image.{image_fault, share_a_byte, HasContents, segment_at};
+ghost use Rattle.elf_image.specs.Image.{segments_of, IsImage};
 ghost use Rattle.elf_image.specs.Sound.{IsSound};
 
 use crate::fault::ImageFault;
@@ -120,7 +123,7 @@ fn header_fault(bytes: &[u8], ram: RamRange, index: u32) -> Option<ImageFault>
 /// The first fault of the program headers, in table order.
 #[tactic(auto, using(crate::proofs::Rows::row_steps))]
 fn table_fault(bytes: &[u8], ram: RamRange) -> Option<ImageFault>
-    requires { HasTable bytes.now }
+    requires table { HasTable bytes.now }
     ensures { result ≡ first_fault (table_rows bytes.now ram 0 (header_count bytes.now)) }
 {
     let count = u32::from(half_at(bytes, 44));
@@ -184,13 +187,13 @@ fn segments(alloc: Global, bytes: &[u8]) -> Result<Vec<Segment>, AllocError>
     Ok(list)
 }
 
-/// The image that the bytes of an ELF file are for a range of RAM, or the first fault that applies, in the
-/// order of `ImageFault`: first those of the ELF header, then those of each load header in table order. The
-/// bytes of a segment are copied; all fields, headers and sections that `ImageFault` doesn't speak of are
-/// ignored.
+/// The image that the bytes of an ELF file are for a range of RAM, or the first fault that applies,
+/// in the order of `ImageFault`: first those of the ELF header, then those of each load header in
+/// table order. The bytes of a segment are copied; all fields, headers and sections that
+/// `ImageFault` doesn't speak of are ignored.
 ///
-/// Takes time that grows with the length of the file and the square of the number of program headers, and
-/// memory for the segments' bytes once. Wants memory only where there is no fault.
+/// Takes time that grows with the length of the file and the square of the number of program
+/// headers, and memory for the segments' bytes once. Wants memory only where there is no fault.
 #[tactic(auto, using(crate::proofs::Reading::sound_image), unfolding(crate::specs::Image::image_of))]
 pub fn read(alloc: Global, bytes: &[u8], ram: RamRange) -> Result<Image, ImageFault>
     ensures image { IfOk result (λ image. IsImage bytes.now ram image) }

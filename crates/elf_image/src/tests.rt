@@ -11,7 +11,8 @@ const RAM: RamRange = RamRange {
     size: 16_777_216,
 };
 
-/// One header of four instructions: the file that `write` makes of them.
+/// One load header of four instructions, by the fields of the ELF specification, written by hand:
+/// a header of 52 bytes, a program header of 32, and the instructions.
 const SMALLEST: [u8; 100] = [
     0x7f, 0x45, 0x4c, 0x46, 0x01, 0x01, 0x01, 0x00, 0x00, 0x00, 0x00, 0x00, 0x00, 0x00, 0x00, 0x00,
     0x02, 0x00, 0xf3, 0x00, 0x01, 0x00, 0x00, 0x00, 0x00, 0x00, 0x00, 0x80, 0x34, 0x00, 0x00, 0x00,
@@ -297,7 +298,7 @@ fn expect(
 
 /// What `readelf -l` shows of the images.
 #[test]
-fn linked_images(rt: HostRuntime) -> Result<(), Fail> {
+fn linked_images_have_the_segments_of_readelf(rt: HostRuntime) -> Result<(), Fail> {
     let alloc = rt.alloc();
     let pass = read(alloc, &PASS, RAM)?;
     let segments = pass.segments.as_slice();

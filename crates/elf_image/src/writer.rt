@@ -1,7 +1,9 @@
 ghost use Rattle.std.specs.Prelude.{◌≡◌, ◌+◌, ◌*◌, ◌<◌, ◌≤◌, ◌^◌, ◌++◌, length, IfOk, OnOk, All};
 ghost use Rattle.elf_image.specs.Image.{IsImage};
 ghost use Rattle.elf_image.specs.Sound.{IsSound};
-ghost use Rattle.elf_image.specs.Write.{halves, words, file_header, program_header, program_headers, contents_of, file_of, IsNumbered, HasWords};
+ghost use Rattle.elf_image.specs.Write.{halves, words, file_header, program_header};
+ghost use Rattle.elf_image.specs.Write.{program_headers, contents_of, file_of, IsNumbered};
+ghost use Rattle.elf_image.specs.Write.{HasWords};
 
 use crate::header::{LOAD, ProgramHeader};
 use crate::image::Image;
@@ -134,8 +136,8 @@ fn file(alloc: Global, image: &Image) -> Result<Vec<u8>, AllocError>
 
 /// The bytes of an ELF file that `read` with the same range of RAM reads as this image.
 ///
-/// The image is sound for the range, its segments are numbered from 0 without a gap, and the range has at
-/// most 67,108,864 bytes, so that each place in the file is a number of 32 bits.
+/// The image is sound for the range, its segments are numbered from 0 without a gap, and the range
+/// has at most 67,108,864 bytes, so that each place in the file is a number of 32 bits.
 pub fn write(alloc: Global, image: &Image, ram: RamRange) -> Result<Vec<u8>, NoMemory>
     requires sound { IsSound image.now ram }
     requires numbered { IsNumbered image.now }

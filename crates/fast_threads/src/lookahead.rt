@@ -7,9 +7,9 @@ const KNEE: u64 = 64;
 
 /// How far the functional side runs ahead of what it knows to be committed.
 ///
-/// Entries that were made before an order which opens an epoch were made for nothing: they are undone
-/// on this side and let go on the other. So few are made behind such an order, and more the longer
-/// none comes.
+/// Entries that were made before an order which opens an epoch were made for nothing: they are
+/// undone on this side and let go on the other. So few are made behind such an order, and more the
+/// longer none comes.
 #[derive(Clone, Copy, Debug)]
 pub struct Lookahead {
     /// How many entries were made since the last opening that aren't known to be committed.

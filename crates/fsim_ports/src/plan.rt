@@ -1,5 +1,6 @@
 ghost use Rattle.std.specs.Prelude.{◌≡◌, ◌≤◌, OnOk, OnErr};
-ghost use Rattle.fsim_ports.specs.Plan.{Plan, empty_plan, with_failing, is_to_fail, called, faulted};
+ghost use Rattle.fsim_ports.specs.Plan.{Plan, empty_plan, with_failing, is_to_fail, called};
+ghost use Rattle.fsim_ports.specs.Plan.{faulted};
 
 use fsim_base::NoMemory;
 use std::alloc::Global;

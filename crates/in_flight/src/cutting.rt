@@ -12,7 +12,8 @@ pub fn cut_stations(window: &Window, stations: &mut Stations, from: u32) -> u32
     requires within { from ≤ length window.now.slots }
     requires held { stations.old ≡ stations_of window.now.capacity window.now.slots }
     ensures kept { stations.new ≡ stations_of window.now.capacity (take from window.now.slots) }
-    ensures divisions { result + busy_divisions (take from window.now.slots) ≡ busy_divisions window.now.slots }
+    ensures divisions { result + busy_divisions (take from window.now.slots)
+        ≡ busy_divisions window.now.slots }
 {
     let mut divisions = 0;
     for place in (from..window.len()).rev() {

@@ -8,9 +8,9 @@ use reservation_stations::Stations;
 use std::alloc::Global;
 use std::marker::Model;
 
-/// The instructions in flight, the oldest first, with numbers one after the other: each has a slot in the window and a
-/// reservation station, and a store has a place in the store queue (Hennessy and Patterson, Computer Architecture,
-/// section 3.6).
+/// The instructions in flight, the oldest first, with numbers one after the other: each has a slot
+/// in the window and a reservation station, and a store has a place in the store queue (Hennessy
+/// and Patterson, Computer Architecture, section 3.6).
 #[derive(Debug, Drop)]
 pub struct InFlight {
     window: Window,
@@ -33,15 +33,19 @@ impl Model for InFlight {
 }
 
 impl InFlight {
-    ghost use Rattle.std.specs.Prelude.{◌≡◌, ◌↔◌, ℕ, ◌+◌, ◌-◌, ◌<◌, ◌≤◌, ◌++◌, ◌∷◌, [], false, length, take, drop, Some, IsTrue, IfOk, IfSome, IfNone, slice_get, slice_set};
+    ghost use Rattle.std.specs.Prelude.{◌≡◌, ◌↔◌, ℕ, ◌+◌, ◌-◌, ◌<◌, ◌≤◌, ◌++◌, ◌∷◌, [], false};
+    ghost use Rattle.std.specs.Prelude.{length, take, drop, Some, IsTrue, IfOk, IfSome, IfNone};
+    ghost use Rattle.std.specs.Prelude.{slice_get, slice_set};
     ghost use Rattle.std.specs.Option.{option_copied};
-    ghost use Rattle.reorder_buffer.specs.declared.slot.SlotState.TheVariants.{Waiting, Until, Done};
+    ghost use Rattle.reorder_buffer.specs.declared.slot.SlotState.TheVariants.{Waiting, Until};
+    ghost use Rattle.reorder_buffer.specs.declared.slot.SlotState.TheVariants.{Done};
     ghost use Rattle.reorder_buffer.specs.Window.{IsConsecutive, youngest};
     ghost use Rattle.timing_side.specs.Slots.{waiting_count};
     ghost use Rattle.timing_side.specs.Issue.{busy_divisions, are_stores_done};
     ghost use Rattle.in_flight.specs.Flight.{older_at, may_start_at, executes_at, IsExecuting};
 
-    /// No instructions, with room for `capacity`, at most 256. All memory is taken here; want of it is the one refusal.
+    /// No instructions, with room for `capacity`, at most 256. All memory is taken here; want of it
+    /// is the one refusal.
     pub fn new(alloc: Global, capacity: u32) -> Result<InFlight, NoMemory>
         requires limit { capacity ≤ 256 }
         ensures opening { IfOk result (λ f. f ≡ record { capacity = capacity; slots = [] }) }
@@ -104,8 +108,8 @@ impl InFlight {
         self.window.slot(place)
     }
 
-    /// Adds an instruction that waits, behind the others. There is room, and its number is the one behind the
-    /// youngest one's.
+    /// Adds an instruction that waits, behind the others. There is room, and its number is the one
+    /// behind the youngest one's.
     pub fn append(&mut self, slot: Slot)
         requires room { length self.old.slots < self.old.capacity }
         requires next { IfSome (youngest self.old.slots) (λ last. slot.number ≡ last.number + 1) }
@@ -131,7 +135,8 @@ impl InFlight {
         self.window.pop();
     }
 
-    /// Removes the instructions from a place on, and gives how many they were: none where there is none at the place.
+    /// Removes the instructions from a place on, and gives how many they were: none where there is
+    /// none at the place.
     pub fn cut_to(&mut self, place: u32) -> u32
         ensures kept { self.new ≡ record self.old { slots = take place self.old.slots } }
         ensures count { result ≡ length self.old.slots - place }
@@ -146,11 +151,13 @@ impl InFlight {
         self.window.cut_from(number)
     }
 
-    /// The first place from a place on at which an instruction waits and has its operands; None where there is none.
+    /// The first place from a place on at which an instruction waits and has its operands; None
+    /// where there is none.
     pub fn choose(&self, from: u32) -> Option<u32>
         ensures behind { IfSome result (λ place. from ≤ place) }
         ensures found { IfSome result (λ place. IsTrue (may_start_at self.now.slots place)) }
-        ensures first { IfSome result (λ place. (k : ℕ) → from ≤ k → k < place → may_start_at self.now.slots k ≡ false) }
+        ensures first { IfSome result (λ place. (k : ℕ) → from ≤ k → k < place → may_start_at
+            self.now.slots k ≡ false) }
         ensures none { IfNone result ((k : ℕ) → from ≤ k → may_start_at self.now.slots k ≡ false) }
     {
         self.stations.choose(from)
@@ -160,7 +167,8 @@ impl InFlight {
     pub fn executing(&self, from: u32) -> Option<u32>
         ensures behind { IfSome result (λ place. from ≤ place) }
         ensures found { IfSome result (λ place. IsTrue (executes_at self.now.slots place)) }
-        ensures first { IfSome result (λ place. (k : ℕ) → from ≤ k → k < place → executes_at self.now.slots k ≡ false) }
+        ensures first { IfSome result (λ place. (k : ℕ) → from ≤ k → k < place → executes_at
+            self.now.slots k ≡ false) }
         ensures none { IfNone result ((k : ℕ) → from ≤ k → executes_at self.now.slots k ≡ false) }
     {
         self.stations.executing(from)
@@ -180,7 +188,8 @@ impl InFlight {
         requires within { place < length self.old.slots }
         requires waiting { IfSome (slice_get self.old.slots place) (λ slot. slot.state ≡ Waiting) }
         ensures begun { IfSome (slice_get self.old.slots place)
-            (λ slot. self.new ≡ record self.old { slots = slice_set self.old.slots place (record slot { state = Until until }) }) }
+            (λ slot. self.new ≡ record self.old
+            { slots = slice_set self.old.slots place (record slot { state = Until until }) }) }
     {
         let (index, slot) = slot_at(&self.window, place);
         let begun = Slot {
@@ -192,12 +201,15 @@ impl InFlight {
         self.window.mark(place, begun.state);
     }
 
-    /// Ends the execution of the instruction at a place. Without a cause, it wakes those that wait for its value.
+    /// Ends the execution of the instruction at a place. Without a cause, it wakes those that wait
+    /// for its value.
     pub fn finish(&mut self, place: u32)
         requires within { place < length self.old.slots }
-        requires executing { IfSome (slice_get self.old.slots place) (λ slot. IsExecuting slot.state) }
+        requires executing { IfSome (slice_get self.old.slots place)
+            (λ slot. IsExecuting slot.state) }
         ensures finished { IfSome (slice_get self.old.slots place)
-            (λ slot. self.new ≡ record self.old { slots = slice_set self.old.slots place (record slot { state = Done }) }) }
+            (λ slot. self.new ≡ record self.old
+            { slots = slice_set self.old.slots place (record slot { state = Done }) }) }
     {
         let (index, slot) = slot_at(&self.window, place);
         self.dividing -= divisions_in(slot);

@@ -1,4 +1,5 @@
-//! The instructions in flight on the timing side: the window, the reservation stations and the store queue, kept in step.
+//! The instructions in flight on the timing side: the window, the reservation stations and the
+//! store queue, kept in step.
 #![tactic(auto)]
 
 mod cutting;

@@ -54,7 +54,8 @@ pub fn divisions_in(slot: &Slot) -> u32
     }
 }
 
-/// The index and the slot at a place of a window, whose slots have numbers one after the other and indices of their own.
+/// The index and the slot at a place of a window, whose slots have numbers one after the other and
+/// indices of their own.
 pub fn slot_at(window: &Window, place: u32) -> (u32, &Slot)
     requires within { place < length window.now.slots }
     ensures slot { slice_get window.now.slots place ≡ Some result.1.now }

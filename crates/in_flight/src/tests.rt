@@ -43,9 +43,11 @@ fn slot(number: u64, word: u32, class: Class, cause: Option<Cause>) -> Slot
     }
 }
 
-/// The number behind the youngest slot's; 5 where there is none, and None where there is no such number.
+/// The number behind the youngest slot's; 5 where there is none, and None where there is no such
+/// number.
 fn next_number(flight: &InFlight) -> Option<u64>
-    ensures { IfSome result (λ number. IfSome (youngest flight.now.slots) (λ last. number ≡ last.number + 1)) }
+    ensures { IfSome result (λ number. IfSome (youngest flight.now.slots)
+        (λ last. number ≡ last.number + 1)) }
 {
     let len = flight.len();
     if len == 0 {
@@ -57,7 +59,8 @@ fn next_number(flight: &InFlight) -> Option<u64>
 /// Whether an instruction waits at a place.
 fn waits(flight: &InFlight, place: u32) -> bool
     ensures within { IsTrue result → place < length flight.now.slots }
-    ensures waits { IsTrue result → IfSome (slice_get flight.now.slots place) (λ slot. slot.state ≡ Waiting) }
+    ensures waits { IsTrue result
+        → IfSome (slice_get flight.now.slots place) (λ slot. slot.state ≡ Waiting) }
 {
     place < flight.len() && matches!(flight.at(place).state, SlotState::Waiting)
 }
@@ -65,7 +68,8 @@ fn waits(flight: &InFlight, place: u32) -> bool
 /// Whether an instruction executes at a place.
 fn executes(flight: &InFlight, place: u32) -> bool
     ensures within { IsTrue result → place < length flight.now.slots }
-    ensures executes { IsTrue result → IfSome (slice_get flight.now.slots place) (λ slot. IsExecuting slot.state) }
+    ensures executes { IsTrue result
+        → IfSome (slice_get flight.now.slots place) (λ slot. IsExecuting slot.state) }
 {
     place < flight.len() && matches!(flight.at(place).state, SlotState::Until(_))
 }
@@ -116,14 +120,16 @@ fn look(flight: &InFlight) -> Seen {
     }
 }
 
-/// `div x5, x1, x2`, `sw x5, 0(x3)`, `lw x6, 1(x5)` and `lw x7, 0(x6)` in a window of four: the store and the first load
-/// wait for the quotient, and the second load for the first one, which faults and gives it nothing.
+/// `div x5, x1, x2`, `sw x5, 0(x3)`, `lw x6, 1(x5)` and `lw x7, 0(x6)` in a window of four: the
+/// store and the first load wait for the quotient, and the second load for the first one, which
+/// faults and gives it nothing.
 #[test]
 fn instructions_wait_for_a_quotient_and_a_load_that_faults(rt: HostRuntime) -> Result<(), Fail> {
     let mut flight = InFlight::new(rt.alloc(), 4)?;
     let (div, sw, odd, lw) = (0x0220_c2b3, 0x0051_a023, 0x0012_a303, 0x0003_2383);
     let misaligned = Some(Cause::LoadMisaligned);
-    // A step, how many there are, wait and divide behind it, which may begin, and whether the older stores are done.
+    // A step, how many there are, wait and divide behind it, which may begin, and whether the older
+    // stores are done.
     let steps = [
         (
             Step::Append(div, Class::Div, None),

@@ -7,12 +7,13 @@ use fsim_base::NoMemory;
 use std::alloc::Global;
 use std::marker::Model;
 
-/// The stores in the window, the oldest first, with rising numbers and a fixed room. A load waits until the older ones
-/// are done (Hennessy and Patterson, Computer Architecture, section 3.6).
+/// The stores in the window, the oldest first, with rising numbers and a fixed room. A load waits
+/// until the older ones are done (Hennessy and Patterson, Computer Architecture, section 3.6).
 #[derive(Debug, Drop)]
 pub struct StoreQueue {
     stores: HeapCircularBuffer<Queued>,
-    /// How many of the oldest stores are done in a row. So the next one, if there is one, is the oldest that isn't.
+    /// How many of the oldest stores are done in a row. So the next one, if there is one, is the
+    /// oldest that isn't.
     settled: usize,
 }
 
@@ -27,11 +28,14 @@ impl Model for StoreQueue {
 }
 
 impl StoreQueue {
-    ghost use Rattle.std.specs.Prelude.{◌≡◌, ◌↔◌, ◌<◌, ◌≤◌, ◌++◌, ◌∷◌, [], false, length, drop, Any, IsTrue, IfOk, IfSome, nat_lt};
+    ghost use Rattle.std.specs.Prelude.{◌≡◌, ◌↔◌, ◌<◌, ◌≤◌, ◌++◌, ◌∷◌, [], false, length, drop};
+    ghost use Rattle.std.specs.Prelude.{Any, IsTrue, IfOk, IfSome, nat_lt};
     ghost use Rattle.std.specs.List.{prefix_len};
-    ghost use Rattle.load_store_queue.specs.Queue.{IsRising, AreOlderDone, youngest, marked, below_number};
+    ghost use Rattle.load_store_queue.specs.Queue.{IsRising, AreOlderDone, youngest, marked};
+    ghost use Rattle.load_store_queue.specs.Queue.{below_number};
 
-    /// An empty queue with room for `capacity` stores. All its memory is taken here; want of it is the one refusal.
+    /// An empty queue with room for `capacity` stores. All its memory is taken here; want of it is
+    /// the one refusal.
     pub fn new(alloc: Global, capacity: u32) -> Result<StoreQueue, NoMemory>
         ensures opening { IfOk result (λ q. q ≡ record { capacity = capacity; stores = [] }) }
     {
@@ -50,7 +54,8 @@ impl StoreQueue {
         self.stores.len() as u32
     }
 
-    /// Adds a store that isn't done, behind the others. There is room, and its number is above the youngest one's.
+    /// Adds a store that isn't done, behind the others. There is room, and its number is above the
+    /// youngest one's.
     #[tactic(auto, using(crate::proofs::Rising::rising_with_one_more, crate::proofs::Settled::row_with_open))]
     pub fn put(&mut self, number: u64)
         requires room { length self.old.stores < self.old.capacity }
@@ -89,7 +94,7 @@ impl StoreQueue {
 
     /// Removes the oldest store, done or not. There is one.
     pub fn pop(&mut self)
-        requires { 0 < length self.old.stores }
+        requires some { 0 < length self.old.stores }
         ensures popped { self.new ≡ record self.old { stores = drop 1 self.old.stores } }
     {
         let _ = self.stores.pop_front();
@@ -127,7 +132,8 @@ impl StoreQueue {
 fn finish(stores: &mut HeapCircularBuffer<Queued>, place: usize)
     requires within { place < length stores.old.items }
     ensures finished { IfSome (slice_get stores.old.items place)
-        (λ s. stores.new ≡ record stores.old { items = slice_set stores.old.items place (record s { is_done = true }) }) }
+        (λ s. stores.new ≡ record stores.old
+        { items = slice_set stores.old.items place (record s { is_done = true }) }) }
 {
     if let Some(store) = stores.get_mut(place) {
         store.is_done = true;

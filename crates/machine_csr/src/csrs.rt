@@ -38,8 +38,10 @@ pub enum CsrWrite {
 
 impl Csrs {
     ghost use Rattle.std.specs.Prelude.{◌≡◌, ◌*◌, ◌/◌, ◌↔◌, IsTrue, IsSome, option_map};
-    ghost use Rattle.machine_csr.specs.Csr.{opening_csrs, Row, shown, row_at, is_legal, csr_access, csr_written};
-    ghost use Rattle.machine_csr.specs.Trap.{timer_pending, trap_entered, handler_of, trap_left, return_address};
+    ghost use Rattle.machine_csr.specs.Csr.{opening_csrs, Row, shown, row_at, is_legal, csr_access};
+    ghost use Rattle.machine_csr.specs.Csr.{csr_written};
+    ghost use Rattle.machine_csr.specs.Trap.{timer_pending, trap_entered, handler_of, trap_left};
+    ghost use Rattle.machine_csr.specs.Trap.{return_address};
 
     /// The registers at the start: all 0.
     pub fn new() -> Csrs
@@ -60,8 +62,9 @@ impl Csrs {
 
     /// What a CSR instruction reads, for rd, and what it writes; None exactly where it is illegal.
     ///
-    /// `a` is the value of rs1, `time` the cycle number and `cmp` the timer's mtimecmp. Where CSRRW or CSRRWI with
-    /// rd = x0 doesn't read, the value is 0. An instruction of another kind accesses nothing, so that is None too.
+    /// `a` is the value of rs1, `time` the cycle number and `cmp` the timer's mtimecmp. Where CSRRW
+    /// or CSRRWI with rd = x0 doesn't read, the value is 0. An instruction of another kind accesses
+    /// nothing, so that is None too.
     #[tactic(auto, unfolding(crate::specs::Csr::csr_access))]
     pub fn access(&self, insn: Insn, a: u32, time: u64, cmp: u64) -> Option<(u32, CsrWrite)>
         ensures legal { IsSome result ↔ IsTrue (is_legal insn) }
@@ -86,7 +89,8 @@ impl Csrs {
         Some((value, write))
     }
 
-    /// Makes a write: the register keeps the bits that it has. At an address without a register nothing happens.
+    /// Makes a write: the register keeps the bits that it has. At an address without a register
+    /// nothing happens.
     #[tactic(auto, using(crate::proofs::Bits::bit_1_cleared), unfolding(crate::specs::Csr::csr_written, crate::specs::Csr::row_at))]
     pub fn apply(&mut self, w: CsrWrite)
         ensures written { self.new ≡ csr_written w self.old }
@@ -117,7 +121,8 @@ impl Csrs {
         self.mie && self.mtie && time >= cmp
     }
 
-    /// Enters a trap with this cause at this address, with this value for mtval, and gives the handler's address.
+    /// Enters a trap with this cause at this address, with this value for mtval, and gives the
+    /// handler's address.
     pub fn trap(&mut self, cause: u32, addr: u32, value: u32) -> u32
         ensures entered { self.new ≡ trap_entered cause addr value self.old }
         ensures handler { result ≡ handler_of cause self.old }

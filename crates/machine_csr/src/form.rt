@@ -1,5 +1,6 @@
 ghost use Rattle.std.specs.Prelude.{◌≡◌, IsFalse};
-ghost use Rattle.machine_csr.specs.Csr.{is_swap, operand_of, combined, does_read, does_write, is_allowed, row_at, shows_time, reads_time_of, IsTimeless};
+ghost use Rattle.machine_csr.specs.Csr.{is_swap, operand_of, combined, does_read, does_write};
+ghost use Rattle.machine_csr.specs.Csr.{is_allowed, row_at, shows_time, reads_time_of, IsTimeless};
 
 use crate::address::{CYCLE, CYCLEH, MCYCLE, MCYCLEH, MIP, TIME, TIMEH};
 use rv_decode::Insn;
@@ -31,7 +32,8 @@ pub fn does_read(kind: u8, rd: u8) -> bool
     rd != 0 || !is_swap(kind)
 }
 
-/// Whether the instruction writes the register: setting or clearing by x0 or an immediate 0 doesn't.
+/// Whether the instruction writes the register: setting or clearing by x0 or an immediate 0
+/// doesn't.
 pub fn does_write(kind: u8, rs1: u8) -> bool
     ensures { result ≡ does_write kind rs1 }
 {
@@ -54,7 +56,8 @@ pub fn operand(kind: u8, rs1: u8, a: u32) -> u32
     if kind >= CSRRWI { u32::from(rs1) } else { a }
 }
 
-/// What is written, of the value before and the operand; any form but those that swap or set clears.
+/// What is written, of the value before and the operand; any form but those that swap or set
+/// clears.
 pub fn combine(kind: u8, old: u32, operand: u32) -> u32
     ensures { result ≡ combined kind old operand }
 {
@@ -73,8 +76,8 @@ fn shows_time(csr: u16) -> bool
     matches!(csr, MCYCLE | MCYCLEH | CYCLE | CYCLEH | TIME | TIMEH | MIP)
 }
 
-/// Whether this is a legal CSR instruction that reads the time: one on mcycle, mcycleh, cycle, cycleh, time,
-/// timeh or mip.
+/// Whether this is a legal CSR instruction that reads the time: one on mcycle, mcycleh, cycle,
+/// cycleh, time, timeh or mip.
 #[tactic(auto, using(crate::proofs::Time::timeless), unfolding(crate::specs::Csr::reads_time_of))]
 pub fn reads_time(insn: Insn) -> bool
     ensures reads { result ≡ reads_time_of insn }

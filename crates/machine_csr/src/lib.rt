@@ -1,4 +1,5 @@
-//! The control and status registers of a hart with machine mode alone: CSR instructions, trap entry and return.
+//! The control and status registers of a hart with machine mode alone: CSR instructions, trap entry
+//! and return.
 #![tactic(auto)]
 
 mod address;

@@ -69,7 +69,8 @@ static READ_ONLY: [(u16, u32); 11] = [
     (0xf15, 0),
 ];
 
-/// The addresses beside those of the table, and the ends of the hardware performance counters and their selectors.
+/// The addresses beside those of the table, and the ends of the hardware performance counters and
+/// their selectors.
 static ABSENT: [u16; 36] = [
     0x000, 0x2ff, 0x302, 0x303, 0x306, 0x30f, 0x311, 0x31f, 0x321, 0x323, 0x33f, 0x345, 0x39f,
     0x3a1, 0x3af, 0x3b1, 0xaff, 0xb01, 0xb03, 0xb1f, 0xb7f, 0xb81, 0xb83, 0xb9f, 0xbff, 0xc03,

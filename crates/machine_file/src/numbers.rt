@@ -79,10 +79,8 @@ pub(crate) fn numbers(
     let base = ram_base(file);
     let mut numbers = [0; ROW_COUNT];
     for i in 0..ROW_COUNT {
-        match number(&rows[i], base, file) {
-            Ok(n) => numbers[i] = n,
-            Err(cause) => return Err(cause),
-        }
+        let n = number(&rows[i], base, file)?;
+        numbers[i] = n;
     }
     Ok(numbers)
 }

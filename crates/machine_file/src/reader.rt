@@ -74,10 +74,7 @@ fn read_file<'a>(file: &'a Table) -> Result<Params, Cause<'a>>
     if let Some(key) = unknown_key(known_rows(&rows, file), file) {
         return Err(Cause::Unknown(key));
     }
-    match numbers(&rows, file) {
-        Ok(found) => Ok(params(found)),
-        Err(cause) => Err(cause),
-    }
+    Ok(params(numbers(&rows, file)?))
 }
 
 /// The fault, or that of memory where the text of its key found none.
@@ -111,10 +108,7 @@ pub fn read(alloc: Global, bytes: &[u8]) -> Result<Params, MachineFault>
     ensures refused { IfSome (machine_fault bytes.now) (λ _. IsErr result) }
     ensures memory { result ≡ Err MachineFault.Memory → ¬ IsBlank bytes.now }
 {
-    let file = match document(alloc, bytes) {
-        Ok(file) => file,
-        Err(fault) => return Err(fault),
-    };
+    let file = document(alloc, bytes)?;
     match read_file(&file) {
         Ok(params) => Ok(params),
         Err(cause) => Err(told(alloc, cause)),

@@ -15,7 +15,7 @@ use Rattle.mono_model.specs.Path.{path, time_of, GoesOn}
 use Rattle.mono_model.specs.Window.{Record, Stage, done}
 use Rattle.mono_model.specs.Machine.{Machine, flushed}
 use Rattle.mono_model.specs.Commit as commit
-use Rattle.mono_model.specs.Demand.{Demand, ending_orders, commit_order, demand_commit}
+use Rattle.mono_model.specs.Demand.{Demand, ending_orders, commit_order, demand_committed, demand_commit}
 use Rattle.machine_laws.specs.Relation.{Tracked, Tracks, Related, Within}
 use Rattle.mono_model.proofs.Commits as commits
 use Rattle.mono_model.proofs.Commits.{IsDone, InEachCase, leaving_case}
@@ -181,10 +181,14 @@ order_related : (s : Setup) (m : Machine) (n left k : ℕ) (os : List Order) →
 order_related s m n zero k os related = related
 order_related s m n (suc left) k os related = commit_related s m n k os related
 
+-- where at most so many records leave
+pub commits_related : (s : Setup) (most : ℕ) (d : Demand) → Related s d → Related s (demand_committed (commit.commits s most 0 d.machine) d)
+commits_related s most d related =
+    let c : commit.Committed = commit.commits s most 0 d.machine in
+    let os : List Order = commit_order c.left (d.to_commit + c.left) d.orders in
+    commits_kept s d.to_commit os most 0 d.machine
+    (related_number s d.machine d.to_commit (d.to_commit + 0) os (omega arith) (order_related s d.machine d.to_commit c.left (d.to_commit + c.left) d.orders related))
+
 pub commit_phase_related : (s : Setup) (d : Demand) → Related s d → Related s (demand_commit s d)
 unfolding commit.commit_phase
-commit_phase_related s d related =
-    let c : commit.Committed = commit.commits s s.params.core_commit 0 d.machine in
-    let os : List Order = commit_order c.left (d.to_commit + c.left) d.orders in
-    commits_kept s d.to_commit os s.params.core_commit 0 d.machine
-    (related_number s d.machine d.to_commit (d.to_commit + 0) os (omega arith) (order_related s d.machine d.to_commit c.left (d.to_commit + c.left) d.orders related))
+commit_phase_related s d related = commits_related s s.params.core_commit d related

@@ -18,7 +18,7 @@ use Rattle.machine_laws.proofs.Tracks.{tracked_alike, kept_none, next_none}
 
 -- What is kept of a window of so many records: all of it; or, with a misprediction, its front, which stands on any path
 -- that is the same up to there and goes on at the redirected address.
-abbrev Keeps : Setup → (ℕ → Option ℕ) → (ℕ → Arch) → ℕ → ℕ → ℕ → Option ℕ → Option ℕ → List Record → Type 0
+abbrev pub Keeps : Setup → (ℕ → Option ℕ) → (ℕ → Arch) → ℕ → ℕ → ℕ → Option ℕ → Option ℕ → List Record → Type 0
 Keeps s times p n count fetch_addr kept None records = (length records ≡ count) × Tracks s times p n records fetch_addr kept
 Keeps s times p n count fetch_addr kept (Some addr) records =
     (0 < length records) × (0 < count) ×
@@ -99,14 +99,14 @@ module _ (s : Setup) (times : ℕ → Option ℕ) (p : ℕ → Arch) (fetch_addr
       by_test false = keeps_front n count rec rest.redirect rest.records tracked keeps
   keeps_next n count cycle rec (done r) rest is tracked keeps = keeps_front n count rec rest.redirect rest.records tracked keeps
 
-  completes_keeps : (n cycle : ℕ) (window : List Record) → Tracks s times p n window fetch_addr kept →
+  pub completes_keeps : (n cycle : ℕ) (window : List Record) → Tracks s times p n window fetch_addr kept →
       Keeps s times p n (length window) fetch_addr kept (completes cycle window).redirect (completes cycle window).records
   unfolding completes
   completes_keeps n cycle [] tracks = (refl, tracks)
   completes_keeps n cycle (rec ∷ rest) tracks =
       keeps_next n (length rest) cycle rec rec.stage (completes cycle rest) refl tracks.0 (completes_keeps (suc n) cycle rest tracks.1)
 
-completed_related : (s : Setup) (d : Demand) (redirect : Option ℕ) (records : List Record) → Related s d →
+pub completed_related : (s : Setup) (d : Demand) (redirect : Option ℕ) (records : List Record) → Related s d →
     Keeps s (time_of d.orders) (path s d.orders) d.to_commit (length d.machine.window) d.machine.fetch_addr d.machine.kept redirect records →
     Related s (record d { machine = completed_by redirect records d.machine; orders = redirect_orders redirect (d.to_commit + length records) d.orders })
 unfolding flushed

@@ -1,5 +1,5 @@
 -- The relation through issue: a record that begins to execute has the path's result; the oldest is replayed with its time.
-use Rattle.std.proofs.Common.{◌≡◌, ℕ, suc, ◌+◌, ◌≤◌, ◌==◌, ◌&&◌, Bool, true, false, if◌then◌else◌, is_some, unwrap_or, Option, Some, None, List, [], ◌∷◌, length, refl, ap, sym, ◌∙◌, subst, arith}
+use Rattle.std.proofs.Common.{◌≡◌, ℕ, suc, ◌+◌, ◌≤◌, ◌==◌, Bool, true, false, if◌then◌else◌, is_some, unwrap_or, Option, Some, None, List, [], ◌∷◌, length, refl, ap, sym, ◌∙◌, subst, arith}
 use Rattle.std.proofs.lemmas.Bool.{and_parts, eq-eqb, cond-true, cond_both}
 use Rattle.rollback_cmds.specs.declared.order.Order.TheVariants.{Time}
 use Rattle.mono_model.specs.declared.setup.Setup.{Setup}
@@ -20,7 +20,7 @@ use Rattle.machine_laws.proofs.Path.{Follows, path_steps}
 use Rattle.machine_laws.proofs.Executed.{executed_alike}
 use Rattle.machine_laws.proofs.Operands.{Olders, operand_is, sees_alike}
 
-waits : (stage : Stage) → is_waiting_stage stage ≡ true → stage ≡ waiting
+pub waits : (stage : Stage) → is_waiting_stage stage ≡ true → stage ≡ waiting
 waits waiting is = refl
 waits (until e r) is = cc
 waits (done r) is = cc
@@ -119,7 +119,7 @@ oldest_addr : (s : Setup) (times : ℕ → Option ℕ) (p : ℕ → Arch) (n : �
 oldest_addr s times p n m [] tracks = tracks.0
 oldest_addr s times p n m (rec ∷ rest) tracks = sym tracks.0.addr
 
-replayed_related : (s : Setup) (d : Demand) → Related s d → Related s (record d { machine = replayed d.machine; orders = Time d.to_commit d.machine.cycle ∷ d.orders })
+pub replayed_related : (s : Setup) (d : Demand) → Related s d → Related s (record d { machine = replayed d.machine; orders = Time d.to_commit d.machine.cycle ∷ d.orders })
 unfolding flushed
 replayed_related s d related =
     let at : path s (Time d.to_commit d.machine.cycle ∷ d.orders) d.to_commit ≡ path s d.orders d.to_commit = path_at_time s d.to_commit d.machine.cycle d.orders in

@@ -2,10 +2,10 @@ pub mod Always
 mod DemandRun
 mod Epochs
 mod FirstEnd
-mod Making
+pub mod Making
 mod Onward
-mod Phases
-mod Reaching
+pub mod Phases
+pub mod Reaching
 mod Room
 mod SplitBoundary
 mod SplitDropping
@@ -20,7 +20,7 @@ mod SplitRising
 mod SplitRounds
 mod SplitRun
 mod SplitStale
-mod Staying
+pub mod Staying
 pub mod Whole
 pub mod Bounds
 pub mod Changes

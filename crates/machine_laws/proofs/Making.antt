@@ -40,20 +40,20 @@ pub record MadeOnto (n to : ℕ) (os behind : List Order) : Type 0 where
   pub later : AreLater n made
   pub opens : AllOpenAt to made
 
-made_none : (n to : ℕ) (os : List Order) → MadeOnto n to os os
+pub made_none : (n to : ℕ) (os : List Order) → MadeOnto n to os os
 made_none n to os = record { made = []; orders = refl; later = tt; opens = tt }
 
-made_one : (n to : ℕ) (o : Order) (os : List Order) → IsLater n o → OpensAt to o → MadeOnto n to os (o ∷ os)
+pub made_one : (n to : ℕ) (o : Order) (os : List Order) → IsLater n o → OpensAt to o → MadeOnto n to os (o ∷ os)
 made_one n to o os is opens = record { made = o ∷ []; orders = refl; later = (is, tt); opens = (opens, tt) }
 
-interrupt_made : (d : Demand) → MadeOnto d.to_commit (next (demand_interrupt d)) d.orders (interrupt_orders d)
+pub interrupt_made : (d : Demand) → MadeOnto d.to_commit (next (demand_interrupt d)) d.orders (interrupt_orders d)
 interrupt_made d =
     let to = next (demand_interrupt d) in
     cond_both (is_interrupted d.machine) (Interrupt d.to_commit ∷ d.orders) d.orders (MadeOnto d.to_commit to d.orders)
     (λ is. made_one d.to_commit to (Interrupt d.to_commit) d.orders (omega arith) (omega (arith, interrupt_flushes d.machine is)))
     (λ is. made_none d.to_commit to d.orders)
 
-commit_made : (n m left handler : ℕ) (e : Ending) (w : List Record) (os : List Order) → m ≡ n + left → EndingLeft e left w →
+pub commit_made : (n m left handler : ℕ) (e : Ending) (w : List Record) (os : List Order) → m ≡ n + left → EndingLeft e left w →
     MadeOnto n (m + length w) os (ending_orders e handler m (commit_order left m os))
 commit_made n m zero handler plain w os is more = made_none n (m + length w) os
 commit_made n m zero handler trap w os is more = absurd (omega (arith, more.0))
@@ -64,7 +64,7 @@ commit_made n m (suc left) handler trap w os is more =
 commit_made n m (suc left) handler sync w os is more =
     record { made = Sync m ∷ Commit m ∷ []; orders = refl; later = (omega arith, (omega arith, tt)); opens = (omega (arith, more.1), (tt, tt)) }
 
-redirect_made : (redirect : Option ℕ) (n m : ℕ) (os : List Order) → ((addr : ℕ) → redirect ≡ Some addr → n < m) → MadeOnto n m os (redirect_orders redirect m os)
+pub redirect_made : (redirect : Option ℕ) (n m : ℕ) (os : List Order) → ((addr : ℕ) → redirect ≡ Some addr → n < m) → MadeOnto n m os (redirect_orders redirect m os)
 redirect_made None n m os more = made_none n m os
 redirect_made (Some addr) n m os more = made_one n m (Set m addr) os (more addr refl) refl
 
@@ -81,7 +81,7 @@ issue_made s d =
     (λ is. made_one d.to_commit to (Time d.to_commit d.machine.cycle) d.orders (omega arith) (omega (arith, replay_flushes s d.machine is)))
     (λ is. made_none d.to_commit to d.orders)
 
-path_made : (s : Setup) (d : Demand) (to : ℕ) → to ≡ next d + 1 → MadeOnto d.to_commit to d.orders (path_orders s d)
+pub path_made : (s : Setup) (d : Demand) (to : ℕ) → to ≡ next d + 1 → MadeOnto d.to_commit to d.orders (path_orders s d)
 path_made s d to is =
     cond_both ((entry s d.orders (next d)).next == predicted_next s d.machine) d.orders (Set (next d + 1) (predicted_next s d.machine) ∷ d.orders) (MadeOnto d.to_commit to d.orders)
     (λ e. made_none d.to_commit to d.orders) (λ e. made_one d.to_commit to (Set (next d + 1) (predicted_next s d.machine)) d.orders (omega arith) (sym is))

@@ -29,16 +29,16 @@ module _ (s : Setup) (n : ℕ) (os : List Order) (is : IsOrderly s n os) where
   numbered : (o : Order) → n ≤ number_of o → number_of o ≤ n + s.params.core_window → AreNumbered s (o ∷ os)
   numbered o least most = (record { least = omega (arith, is.to_commit); most = omega (arith, is.to_commit) }, is.numbers)
 
-  set_orderly : (m addr : ℕ) → n ≤ m → m ≤ n + s.params.core_window → IsOrderly s n (Set m addr ∷ os)
+  pub set_orderly : (m addr : ℕ) → n ≤ m → m ≤ n + s.params.core_window → IsOrderly s n (Set m addr ∷ os)
   set_orderly m addr least most = record { to_commit = is.to_commit; numbers = numbered (Set m addr) least most; kinds = (tt, is.kinds) }
 
-  interrupt_orderly : IsOrderly s n (Interrupt n ∷ os)
+  pub interrupt_orderly : IsOrderly s n (Interrupt n ∷ os)
   interrupt_orderly = record { to_commit = is.to_commit; numbers = numbered (Interrupt n) (omega arith) (omega arith); kinds = (is.to_commit, is.kinds) }
 
-  time_orderly : (v : ℕ) → IsOrderly s n (Time n v ∷ os)
+  pub time_orderly : (v : ℕ) → IsOrderly s n (Time n v ∷ os)
   time_orderly v = record { to_commit = is.to_commit; numbers = numbered (Time n v) (omega arith) (omega arith); kinds = (is.to_commit, is.kinds) }
 
-  stop_orderly : IsOrderly s n (Stop n ∷ os)
+  pub stop_orderly : IsOrderly s n (Stop n ∷ os)
   stop_orderly = record { to_commit = is.to_commit; numbers = numbered (Stop n) (omega arith) (omega arith); kinds = (is.to_commit, is.kinds) }
 
   sync_orderly : IsOrderly s n (Sync n ∷ os)
@@ -47,16 +47,16 @@ module _ (s : Setup) (n : ℕ) (os : List Order) (is : IsOrderly s n os) where
   commit_orderly : (m : ℕ) → n < m → m ≤ n + s.params.core_window → IsOrderly s m (Commit m ∷ os)
   commit_orderly m more most = record { to_commit = refl; numbers = numbered (Commit m) (omega arith) most; kinds = (omega (arith, is.to_commit), is.kinds) }
 
-left_orderly : (s : Setup) (n left m : ℕ) (os : List Order) → m ≡ n + left → left ≤ s.params.core_window → IsOrderly s n os → IsOrderly s m (commit_order left m os)
+pub left_orderly : (s : Setup) (n left m : ℕ) (os : List Order) → m ≡ n + left → left ≤ s.params.core_window → IsOrderly s n os → IsOrderly s m (commit_order left m os)
 left_orderly s n zero m os e most is = subst (λ (k : ℕ). IsOrderly s k os) (omega arith) is
 left_orderly s n (suc left) m os e most is = commit_orderly s n os is m (omega arith) (omega arith)
 
-ending_orderly : (s : Setup) (e : Ending) (handler n : ℕ) (os : List Order) → IsOrderly s n os → IsOrderly s n (ending_orders e handler n os)
+pub ending_orderly : (s : Setup) (e : Ending) (handler n : ℕ) (os : List Order) → IsOrderly s n os → IsOrderly s n (ending_orders e handler n os)
 ending_orderly s plain handler n os is = is
 ending_orderly s trap handler n os is = set_orderly s n os is n handler (omega arith) (omega arith)
 ending_orderly s sync handler n os is = sync_orderly s n os is
 
-redirect_orderly : (s : Setup) (redirect : Option ℕ) (n m : ℕ) (os : List Order) → n ≤ m → m ≤ n + s.params.core_window → IsOrderly s n os → IsOrderly s n (redirect_orders redirect m os)
+pub redirect_orderly : (s : Setup) (redirect : Option ℕ) (n m : ℕ) (os : List Order) → n ≤ m → m ≤ n + s.params.core_window → IsOrderly s n os → IsOrderly s n (redirect_orders redirect m os)
 redirect_orderly s None n m os least most is = is
 redirect_orderly s (Some addr) n m os least most is = set_orderly s n os is m addr least most
 
@@ -107,7 +107,7 @@ try_or_end_within s (suc more) d orders window =
     (λ may. record { orders = orders; window = window; room = may_room s d.machine may })
     (λ may. record { orders = orders; window = window; room = tt })
 
-path_orderly : (s : Setup) (d : Demand) → IsOrderly s d.to_commit d.orders → length d.machine.window < s.params.core_window → IsOrderly s d.to_commit (path_orders s d)
+pub path_orderly : (s : Setup) (d : Demand) → IsOrderly s d.to_commit d.orders → length d.machine.window < s.params.core_window → IsOrderly s d.to_commit (path_orders s d)
 path_orderly s d is room =
     cond_both ((entry s d.orders (next d)).next == predicted_next s d.machine) d.orders (Set (next d + 1) (predicted_next s d.machine) ∷ d.orders) (IsOrderly s d.to_commit)
     (λ e. is) (λ e. set_orderly s d.to_commit d.orders is (next d + 1) (predicted_next s d.machine) (omega arith) (omega arith))
@@ -161,12 +161,12 @@ pub window_within : (s : Setup) (k : ℕ) → length (place s k).run.demand.mach
 window_within s k = (place_within s k).window
 
 -- the orders told are numbered as all of them are
-drop_numbered : (s : Setup) (n : ℕ) (os : List Order) → AreNumbered s os → AreNumbered s (drop n os)
+pub drop_numbered : (s : Setup) (n : ℕ) (os : List Order) → AreNumbered s os → AreNumbered s (drop n os)
 drop_numbered s zero os are = are
 drop_numbered s (suc n) [] are = tt
 drop_numbered s (suc n) (o ∷ os) are = drop_numbered s n os are.1
 
-drop_at_commit : (n : ℕ) (os : List Order) → AreAtCommit os → AreAtCommit (drop n os)
+pub drop_at_commit : (n : ℕ) (os : List Order) → AreAtCommit os → AreAtCommit (drop n os)
 drop_at_commit zero os are = are
 drop_at_commit (suc n) [] are = tt
 drop_at_commit (suc n) (o ∷ os) are = drop_at_commit n os are.1

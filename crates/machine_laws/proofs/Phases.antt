@@ -5,7 +5,7 @@ use Rattle.fsim_base.specs.declared.cause.Cause.{Cause}
 use Rattle.fsim_base.specs.Number.{wrap_sum}
 use Rattle.device_bus.specs.declared.undo.Note.{Note}
 use Rattle.device_bus.specs.declared.undo.Note.TheVariants as note
-use Rattle.cache_timing.specs.Caches.{CachesState, Served}
+use Rattle.cache_timing.specs.Caches.{Served}
 use Rattle.mono_model.specs.declared.setup.Setup.{Setup}
 use Rattle.mono_model.specs.Arch.{Arch, trapped, synced}
 use Rattle.mono_model.specs.Found.{Found}
@@ -16,7 +16,7 @@ use Rattle.mono_model.specs.Alone.{has_no_room}
 use Rattle.mono_model.specs.Window.{Record, done}
 use Rattle.mono_model.specs.Machine.{Machine, flushed}
 use Rattle.mono_model.specs.Interrupt.{is_interrupted, take_interrupt, interrupt_phase}
-use Rattle.mono_model.specs.Commit.{committed, faulted, fenced, leaving, Ending, plain, trap, sync, Committed, ended_with, commit_phase}
+use Rattle.mono_model.specs.Commit.{committed, faulted, fenced, leaving, Ending, plain, trap, sync, Committed, ended_with, commits, commit_phase}
 use Rattle.mono_model.specs.Complete.{Completed, due, is_mispredicted, complete_next, completes, completed_by, complete_phase}
 use Rattle.mono_model.specs.Issue.{Passed, none_passed, turn_of, passed, walk, wants_time, replayed, issued, issue_phase}
 use Rattle.mono_model.specs.Fetch.{Try, misses, appends, turns, cache_read, missed, appended, new_record, predicted_next, tried, fetch_try}
@@ -135,11 +135,15 @@ one_from s m between left on =
       if_leaves = λ passes fence. gone_on s m between behind left plain on (committed_gone s rec rest r between is.window passes.cause passes.room) tt;
     })
 
+-- where at most so many records leave
+pub commits_from : (s : Setup) (most : ℕ) (m : Machine) → CommittedFrom s m (commits s most 0 m)
+commits_from s most m =
+    every_commit s (λ more. IsOn s m) (CommittedFrom s m) (λ left between on. on) (λ more left between on. one_from s m between left on)
+    most 0 m (record { cycle = refl; window = omega arith; output = λ within. within; ending = tt })
+
 pub commit_from : (s : Setup) (m : Machine) → CommittedFrom s m (commit_phase s m)
 unfolding commit_phase
-commit_from s m =
-    every_commit s (λ more. IsOn s m) (CommittedFrom s m) (λ left between on. on) (λ more left between on. one_from s m between left on)
-    s.params.core_commit 0 m (record { cycle = refl; window = omega arith; output = λ within. within; ending = tt })
+commit_from s m = commits_from s s.params.core_commit m
 
 -- Complete: records stay, and where fetch has to go on elsewhere, the mispredicted one is among them.
 pub record CompletedFrom (w : List Record) (c : Completed) : Type 0 where
@@ -160,7 +164,7 @@ unfolding completes
 completes_from cycle [] = record { window = omega arith; redirect = λ addr is. cc; kept = λ is. refl }
 completes_from cycle (rec ∷ rest) = next_from rec (due cycle rec.stage) rest (completes cycle rest) (completes_from cycle rest)
 
-by_window : (redirect : Option ℕ) (records : List Record) (m : Machine) → (completed_by redirect records m).window ≡ records
+pub by_window : (redirect : Option ℕ) (records : List Record) (m : Machine) → (completed_by redirect records m).window ≡ records
 unfolding flushed
 by_window None records m = refl
 by_window (Some addr) records m = refl
@@ -175,7 +179,7 @@ pub record Kept (m behind : Machine) : Type 0 where
   pub arch : behind.arch ≡ m.arch
   pub window : length behind.window ≤ length m.window
 
-by_kept : (redirect : Option ℕ) (records : List Record) (m : Machine) → length records ≤ length m.window → Kept m (completed_by redirect records m)
+pub by_kept : (redirect : Option ℕ) (records : List Record) (m : Machine) → length records ≤ length m.window → Kept m (completed_by redirect records m)
 unfolding flushed
 by_kept None records m fewer = record { cycle = refl; arch = refl; window = fewer }
 by_kept (Some addr) records m fewer = record { cycle = refl; arch = refl; window = fewer }

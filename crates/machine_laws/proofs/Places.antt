@@ -20,7 +20,7 @@ start_pc : (s : Setup) → (start s).pc ≡ s.image.entry
 unfolding start
 start_pc s = refl
 
-start_related : (s : Setup) → Related s (run_start s).demand
+pub start_related : (s : Setup) → Related s (run_start s).demand
 unfolding machine_start
 start_related s = record {
   arch = sym (path_first s);
@@ -29,11 +29,11 @@ start_related s = record {
   within = tt;
 }
 
-cycle_end_related : (s : Setup) (d : Demand) → Related s d → Related s (record d { machine = end_of_cycle s d.machine })
+pub cycle_end_related : (s : Setup) (d : Demand) → Related s d → Related s (record d { machine = end_of_cycle s d.machine })
 unfolding end_of_cycle
 cycle_end_related s d related = record { arch = related.arch; window = related.window; on = related.on; within = related.within }
 
-stopped_related : (s : Setup) (d : Demand) → Related s d → Related s (record d { orders = Stop d.to_commit ∷ d.orders })
+pub stopped_related : (s : Setup) (d : Demand) → Related s d → Related s (record d { orders = Stop d.to_commit ∷ d.orders })
 stopped_related s d related =
     let m = d.machine in
     let P : (ℕ → Arch) → Type 0 = λ p. m.arch ≡ p d.to_commit in

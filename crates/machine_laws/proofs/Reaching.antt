@@ -21,7 +21,7 @@ use Rattle.mono_model.specs.Demand.{Demand, next, interrupt_orders, ending_order
 use Rattle.mono_model.proofs.Next.{mono-suc, place-suc}
 
 -- How many orders a turn makes.
-if_one_more : (b : Bool) (o : Order) (os : List Order) → length (if b then o ∷ os else os) ≤ length os + 1
+pub if_one_more : (b : Bool) (o : Order) (os : List Order) → length (if b then o ∷ os else os) ≤ length os + 1
 if_one_more true o os = omega arith
 if_one_more false o os = omega arith
 

@@ -5,7 +5,6 @@ use Rattle.fsim_base.specs.Number.{wrap_sum}
 use Rattle.cache_timing.specs.Caches.{Served}
 use Rattle.mono_model.specs.declared.setup.Setup.{Setup}
 use Rattle.mono_model.specs.Setup.{ram_range, is_setup}
-use Rattle.mono_model.specs.Arch.{Arch}
 use Rattle.mono_model.specs.Found.{first_source, second_source}
 use Rattle.mono_model.specs.Result.{Result, is_time_read}
 use Rattle.mono_model.specs.Sequence.{is_unserved}

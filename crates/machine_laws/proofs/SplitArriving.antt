@@ -116,7 +116,7 @@ module _ (s : Setup) (x : Split) (is : Known s x) (ring : 1 ≤ s.ring) (off : i
       by_count zero e = idle stays e
       by_count (suc n) e =
           let r = sent b.hand b in
-          orders_fewer s x is.listed_orders.orders (omega (arith, e)) (stale (openings (told r.place)) r.entries)
+          orders_fewer s x is.listed.orders (omega (arith, e)) (stale (openings (told r.place)) r.entries)
           (omega (arith, stale_most (openings (told r.place)) r.entries, listed.entries))
 
   ticks : is_place_boundary b.place ≡ false → IsListed s (sent (ticked_to (step s b.place) b).hand (ticked_to (step s b.place) b)) → rank s (sent (ticked_to (step s b.place) b).hand (ticked_to (step s b.place) b)) < rank s x
@@ -141,10 +141,10 @@ arrives s ring zero x reached most = by_test (is_boundary x) refl
   where
     by_test : (b : Bool) → is_boundary x ≡ b → is_boundary x ≡ true
     by_test true at = at
-    by_test false off = absurd (omega (arith, round_less s x (known s x reached) ring off (known s (round s x) (round_reached s x reached)).listed_orders))
+    by_test false off = absurd (omega (arith, round_less s x (known s x reached) ring off (known s (round s x) (round_reached s x reached)).listed))
 arrives s ring (suc n) x reached most =
     cond_both (is_boundary x) x (rounds_to_boundary s n (round s x)) (λ y. is_boundary y ≡ true) (λ at. at)
-    (λ off. arrives s ring n (round s x) (round_reached s x reached) (omega (arith, round_less s x (known s x reached) ring off (known s (round s x) (round_reached s x reached)).listed_orders)))
+    (λ off. arrives s ring n (round s x) (round_reached s x reached) (omega (arith, round_less s x (known s x reached) ring off (known s (round s x) (round_reached s x reached)).listed)))
 
 -- within the rounds that are made
 pub comes_to_boundary : (s : Setup) (x : Split) → 1 ≤ s.ring → IsReached s x → is_boundary (to_boundary s x) ≡ true
@@ -153,4 +153,4 @@ comes_to_boundary s x ring reached =
     let left : steps_left s x.place ≤ s.params.core_fetch + 5 = subst (λ (p : Place). steps_left s p ≤ s.params.core_fetch + 5) (sym is.holds.ordered.at) (place_left s is.holds.ordered.steps) in
     let most : cost s * (steps_left s x.place + 3) ≤ cost s * (s.params.core_fetch + 8) = mul-le-mul_left (cost s) (omega (arith, left)) in
     let more : cost s * (steps_left s x.place + 3) ≡ cost s * steps_left s x.place + cost s * 3 = mul-add (cost s) (steps_left s x.place) 3 in
-    arrives s ring (boundary_rounds s) x reached (omega (arith, most, more, waits_most s x is.listed_orders))
+    arrives s ring (boundary_rounds s) x reached (omega (arith, most, more, waits_most s x is.listed))

@@ -24,13 +24,13 @@ use Rattle.machine_laws.proofs.SplitBoundary.{before_step, none_from}
 
 pub record Known (s : Setup) (x : Split) : Type 0 where
   pub holds : EntriesHold s x
-  pub listed_orders : IsListed s x
+  pub listed : IsListed s x
   pub fresh : IsFresh x
 
 pub known : (s : Setup) (x : Split) → IsReached s x → Known s x
 known s x reached = record {
   holds = subst (EntriesHold s) (sym reached.is) (run_holds s reached.events);
-  listed_orders = subst (IsListed s) (sym reached.is) (run_listed s reached.events);
+  listed = subst (IsListed s) (sym reached.is) (run_listed s reached.events);
   fresh = subst IsFresh (sym reached.is) (run_fresh s reached.events);
 }
 

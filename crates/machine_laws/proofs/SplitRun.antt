@@ -142,7 +142,7 @@ module _ (s : Setup) (x : Split) (is : EntriesHold s x) where
     kinds = kinds;
     small = is_small s x is.ordered is.counted;
     obeys = may_obey;
-    listed_orders = listed;
+    listed = listed;
     entries = each_front UnderWay x.entries (entry_list x.computed) rest_under_way;
     computed = each_some UnderWay x.computed (each_behind UnderWay x.entries (entry_list x.computed) rest_under_way);
     holds = each_some UnderWay x.held (each_front UnderWay (entry_list x.held) (x.entries ++ entry_list x.computed) all_under_way);

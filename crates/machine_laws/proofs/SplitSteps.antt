@@ -69,7 +69,7 @@ module _ (r behind : Run) (a : Bool) where
   owes_by (both_at m o is opens most to on) = owes_one (omega (arith, ap (λ (l : List Order). length l) is)) m o r.demand.orders is opens on
   owes_by (stops_at m is most on) = owes_none (omega (arith, ap (λ (l : List Order). length l) is))
 
-by_turn : (r behind : Run) → Turned r.at r.demand behind → Stepped (record { run = r; owed = 0 }) (record { run = behind; owed = length behind.demand.orders - length r.demand.orders - 1 })
+pub by_turn : (r behind : Run) → Turned r.at r.demand behind → Stepped (record { run = r; owed = 0 }) (record { run = behind; owed = length behind.demand.orders - length r.demand.orders - 1 })
 unfolding before after
 by_turn r behind turned = record {
   appends = turned.appends;
@@ -80,7 +80,7 @@ by_turn r behind turned = record {
 }
 
 -- an order that was owed is told
-by_owed : (r : Run) (owed : ℕ) → Owes (record { run = r; owed = suc owed }) → Stepped (record { run = r; owed = suc owed }) (record { run = r; owed = owed })
+pub by_owed : (r : Run) (owed : ℕ) → Owes (record { run = r; owed = suc owed }) → Stepped (record { run = r; owed = suc owed }) (record { run = r; owed = owed })
 by_owed r owed (owes_none is) = absurd (omega arith)
 by_owed r owed (owes_one is m o os orders opens on) =
     let none : owed ≡ 0 = omega arith in

@@ -12,7 +12,7 @@ use Rattle.mono_model.specs.Result.{Result}
 use Rattle.mono_model.specs.Window.{Record, done}
 use Rattle.mono_model.specs.Machine.{Machine, flushed}
 use Rattle.mono_model.specs.Interrupt.{is_interrupted, take_interrupt, interrupt_phase}
-use Rattle.mono_model.specs.Commit.{leaving, Ending, plain, trap, sync, Committed, ended_with, commit_phase}
+use Rattle.mono_model.specs.Commit.{leaving, Ending, plain, trap, sync, Committed, ended_with, commits, commit_phase}
 use Rattle.mono_model.specs.Complete.{Completed, due, is_mispredicted, complete_next, completes, completed_by, complete_phase}
 use Rattle.mono_model.specs.Issue.{none_passed, wants_time, replayed, issued, issue_phase}
 use Rattle.mono_model.specs.Fetch.{Try, misses, appends, turns, may_fetch, cache_read, missed, appended, new_record, predicted_next, tried, fetch_try}
@@ -24,14 +24,14 @@ use Rattle.mono_model.proofs.Commits.{GoesOn, leaving_case, every_commit}
 use Rattle.machine_laws.proofs.Phases.{walk_length, interrupt_flushes, interrupt_window, EndingLeft, commit_from, completes_from, complete_window, replay_flushes}
 
 -- Commit without a flush: the records that leave and those that stay are all there were.
-abbrev IsWhole : Ending → ℕ → ℕ → Type 0
+abbrev pub IsWhole : Ending → ℕ → ℕ → Type 0
 IsWhole plain count all = count ≡ all
 IsWhole trap count all = Unit {0}
 IsWhole sync count all = Unit {0}
 
-record Whole (m : Machine) (c : Committed) : Type 0 where
-  window : IsWhole c.ending (c.left + length c.machine.window) (length m.window)
-  fetched : c.machine.counts.fetched ≡ m.counts.fetched
+pub record Whole (m : Machine) (c : Committed) : Type 0 where
+  pub window : IsWhole c.ending (c.left + length c.machine.window) (length m.window)
+  pub fetched : c.machine.counts.fetched ≡ m.counts.fetched
 
 abbrev IsOn : Machine → ℕ → Machine → Type 0
 IsOn m left between = Whole m (ended_with between left plain)
@@ -49,11 +49,15 @@ one_whole s m between left on =
       if_leaves = λ passes fence. record { window = omega (arith, on.window); fetched = on.fetched };
     })
 
+-- where at most so many records leave
+pub commits_all : (s : Setup) (most : ℕ) (m : Machine) → Whole m (commits s most 0 m)
+commits_all s most m =
+    every_commit s (λ more. IsOn m) (Whole m) (λ left between on. on) (λ more left between on. one_whole s m between left on)
+    most 0 m (record { window = omega arith; fetched = refl })
+
 commit_all : (s : Setup) (m : Machine) → Whole m (commit_phase s m)
 unfolding commit_phase
-commit_all s m =
-    every_commit s (λ more. IsOn m) (Whole m) (λ left between on. on) (λ more left between on. one_whole s m between left on)
-    s.params.core_commit 0 m (record { window = omega arith; fetched = refl })
+commit_all s m = commits_all s s.params.core_commit m
 
 -- What a turn makes: `n` is the number of the record to fetch before it, or one more where it appended one, and `to` that
 -- behind it.
@@ -80,7 +84,7 @@ pub record Turned (at : At) (d : Demand) (r : Run) : Type 0 where
   pub made : MadeBy (next d + one appends) (next r.demand) (is_halted r.at) d.orders r.demand.orders
 
 -- turns that append no record
-still : (at : At) (d : Demand) (r : Run) → r.demand.machine.counts.fetched ≡ d.machine.counts.fetched → MadeBy (next d) (next r.demand) (is_halted r.at) d.orders r.demand.orders → Turned at d r
+pub still : (at : At) (d : Demand) (r : Run) → r.demand.machine.counts.fetched ≡ d.machine.counts.fetched → MadeBy (next d) (next r.demand) (is_halted r.at) d.orders r.demand.orders → Turned at d r
 still at d r fetched made = record {
   appends = false;
   fetched = omega (arith, fetched);
@@ -96,7 +100,7 @@ interrupt_same : (m : Machine) → is_interrupted m ≡ false → length (interr
 unfolding interrupt_phase
 interrupt_same m is = ap (λ (x : Machine). length x.window) (cond-false (is_interrupted m) (take_interrupt m) m is)
 
-interrupt_turned : (s : Setup) (d : Demand) → Turned interrupting d (turn_at s interrupting d)
+pub interrupt_turned : (s : Setup) (d : Demand) → Turned interrupting d (turn_at s interrupting d)
 interrupt_turned s d =
     let to = next (demand_interrupt d) in
     still interrupting d (turn_at s interrupting d) (interrupt_fetched d.machine)
@@ -104,7 +108,7 @@ interrupt_turned s d =
     (λ is. opens_at (Interrupt d.to_commit) refl (record { opens = refl; number = omega (arith, interrupt_flushes d.machine is); runs = refl }) (omega (arith, interrupt_window d.machine)) refl)
     (λ is. quiet refl (omega (arith, interrupt_same d.machine is)) refl))
 
-commit_made : (n m left handler all : ℕ) (e : Ending) (halts : Bool) (w : List Record) (os : List Order) → m ≡ n + left → EndingLeft e left w → left + length w ≤ all → IsWhole e (left + length w) all → halts ≡ false →
+pub commit_made : (n m left handler all : ℕ) (e : Ending) (halts : Bool) (w : List Record) (os : List Order) → m ≡ n + left → EndingLeft e left w → left + length w ≤ all → IsWhole e (left + length w) all → halts ≡ false →
     MadeBy (n + all) (m + length w) halts os (ending_orders e handler m (commit_order left m os))
 commit_made n m zero handler all plain halts w os is more within whole on = quiet refl (omega (arith, whole)) on
 commit_made n m zero handler all trap halts w os is more within whole on = absurd (omega (arith, more.0))
@@ -115,7 +119,7 @@ commit_made n m (suc left) handler all trap halts w os is more within whole on =
 commit_made n m (suc left) handler all sync halts w os is more within whole on =
     both_at m (Sync m) refl (record { opens = refl; number = omega (arith, more.1); runs = refl }) (omega arith) (omega arith) on
 
-goes_on : (b : Bool) (x y : At) → is_halted x ≡ false → is_halted y ≡ false → is_halted (if b then x else y) ≡ false
+pub goes_on : (b : Bool) (x y : At) → is_halted x ≡ false → is_halted y ≡ false → is_halted (if b then x else y) ≡ false
 goes_on b x y first second = cond_both b x y (λ at. is_halted at ≡ false) (λ e. first) (λ e. second)
 
 commit_turned : (s : Setup) (d : Demand) → Turned committing d (turn_at s committing d)
@@ -128,7 +132,7 @@ commit_turned s d =
     whole.window
     (goes_on (has_ended c.machine.end) ending completing refl refl))
 
-IsSame : Option ℕ → ℕ → ℕ → Type 0
+unfoldable pub IsSame : Option ℕ → ℕ → ℕ → Type 0
 IsSame None count all = count ≡ all
 IsSame (Some addr) count all = Unit {0}
 
@@ -148,12 +152,12 @@ next_same rec (Some r) c all is =
     by_redirect None count is = ap suc is
     by_redirect (Some addr) count is = tt
 
-completes_same : (cycle : ℕ) (w : List Record) → IsSame (completes cycle w).redirect (length (completes cycle w).records) (length w)
+pub completes_same : (cycle : ℕ) (w : List Record) → IsSame (completes cycle w).redirect (length (completes cycle w).records) (length w)
 unfolding completes IsSame
 completes_same cycle [] = refl
 completes_same cycle (rec ∷ rest) = next_same rec (due cycle rec.stage) (completes cycle rest) (length rest) (completes_same cycle rest)
 
-by_fetched : (redirect : Option ℕ) (records : List Record) (m : Machine) → (completed_by redirect records m).counts.fetched ≡ m.counts.fetched
+pub by_fetched : (redirect : Option ℕ) (records : List Record) (m : Machine) → (completed_by redirect records m).counts.fetched ≡ m.counts.fetched
 unfolding flushed
 by_fetched None records m = refl
 by_fetched (Some addr) records m = refl
@@ -162,7 +166,7 @@ complete_fetched : (m : Machine) → (complete_phase m).counts.fetched ≡ m.cou
 unfolding complete_phase
 complete_fetched m = let c = completes m.cycle m.window in by_fetched c.redirect c.records m
 
-redirect_made : (redirect : Option ℕ) (n count all : ℕ) (os : List Order) → IsSame redirect count all → count ≤ all → MadeBy (n + all) (n + count) false os (redirect_orders redirect (n + count) os)
+pub redirect_made : (redirect : Option ℕ) (n count all : ℕ) (os : List Order) → IsSame redirect count all → count ≤ all → MadeBy (n + all) (n + count) false os (redirect_orders redirect (n + count) os)
 unfolding IsSame
 redirect_made None n count all os same within = quiet refl (omega (arith, same)) refl
 redirect_made (Some addr) n count all os same within = opens_at (Set (n + count) addr) refl (record { opens = refl; number = refl; runs = refl }) (omega arith) refl
@@ -197,11 +201,11 @@ issue_turned s d =
     (λ is. quiet refl (omega (arith, issue_same s d.machine is)) on))
 
 -- a try
-record Appended (m behind : Machine) : Type 0 where
-  window : length behind.window ≡ length m.window + 1
-  fetched : behind.counts.fetched ≡ m.counts.fetched + 1
+pub record Appended (m behind : Machine) : Type 0 where
+  pub window : length behind.window ≡ length m.window + 1
+  pub fetched : behind.counts.fetched ≡ m.counts.fetched + 1
 
-abbrev TriesAll : Machine → Try → Type 0
+abbrev pub TriesAll : Machine → Try → Type 0
 TriesAll m (misses behind) = (length behind.window ≡ length m.window) × (behind.counts.fetched ≡ m.counts.fetched)
 TriesAll m (appends behind) = Appended m behind
 TriesAll m (turns behind) = Appended m behind
@@ -217,7 +221,7 @@ tried_all s d m =
     more : Appended m (appended s d.state m)
     more = record { window = length-append m.window (new_record s m ∷ []); fetched = refl }
 
-try_all : (s : Setup) (m : Machine) → TriesAll m (fetch_try s m)
+pub try_all : (s : Setup) (m : Machine) → TriesAll m (fetch_try s m)
 unfolding fetch_try
 try_all s m = tried_all s (cache_read s m) m
 
@@ -226,7 +230,7 @@ path_made s d to halts is on =
     cond_both ((entry s d.orders (next d)).next == predicted_next s d.machine) d.orders (Set (next d + 1) (predicted_next s d.machine) ∷ d.orders) (MadeBy (next d + 1) to halts d.orders)
     (λ e. quiet refl is on) (λ e. opens_at (Set (next d + 1) (predicted_next s d.machine)) refl (record { opens = refl; number = sym is; runs = refl }) (omega (arith, is)) on)
 
-by_try : (s : Setup) (t : Try) (more : ℕ) (d : Demand) → TriesAll d.machine t → Turned (trying more) d (tried_turn s t more d)
+pub by_try : (s : Setup) (t : Try) (more : ℕ) (d : Demand) → TriesAll d.machine t → Turned (trying more) d (tried_turn s t more d)
 by_try s (misses behind) more d made = still (trying more) d (tried_turn s (misses behind) more d) made.1 (quiet refl (ap (λ (k : ℕ). d.to_commit + k) made.0) refl)
 by_try s (appends behind) more d made = record {
   appends = true;
@@ -241,11 +245,11 @@ by_try s (turns behind) more d made = record {
   made = path_made s d (d.to_commit + length behind.window) false (omega (arith, made.window)) refl;
 }
 
-cycle_end_window : (s : Setup) (m : Machine) → length (end_of_cycle s m).window ≡ length m.window
+pub cycle_end_window : (s : Setup) (m : Machine) → length (end_of_cycle s m).window ≡ length m.window
 unfolding end_of_cycle
 cycle_end_window s m = refl
 
-cycle_end_fetched : (s : Setup) (m : Machine) → (end_of_cycle s m).counts.fetched ≡ m.counts.fetched
+pub cycle_end_fetched : (s : Setup) (m : Machine) → (end_of_cycle s m).counts.fetched ≡ m.counts.fetched
 unfolding end_of_cycle
 cycle_end_fetched s m = refl
 

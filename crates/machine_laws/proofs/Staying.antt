@@ -34,26 +34,26 @@ earlier_too n m (Time k v) less is = omega arith
 earlier_too n m (Stop k) less is = omega arith
 earlier_too n m (Sync k) less is = omega arith
 
-all_earlier : (n m : ℕ) (os : List Order) → n ≤ m → AreLater m os → AreLater n os
+pub all_earlier : (n m : ℕ) (os : List Order) → n ≤ m → AreLater m os → AreLater n os
 all_earlier n m [] less are = tt
 all_earlier n m (o ∷ os) less are = (earlier_too n m o less are.0, all_earlier n m os less are.1)
 
-later_append : (n : ℕ) (xs ys : List Order) → AreLater n xs → AreLater n ys → AreLater n (xs ++ ys)
+pub later_append : (n : ℕ) (xs ys : List Order) → AreLater n xs → AreLater n ys → AreLater n (xs ++ ys)
 later_append n [] ys are more = more
 later_append n (o ∷ xs) ys are more = (are.0, later_append n xs ys are.1 more)
 
-later_drop : (n k : ℕ) (xs : List Order) → AreLater n xs → AreLater n (drop k xs)
+pub later_drop : (n k : ℕ) (xs : List Order) → AreLater n xs → AreLater n (drop k xs)
 later_drop n zero xs are = are
 later_drop n (suc k) [] are = tt
 later_drop n (suc k) (o ∷ xs) are = later_drop n k xs are.1
 
-drop_front : (k : ℕ) (xs ys : List Order) → k ≤ length xs → drop k (xs ++ ys) ≡ drop k xs ++ ys
+pub drop_front : (k : ℕ) (xs ys : List Order) → k ≤ length xs → drop k (xs ++ ys) ≡ drop k xs ++ ys
 drop_front zero xs ys within = refl
 drop_front (suc k) [] ys within = absurd (omega arith)
 drop_front (suc k) (o ∷ xs) ys within = drop_front k xs ys (omega arith)
 
 -- below the number such orders leave the path
-below_later : (s : Setup) (n : ℕ) (later os : List Order) → AreLater n later → (k : ℕ) → k < n → path s (later ++ os) k ≡ path s os k
+pub below_later : (s : Setup) (n : ℕ) (later os : List Order) → AreLater n later → (k : ℕ) → k < n → path s (later ++ os) k ≡ path s os k
 below_later s n [] os are k under = refl
 below_later s n (o ∷ later) os are k under = path_below s o (later ++ os) k (omega (arith, later_from n o are.0)) ∙ below_later s n later os are.1 k under
 
@@ -77,7 +77,7 @@ time_at s n m v os from = ⊎_elim (λ same. here same) (λ other. above (⊎_el
     above : n < m → path s (Time m v ∷ os) n ≡ path s os n
     above over = path_below s (Time m v) os n over
 
-at_later : (s : Setup) (n : ℕ) (later os : List Order) → AreLater n later → path s (later ++ os) n ≡ with_interrupts later n (path s os n)
+pub at_later : (s : Setup) (n : ℕ) (later os : List Order) → AreLater n later → path s (later ++ os) n ≡ with_interrupts later n (path s os n)
 at_later s n [] os are = refl
 at_later s n (Set m addr ∷ later) os are = path_below s (Set m addr) (later ++ os) n are.0 ∙ at_later s n later os are.1
 at_later s n (Commit m ∷ later) os are = path-commit s m (later ++ os) n ∙ at_later s n later os are.1
@@ -163,7 +163,7 @@ stays_at s k l settled later =
     }
 
 -- The orders of a turn that aren't told yet: none is a Commit, and they speak of what isn't committed.
-abbrev IsOwed : ℕ → Order → Type 0
+abbrev pub IsOwed : ℕ → Order → Type 0
 IsOwed n (Set m addr) = n ≤ m
 IsOwed n (Commit m) = ⊥
 IsOwed n (Interrupt m) = n ≤ m
@@ -187,17 +187,17 @@ owed_commit n (Time m v) os is = refl
 owed_commit n (Stop m) os is = refl
 owed_commit n (Sync m) os is = refl
 
-abbrev FirstFrom : ℕ → ℕ → List Order → Type 0
+abbrev pub FirstFrom : ℕ → ℕ → List Order → Type 0
 FirstFrom n zero os = Unit {0}
 FirstFrom n (suc k) [] = Unit {0}
 FirstFrom n (suc k) (o ∷ os) = IsOwed n o × FirstFrom n k os
 
-one_fewer : (n k : ℕ) (os : List Order) → FirstFrom n (suc k) os → FirstFrom n k os
+pub one_fewer : (n k : ℕ) (os : List Order) → FirstFrom n (suc k) os → FirstFrom n k os
 one_fewer n zero os from = tt
 one_fewer n (suc k) [] from = tt
 one_fewer n (suc k) (o ∷ os) from = (from.0, one_fewer n k os from.1)
 
-first_none : (n k : ℕ) (os : List Order) → k ≡ 0 → FirstFrom n k os
+pub first_none : (n k : ℕ) (os : List Order) → k ≡ 0 → FirstFrom n k os
 first_none n zero os is = tt
 first_none n (suc k) os is = absurd (omega arith)
 
@@ -205,13 +205,13 @@ first_one : (n k : ℕ) (o : Order) (os : List Order) → IsOwed n o → k ≤ 1
 first_one n zero o os from most = tt
 first_one n (suc k) o os from most = (from, first_none n k os (omega arith))
 
-commit_first : (e : Ending) (handler n left k : ℕ) (os : List Order) → k ≡ length (ending_orders e handler n (commit_order left n os)) - length os - 1 → FirstFrom n k (ending_orders e handler n (commit_order left n os))
+pub commit_first : (e : Ending) (handler n left k : ℕ) (os : List Order) → k ≡ length (ending_orders e handler n (commit_order left n os)) - length os - 1 → FirstFrom n k (ending_orders e handler n (commit_order left n os))
 commit_first plain handler n left k os is = first_none n k (commit_order left n os) (omega (arith, left_count left n os))
 commit_first trap handler n left k os is = first_one n k (Set n handler) (commit_order left n os) (omega arith) (omega (arith, left_count left n os))
 commit_first sync handler n left k os is = first_one n k (Sync n) (commit_order left n os) (omega arith) (omega (arith, left_count left n os))
 
 -- all turns but commit make one order at most
-first_of_one : (n : ℕ) (os behind : List Order) → length behind ≤ length os + 1 → FirstFrom n (length behind - length os - 1) behind
+pub first_of_one : (n : ℕ) (os behind : List Order) → length behind ≤ length os + 1 → FirstFrom n (length behind - length os - 1) behind
 first_of_one n os behind most = first_none n (length behind - length os - 1) behind (omega arith)
 
 turn_first : (s : Setup) (at : At) (d : Demand) → let behind = (turn_at s at d).demand in FirstFrom behind.to_commit (length behind.orders - length d.orders - 1) behind.orders
@@ -240,7 +240,7 @@ place_owed s =
     (λ k owed r from. one_fewer r.demand.to_commit owed r.demand.orders from)
 
 -- the path below what is committed is the same with them and without
-below_owed : (s : Setup) (n k : ℕ) (os : List Order) → FirstFrom n k os → (i : ℕ) → i < n → path s os i ≡ path s (drop k os) i
+pub below_owed : (s : Setup) (n k : ℕ) (os : List Order) → FirstFrom n k os → (i : ℕ) → i < n → path s os i ≡ path s (drop k os) i
 below_owed s n zero os from i under = refl
 below_owed s n (suc k) [] from i under = refl
 below_owed s n (suc k) (o ∷ os) from i under = path_below s o os i (omega (arith, owed_from n o from.0)) ∙ below_owed s n k os from.1 i under
@@ -257,7 +257,7 @@ stays_below s k l later n under =
     ∙ below_owed s p.run.demand.to_commit p.owed p.run.demand.orders (place_owed s k) n under
 
 -- The last Commit told is the last one made.
-commit_owed : (n k : ℕ) (os : List Order) → FirstFrom n k os → last_commit (drop k os) ≡ last_commit os
+pub commit_owed : (n k : ℕ) (os : List Order) → FirstFrom n k os → last_commit (drop k os) ≡ last_commit os
 commit_owed n zero os from = refl
 commit_owed n (suc k) [] from = refl
 commit_owed n (suc k) (o ∷ os) from = commit_owed n k os from.1 ∙ sym (owed_commit n o os from.0)

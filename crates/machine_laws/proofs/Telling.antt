@@ -10,13 +10,13 @@ use Rattle.machine_laws.proofs.Making.{AllOpenAt, turn_made}
 use Rattle.machine_laws.proofs.Always.{owed_behind, at_each_turn, owed_within}
 
 -- one more order, which opens an epoch at this number, if it opens one but Stop
-record OneMore (n : ℕ) (os behind : List Order) : Type 0 where
-  order : Order
-  orders : behind ≡ order ∷ os
-  opens : OpensAt n order
+pub record OneMore (n : ℕ) (os behind : List Order) : Type 0 where
+  pub order : Order
+  pub orders : behind ≡ order ∷ os
+  pub opens : OpensAt n order
 
 -- the orders told are the same, or one more
-abbrev TellsOne : Place → Place → Type 0
+abbrev pub TellsOne : Place → Place → Type 0
 TellsOne p q = (told q ≡ told p) ⊎ OneMore (next q.run.demand) (told p) (told q)
 
 pub by_none : (p q : Place) → told q ≡ told p → told_by p q ≡ None
@@ -29,23 +29,23 @@ by_one p q o is =
     cond-false (length (told p) == length (told q)) None (newest (told q)) (ne_eqb (length (told p)) (length (told q)) (λ same. omega arith)) ∙ ap newest is
 
 -- so many orders in front are such
-abbrev FirstOpenAt : ℕ → ℕ → List Order → Type 0
+abbrev pub FirstOpenAt : ℕ → ℕ → List Order → Type 0
 FirstOpenAt n zero os = Unit {0}
 FirstOpenAt n (suc k) [] = Unit {0}
 FirstOpenAt n (suc k) (o ∷ os) = OpensAt n o × FirstOpenAt n k os
 
-one_fewer : (n k : ℕ) (os : List Order) → FirstOpenAt n (suc k) os → FirstOpenAt n k os
+pub one_fewer : (n k : ℕ) (os : List Order) → FirstOpenAt n (suc k) os → FirstOpenAt n k os
 one_fewer n zero os opens = tt
 one_fewer n (suc k) [] opens = tt
 one_fewer n (suc k) (o ∷ os) opens = (opens.0, one_fewer n k os opens.1)
 
-first_made : (n k : ℕ) (made os : List Order) → AllOpenAt n made → k ≤ length made → FirstOpenAt n k (made ++ os)
+pub first_made : (n k : ℕ) (made os : List Order) → AllOpenAt n made → k ≤ length made → FirstOpenAt n k (made ++ os)
 first_made n zero made os opens within = tt
 first_made n (suc k) [] os opens within = absurd (omega arith)
 first_made n (suc k) (o ∷ made) os opens within = (opens.0, first_made n k made os opens.1 (omega arith))
 
 -- the oldest of them
-oldest_of : (n k : ℕ) (os : List Order) → FirstOpenAt n (suc k) os → suc k ≤ length os → OneMore n (drop (suc k) os) (drop k os)
+pub oldest_of : (n k : ℕ) (os : List Order) → FirstOpenAt n (suc k) os → suc k ≤ length os → OneMore n (drop (suc k) os) (drop k os)
 oldest_of n k [] opens within = absurd (omega arith)
 oldest_of n zero (o ∷ os) opens within = record { order = o; orders = refl; opens = opens.0 }
 oldest_of n (suc k) (o ∷ os) opens within = oldest_of n k os opens.1 (omega arith)
@@ -54,7 +54,7 @@ drop_made : (made os : List Order) → drop (length made) (made ++ os) ≡ os
 drop_made [] os = refl
 drop_made (o ∷ made) os = drop_made made os
 
-turn_tells : (n : ℕ) (made os behind : List Order) → AllOpenAt n made → behind ≡ made ++ os → (k : ℕ) → k ≡ length behind - length os - 1 →
+pub turn_tells : (n : ℕ) (made os behind : List Order) → AllOpenAt n made → behind ≡ made ++ os → (k : ℕ) → k ≡ length behind - length os - 1 →
     (drop k behind ≡ os) ⊎ OneMore n os (drop k behind)
 turn_tells n [] os behind opens is k e =
     let none : k ≡ 0 = omega (arith, ap (λ (x : List Order). length x) is) in
@@ -100,32 +100,26 @@ unfolding place step
 place_tells s k = step_tells s (place s k).owed (place s k).run (place_owed s k) (owed_within s k)
 
 -- a step tells what `told_by` says
-pub step_told : (s : Setup) (k : ℕ) → told (place s (suc k)) ≡ with_order (told_by (place s k) (place s (suc k))) (told (place s k))
-step_told s k = ⊎_elim none one (place_tells s k)
+pub tells_told : (p q : Place) → TellsOne p q → told q ≡ with_order (told_by p q) (told p)
+tells_told p q tells = ⊎_elim none one tells
   where
-    p : Place
-    p = place s k
-
-    q : Place
-    q = place s (suc k)
-
     none : told q ≡ told p → told q ≡ with_order (told_by p q) (told p)
     none is = is ∙ ap (λ (o : Option Order). with_order o (told p)) (sym (by_none p q is))
 
     one : OneMore (next q.run.demand) (told p) (told q) → told q ≡ with_order (told_by p q) (told p)
     one more = more.orders ∙ ap (λ (o : Option Order). with_order o (told p)) (sym (by_one p q more.order more.orders))
 
-pub step_opens : (s : Setup) (k : ℕ) → IfSome (told_by (place s k) (place s (suc k))) (OpensAt (next (place s (suc k)).run.demand))
-step_opens s k = ⊎_elim none one (place_tells s k)
+pub step_told : (s : Setup) (k : ℕ) → told (place s (suc k)) ≡ with_order (told_by (place s k) (place s (suc k))) (told (place s k))
+step_told s k = tells_told (place s k) (place s (suc k)) (place_tells s k)
+
+pub tells_opens : (p q : Place) → TellsOne p q → IfSome (told_by p q) (OpensAt (next q.run.demand))
+tells_opens p q tells = ⊎_elim none one tells
   where
-    p : Place
-    p = place s k
-
-    q : Place
-    q = place s (suc k)
-
     none : told q ≡ told p → IfSome (told_by p q) (OpensAt (next q.run.demand))
     none is = subst (λ (o : Option Order). IfSome o (OpensAt (next q.run.demand))) (sym (by_none p q is)) tt
 
     one : OneMore (next q.run.demand) (told p) (told q) → IfSome (told_by p q) (OpensAt (next q.run.demand))
     one more = subst (λ (o : Option Order). IfSome o (OpensAt (next q.run.demand))) (sym (by_one p q more.order more.orders)) more.opens
+
+pub step_opens : (s : Setup) (k : ℕ) → IfSome (told_by (place s k) (place s (suc k))) (OpensAt (next (place s (suc k)).run.demand))
+step_opens s k = tells_opens (place s k) (place s (suc k)) (place_tells s k)

@@ -26,7 +26,7 @@ use Rattle.rv_exec.specs.declared.outcome.Reach.{Reach}
 use Rattle.rv_exec.specs.declared.outcome.Reach.TheVariants as reach
 use Rattle.rv_exec.specs.Branch.{branch_taken}
 use Rattle.rv_exec.specs.Eval.{eval_of, branched, misalignment}
-use Rattle.mono_model.specs.Found.{Found, refused, unknown, known, class_in, is_csr_insn, is_mret_insn}
+use Rattle.mono_model.specs.Found.{Found, refused, unknown, known, class_in, is_csr_insn}
 use Rattle.mono_model.specs.Result.{Result, Seen, executed, by_cause, reached, csr_result, loaded_raw, raw_at, stored_at, spot_of, can_store, is_time_address, is_time_load, is_time_read}
 use Rattle.mono_model.specs.Window.{Record}
 use Rattle.mono_model.specs.Issue.{is_oldest, load_allows, class_allows}

@@ -82,7 +82,7 @@ pub record IsRun (s : Setup) (x : Split) : Type 0 where
   pub kinds : AreAtCommit x.obeyed
   pub small : 1 ≤ s.cycles → IsSmall s x
   pub obeys : (o : Order) (os : List Order) → x.listed_orders ≡ o ∷ os → MayObey s x o
-  pub listed_orders : IsListed s x
+  pub listed : IsListed s x
   -- each entry, listed, computed or held, is that of its number in its epoch
   pub entries : Each (IsUnderWay s x) x.entries
   pub computed : IfSome x.computed (IsUnderWay s x)

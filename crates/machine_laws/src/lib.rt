@@ -1,5 +1,5 @@
-//! Laws of the machines: what holds of the monolithic run, of the demand run beside it and of the path under its orders,
-//! for every setup.
+//! Laws of the machines: what holds of the monolithic run, of the demand run beside it and of the
+//! path under its orders, for every setup.
 //!
 //! Each function does nothing: its clauses are the laws.
 #![tactic(auto)]

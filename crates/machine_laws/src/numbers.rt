@@ -9,7 +9,8 @@ ghost use Rattle.machine_laws.specs.Numbers.{AreNumbered, AreAtCommit, last_comm
 /// The window never has more records than it has room for.
 #[tactic(auto, using(crate::proofs::Numbering::window_within))]
 pub fn window_stays_within_its_size()
-    ensures within { (s : Setup) (k : ℕ) → length (place s k).run.demand.machine.window ≤ s.params.core_window }
+    ensures within { (s : Setup) (k : ℕ)
+        → length (place s k).run.demand.machine.window ≤ s.params.core_window }
 {}
 
 /// The number of each order lies from that of the last Commit before it to that plus the window.
@@ -17,7 +18,8 @@ pub fn window_stays_within_its_size()
 pub fn orders_are_numbered_within_the_window()
     ensures numbered { (s : Setup) (k : ℕ) → AreNumbered s (told (place s k)) }
     ensures at_commit { (s : Setup) (k : ℕ) → AreAtCommit (told (place s k)) }
-    ensures done { (s : Setup) (k : ℕ) → (place s k).run.demand.to_commit ≡ last_commit (told (place s k)) }
+    ensures done { (s : Setup) (k : ℕ)
+        → (place s k).run.demand.to_commit ≡ last_commit (told (place s k)) }
 {}
 
 /// How far cycle number, instruction numbers and the list of orders go.

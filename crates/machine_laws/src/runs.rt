@@ -7,10 +7,12 @@ ghost use Rattle.mono_model.specs.Demand.{place};
 ghost use Rattle.mono_model.specs.Split.{is_cycle_start};
 ghost use Rattle.machine_laws.specs.Runs.{IsMono, Reaches, Halts};
 
-/// Where a cycle starts, and at the end, the demand run has the machine of the monolithic run behind as many cycles.
+/// Where a cycle starts, and at the end, the demand run has the machine of the monolithic run
+/// behind as many cycles.
 #[tactic(auto, using(crate::proofs::DemandRun::is_mono))]
 pub fn machines_of_the_demand_run_are_the_monolithic_ones()
-    ensures machine { (s : Setup) (k : ℕ) → is_cycle_start (place s k).run.at ≡ true → IsMono s (place s k) }
+    ensures machine { (s : Setup) (k : ℕ) → is_cycle_start (place s k).run.at ≡ true
+        → IsMono s (place s k) }
 {}
 
 /// The demand run comes to the start of each cycle, up to its end.

@@ -4,23 +4,28 @@
 ghost use Rattle.std.specs.Prelude.{◌≡◌, ℕ, ◌≤◌, true, List};
 ghost use Rattle.mono_model.specs.declared.setup.Setup.{Setup};
 ghost use Rattle.mono_model.specs.Setup.{is_setup};
-ghost use Rattle.mono_model.specs.Split.{Split, split_start, Event, event_at, run, rounds_to_boundary, is_boundary, to_boundary};
+ghost use Rattle.mono_model.specs.Split.{Split, split_start, Event, event_at, run};
+ghost use Rattle.mono_model.specs.Split.{rounds_to_boundary, is_boundary, to_boundary};
 ghost use Rattle.machine_laws.specs.SplitLaw.{IsRun, IsRanged};
 ghost use Rattle.machine_laws.specs.Reached.{IsReached};
 
-/// Functional and timing side together run as the monolithic machine does, in whatever order their events happen.
+/// Functional and timing side together run as the monolithic machine does, in whatever order their
+/// events happen.
 #[tactic(auto, using(crate::proofs::SplitRun::is_run, crate::proofs::SplitRanges::run_ranged))]
 pub fn split_core_runs_as_the_machine()
     ensures run { (s : Setup) (events : List Event) → IsRun s (run s events) }
-    ensures ranged { (s : Setup) (events : List Event) → is_setup s ≡ true → IsRanged (run s events) }
+    ensures ranged { (s : Setup) (events : List Event) → is_setup s ≡ true
+        → IsRanged (run s events) }
 {}
 
 /// A state that events lead to stays one with each event more, and with the rounds to a boundary.
 #[tactic(auto, using(crate::proofs::SplitReached::start_reached, crate::proofs::SplitReached::event_reached, crate::proofs::SplitReached::boundary_reached, crate::proofs::SplitReached::reached_run))]
 pub fn split_states_are_reached()
     ensures start { (s : Setup) → IsReached s (split_start s) }
-    ensures event { (s : Setup) (e : Event) (x : Split) → IsReached s x → IsReached s (event_at s e x) }
-    ensures rounds { (s : Setup) (n : ℕ) (x : Split) → IsReached s x → IsReached s (rounds_to_boundary s n x) }
+    ensures event { (s : Setup) (e : Event) (x : Split) → IsReached s x
+        → IsReached s (event_at s e x) }
+    ensures rounds { (s : Setup) (n : ℕ) (x : Split) → IsReached s x
+        → IsReached s (rounds_to_boundary s n x) }
     ensures run { (s : Setup) (x : Split) → IsReached s x → IsRun s x }
 {}
 
@@ -34,5 +39,6 @@ pub fn committed_number_never_falls()
 /// Every state that events lead to is brought to a boundary by the rounds that are allowed for it.
 #[tactic(auto, using(crate::proofs::SplitArriving::comes_to_boundary))]
 pub fn boundaries_are_reached()
-    ensures boundary { (s : Setup) (x : Split) → 1 ≤ s.ring → IsReached s x → is_boundary (to_boundary s x) ≡ true }
+    ensures boundary { (s : Setup) (x : Split) → 1 ≤ s.ring → IsReached s x
+        → is_boundary (to_boundary s x) ≡ true }
 {}

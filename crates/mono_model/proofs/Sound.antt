@@ -169,7 +169,7 @@ setup_facts s is =
       ring = (between 1 65536 s.ring ring).1;
     }
 
--- and back
+-- the test of a setup, from that of its parameters and the other facts
 at_most : (a b : ℕ) → a ≤ b → nat_le a b ≡ true
 at_most a b below = grind (arith, below)
 

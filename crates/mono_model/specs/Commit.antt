@@ -71,7 +71,8 @@ abbrev pub fenced : Setup → Machine → Machine
 fenced s m = let f = flushed [] m.arch.pc m in record f { arch = synced s f.arch }
 
 -- What the oldest record does once it is done: by its cause, by whether the output has no room for its byte, by what it
--- does outside, and by whether it is a FENCE.I. The machine as it stands, with the trap taken, and with the changes made.
+-- does outside, and by whether it is a FENCE.I. Three machines are given: as it stands, with the trap taken, and with
+-- the changes made.
 abbrev pub leaving_by : Setup → Machine → Machine → Machine → Option Cause → Bool → Note → Bool → Leaving
 leaving_by s now trapped changed (Some cause) no_room what fence = faults trapped
 leaving_by s now trapped changed None true what fence = full (record now { end = OutputFull })

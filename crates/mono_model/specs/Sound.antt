@@ -1,4 +1,4 @@
--- What the test of a setup says, fact by fact.
+-- What proofs take from the test of a setup, fact by fact. The test says more: the ranges of the other parameters.
 use Rattle.std.specs.Prelude.{◌≤◌, length}
 use Rattle.elf_image.specs.Sound.{IsSound}
 use Rattle.branch_predictor.specs.Params as predictor
@@ -6,7 +6,7 @@ use Rattle.cache_timing.specs.Params as caches
 use Rattle.mono_model.specs.declared.setup.Setup.{Setup}
 use Rattle.mono_model.specs.Setup.{ram_range, predictor_params, caches_params}
 
--- A setup that a run may have.
+-- Of a setup that a run may have:
 pub record IsSetup (s : Setup) : Type 0 where
   -- the image can be loaded into RAM, which begins above the devices
   pub image : IsSound s.image (ram_range s.params)

@@ -75,7 +75,7 @@ written_value regs [] register = Some (regs register)
 written_value regs (rec ∷ older) register =
     if is_register register (destination_in rec.found) then value_at rec.stage else written_value regs older register
 
--- The operand of a record: its source's value, and 0 where there is no source.
+-- The operand of a record: its source's value, if it has one by now, and 0 where there is no source.
 abbrev pub operand : (ℕ → ℕ) → List Record → Option ℕ → Option ℕ
 operand regs older None = Some 0
 operand regs older (Some register) = written_value regs older register

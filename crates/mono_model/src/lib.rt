@@ -1,6 +1,8 @@
-//! The definitions of the simulated machine, sequential and cycle by cycle, and the plain types that they speak of.
+//! The definitions of the simulated machine, sequential and cycle by cycle, and the plain types
+//! that they speak of.
 //!
-//! No call of this crate computes a cycle: what the machine is stands in `specs/`, in the order of `specs/Lib.antt`.
+//! No call of this crate computes a cycle: what the machine is stands in `specs/`, in the order of
+//! `specs/Lib.antt`.
 #![tactic(auto)]
 
 mod final_state;

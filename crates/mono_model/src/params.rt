@@ -40,12 +40,14 @@ fn is_cache(most_sets: u32, line: u32, sets: u32, ways: u32, miss: u32) -> bool
         && miss <= 1000
 }
 
-/// The parameters of the machine: one field for each key of a machine file, the dot written as an underscore.
+/// The parameters of the machine: one field for each key of a machine file, the dot written as an
+/// underscore.
 ///
 /// `docs/PIPELINE.md` has the meaning, range and default of each.
 #[derive(Clone, Copy, Debug, PartialEq, Eq)]
 pub struct Params {
-    /// The version of the machine file, 1 or 2. Version 1 has no second level of caches and writes nothing back.
+    /// The version of the machine file, 1 or 2. Version 1 has no second level of caches and writes
+    /// nothing back.
     pub version: u32,
     pub ram_base: u32,
     pub ram_size: u32,
@@ -87,7 +89,8 @@ pub struct Params {
 impl Params {
     ghost use Rattle.std.specs.Prelude.{true};
     ghost use Rattle.mono_model.specs.Plain.{plain_params};
-    ghost use Rattle.mono_model.specs.Setup.{are_core, are_units, is_predictor, are_caches, is_version, are_params};
+    ghost use Rattle.mono_model.specs.Setup.{are_core, are_units, is_predictor, are_caches};
+    ghost use Rattle.mono_model.specs.Setup.{is_version, are_params};
 
     /// The plain machine: that of a machine file with no keys, and of a run without one.
     pub fn plain() -> Params

@@ -22,8 +22,9 @@ impl Setup {
     ghost use Rattle.std.specs.Prelude.{◌≡◌};
     ghost use Rattle.mono_model.specs.Setup.{is_setup};
 
-    /// Whether a run may have this setup: an image that can be loaded into RAM, parameters in the ranges of a machine
-    /// file, at most 16,777,216 bytes of input and of output, from 1 to 2^40 cycles, and a trace of 1 to 65,536 entries.
+    /// Whether a run may have this setup: an image that can be loaded into RAM, parameters in the
+    /// ranges of a machine file, at most 16,777,216 bytes of input and of output, from 1 to 2^40
+    /// cycles, and a trace of 1 to 65,536 entries.
     #[tactic(auto, unfolding(crate::specs::Setup::is_setup))]
     pub fn sound(&self) -> bool
         ensures sound { result ≡ is_setup self.now }

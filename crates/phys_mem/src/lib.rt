@@ -1,5 +1,5 @@
-//! RAM as a map of bytes, and the text that fetch reads: RAM's executable bytes as they were when the text
-//! was last set to memory.
+//! RAM as a map of bytes, and the text that fetch reads: RAM's executable bytes as they were when
+//! the text was last set to memory.
 #![tactic(auto)]
 
 mod page;

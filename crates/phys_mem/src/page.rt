@@ -1,4 +1,5 @@
-ghost use Rattle.std.specs.Prelude.{◌≡◌, ℕ, ◌+◌, ◌%◌, ◌<◌, ◌≤◌, [], IfOk, length, slice_index, slice_index_or};
+ghost use Rattle.std.specs.Prelude.{◌≡◌, ℕ, ◌+◌, ◌%◌, ◌<◌, ◌≤◌, [], IfOk, length, slice_index};
+ghost use Rattle.std.specs.Prelude.{slice_index_or};
 ghost use Rattle.fsim_base.specs.Memory.{from_bytes, put_bytes};
 ghost use Rattle.fsim_base.specs.Width.{width_bytes};
 ghost use Rattle.phys_mem.specs.PageBytes.{bytes_of};
@@ -38,7 +39,7 @@ pub fn zero_pages(alloc: Global, count: usize) -> Result<Vec<Page>, AllocError>
 
 /// The value of an access inside a page.
 pub fn load(page: &Page, offset: usize, width: Width) -> u32
-    requires { offset + width_bytes width ≤ 4096 }
+    requires inside { offset + width_bytes width ≤ 4096 }
     ensures value { result ≡ from_bytes (width_bytes width) offset (bytes_of page.now) }
     ensures bytes { (i : ℕ) → slice_index page.now i < 256 }
 {
@@ -51,7 +52,7 @@ pub fn load(page: &Page, offset: usize, width: Width) -> u32
 
 /// Stores the low two bytes of a value inside a page.
 fn store_half(page: &mut Page, offset: usize, value: u32)
-    requires { offset + 2 ≤ 4096 }
+    requires inside { offset + 2 ≤ 4096 }
     ensures { bytes_of page.new ≡ put_bytes 2 offset value (bytes_of page.old) }
 {
     LittleEndian::write_u16(&mut page[offset..], (value & 0xffff) as u16);
@@ -59,7 +60,7 @@ fn store_half(page: &mut Page, offset: usize, value: u32)
 
 /// Stores the four bytes of a value inside a page.
 fn store_word(page: &mut Page, offset: usize, value: u32)
-    requires { offset + 4 ≤ 4096 }
+    requires inside { offset + 4 ≤ 4096 }
     ensures { bytes_of page.new ≡ put_bytes 4 offset value (bytes_of page.old) }
 {
     LittleEndian::write_u32(&mut page[offset..], value);
@@ -67,7 +68,7 @@ fn store_word(page: &mut Page, offset: usize, value: u32)
 
 /// Stores the low bytes of a value inside a page.
 pub fn store(page: &mut Page, offset: usize, width: Width, value: u32)
-    requires { offset + width_bytes width ≤ 4096 }
+    requires inside { offset + width_bytes width ≤ 4096 }
     ensures { bytes_of page.new ≡ put_bytes (width_bytes width) offset value (bytes_of page.old) }
 {
     match width {

@@ -1,4 +1,5 @@
-ghost use Rattle.std.specs.Prelude.{◌≡◌, ◌+◌, ◌*◌, ◌/◌, ◌%◌, ◌==◌, ◌||◌, ◌≤◌, ◌<◌, false, All, AllPairs, IfOk, OnOk, IfSome, length};
+ghost use Rattle.std.specs.Prelude.{◌≡◌, ◌+◌, ◌*◌, ◌/◌, ◌%◌, ◌==◌, ◌||◌, ◌≤◌, ◌<◌, false, All};
+ghost use Rattle.std.specs.Prelude.{AllPairs, IfOk, OnOk, IfSome, length};
 ghost use Rattle.fsim_base.specs.Range.{IsInside};
 ghost use Rattle.fsim_base.specs.Memory.{put_byte};
 ghost use Rattle.fsim_base.specs.Width.{width_bytes};
@@ -19,8 +20,8 @@ const PAGE_STEP: u64 = PAGE_SIZE as u64;
 #[derive(Drop)]
 pub struct Ram {
     range: RamRange,
-    /// The bytes of RAM. The first page begins at the last multiple of the page size that isn't above
-    /// RAM's base.
+    /// The bytes of RAM. The first page begins at the last multiple of the page size that isn't
+    /// above RAM's base.
     pages: Vec<Page>,
     /// For each page its text, where it has some.
     texts: Vec<Option<Box<TextPage>>>,
@@ -29,12 +30,13 @@ pub struct Ram {
 }
 
 impl Ram {
-    ghost use Rattle.phys_mem.specs.Ram.{page_of, range_of, ram_of, exec_of, text_of, loaded, stored, text_from};
+    ghost use Rattle.phys_mem.specs.Ram.{page_of, range_of, ram_of, exec_of, text_of, loaded};
+    ghost use Rattle.phys_mem.specs.Ram.{stored, text_from};
     ghost use Rattle.phys_mem.specs.Fetch.{fetched};
 
     /// The place of an address's page.
     fn page_index(&self, addr: u64) -> usize
-        requires { IsInside self.now.range addr 1 }
+        requires inside { IsInside self.now.range addr 1 }
         ensures place { result ≡ page_of self.now.range addr }
         ensures within { result < length self.now.pages.items }
     {
@@ -61,7 +63,7 @@ impl Ram {
     /// Stores one byte of RAM.
     #[tactic(auto, unfolding(crate::specs::Ram::exec_of))]
     fn put(&mut self, addr: u64, byte: u8)
-        requires { IsInside self.old.range addr 1 }
+        requires inside { IsInside self.old.range addr 1 }
         ensures range { range_of self.new ≡ range_of self.old }
         ensures ram { ram_of self.new ≡ put_byte addr byte (ram_of self.old) }
         ensures exec { exec_of self.new ≡ exec_of self.old }
@@ -77,7 +79,7 @@ impl Ram {
 
     /// Stores bytes of RAM from an address on.
     fn put_all(&mut self, addr: u32, bytes: &[u8])
-        requires { IsInside self.old.range addr (length bytes.now) }
+        requires inside { IsInside self.old.range addr (length bytes.now) }
         ensures range { range_of self.new ≡ range_of self.old }
         ensures ram { ram_of self.new ≡ with_bytes addr bytes.now (ram_of self.old) }
         ensures exec { exec_of self.new ≡ exec_of self.old }
@@ -90,7 +92,7 @@ impl Ram {
     /// Makes one address of RAM text.
     #[tactic(auto, unfolding(crate::specs::Ram::ram_of))]
     fn mark(&mut self, alloc: Global, addr: u64) -> Result<(), AllocError>
-        requires { IsInside self.old.range addr 1 }
+        requires inside { IsInside self.old.range addr 1 }
         ensures range { range_of self.new ≡ range_of self.old }
         ensures ram { ram_of self.new ≡ ram_of self.old }
         ensures exec { OnOk result (exec_of self.new ≡ (λ x. x == addr || exec_of self.old x)) }
@@ -102,7 +104,7 @@ impl Ram {
 
     /// Makes addresses of RAM text, from one on.
     fn mark_all(&mut self, alloc: Global, addr: u32, size: u32) -> Result<(), AllocError>
-        requires { IsInside self.old.range addr size }
+        requires inside { IsInside self.old.range addr size }
         ensures range { range_of self.new ≡ range_of self.old }
         ensures ram { ram_of self.new ≡ ram_of self.old }
         ensures exec { OnOk result (exec_of self.new ≡ with_text addr size (exec_of self.old)) }
@@ -115,7 +117,7 @@ impl Ram {
 
     /// Loads a segment: its bytes into RAM, and its addresses as text where it is executable.
     fn load_segment(&mut self, alloc: Global, segment: &Segment) -> Result<(), AllocError>
-        requires { IsPlaced self.old.range segment.now }
+        requires placed { IsPlaced self.old.range segment.now }
         ensures range { range_of self.new ≡ range_of self.old }
         ensures ram { OnOk result (ram_of self.new
             ≡ with_bytes segment.now.addr segment.now.bytes (ram_of self.old)) }
@@ -144,11 +146,12 @@ impl Ram {
         Ok(())
     }
 
-    /// RAM as an image that is sound for its range leaves it: the segments' bytes, and 0 elsewhere. The
-    /// text is that of the executable segments. All memory is taken here; a refusal drops what was taken.
+    /// RAM as an image that is sound for its range leaves it: the segments' bytes, and 0 elsewhere.
+    /// The text is that of the executable segments. All memory is taken here; a refusal drops what
+    /// was taken.
     #[tactic(auto, unfolding(elf_image::specs::Load::image_byte, elf_image::specs::Load::is_executable))]
     pub fn new(alloc: Global, range: RamRange, image: &Image) -> Result<Ram, NoMemory>
-        requires { IsSound image.now range }
+        requires sound { IsSound image.now range }
         ensures range { IfOk result (λ ram. range_of ram ≡ range) }
         ensures ram { IfOk result (λ ram. ram_of ram ≡ image_byte image.now) }
         ensures exec { IfOk result (λ ram. exec_of ram ≡ is_executable image.now) }
@@ -177,13 +180,14 @@ impl Ram {
         Some(load(&self.pages[index], addr as usize % PAGE_SIZE, width))
     }
 
-    /// Stores the low bytes of a value by an aligned access, and gives the value that it replaces; none, and
-    /// nothing changes, where the access isn't inside RAM. Little endian. Storing the value that was given
-    /// restores RAM.
+    /// Stores the low bytes of a value by an aligned access, and gives the value that it replaces;
+    /// none, and nothing changes, where the access isn't inside RAM. Little endian. Storing the
+    /// value that was given restores RAM.
     pub fn set(&mut self, addr: u32, width: Width, value: u32) -> Option<u32>
         requires aligned { addr % width_bytes width ≡ 0 }
         ensures old { result ≡ loaded (range_of self.old) (ram_of self.old) addr width }
-        ensures ram { ram_of self.new ≡ stored (range_of self.old) (ram_of self.old) addr width value }
+        ensures ram { ram_of self.new
+            ≡ stored (range_of self.old) (ram_of self.old) addr width value }
         ensures back { IfSome result (λ old.
             stored (range_of self.old) (ram_of self.new) addr width old ≡ ram_of self.old) }
 

@@ -1,4 +1,5 @@
-ghost use Rattle.std.specs.Prelude.{◌≡◌, ℕ, ◌%◌, ◌==◌, ◌||◌, ◌<◌, [], None, IfOk, OnOk, IsTrue, length, slice_index, slice_index_or};
+ghost use Rattle.std.specs.Prelude.{◌≡◌, ℕ, ◌%◌, ◌==◌, ◌||◌, ◌<◌, [], None, IfOk, OnOk, IsTrue};
+ghost use Rattle.std.specs.Prelude.{length, slice_index, slice_index_or};
 ghost use Rattle.phys_mem.specs.PageBytes.{is_marked};
 ghost use Rattle.phys_mem.specs.Page.{marked_in, copied_in};
 ghost use Rattle.phys_mem.specs.Fetch.{all_four, fetched};
@@ -43,9 +44,10 @@ fn copy_page(text: &mut Option<Box<TextPage>>, page: &Page)
 
 /// Sets the copies of the pages that have text to the pages.
 pub fn copy_pages(pages: &[Page], texts: &mut [Option<Box<TextPage>>])
-    requires { length texts.old ≡ length pages.now }
+    requires lengths { length texts.old ≡ length pages.now }
     ensures marks { (i : ℕ)
-        → marked_in (slice_index_or texts.new i None) ≡ marked_in (slice_index_or texts.old i None) }
+        → marked_in (slice_index_or texts.new i None)
+        ≡ marked_in (slice_index_or texts.old i None) }
     ensures bytes { (i offset : ℕ) → i < length pages.now
         → IsTrue (marked_in (slice_index_or texts.old i None) offset)
         → copied_in (slice_index_or texts.new i None) offset
@@ -70,7 +72,7 @@ pub fn no_texts(alloc: Global, count: usize) -> Result<Vec<Option<Box<TextPage>>
 
 /// Marks one byte of a page.
 fn set_mark(marks: &mut Marks, offset: usize)
-    requires { offset < 4096 }
+    requires inside { offset < 4096 }
     ensures { is_marked marks.new ≡ (λ o. o == offset || is_marked marks.old o) }
 {
     marks[offset / 8] |= 1 << (offset % 8);
@@ -78,7 +80,7 @@ fn set_mark(marks: &mut Marks, offset: usize)
 
 /// The text of a page with one byte of text.
 fn first_text(alloc: Global, offset: usize) -> Result<Box<TextPage>, AllocError>
-    requires { offset < 4096 }
+    requires inside { offset < 4096 }
     ensures { IfOk result (λ text. is_marked text.value.marks ≡ (λ o. o == offset)) }
 {
     let mut marks = [0; PAGE_SIZE / 8];
@@ -96,7 +98,7 @@ pub fn add_text(
     text: &mut Option<Box<TextPage>>,
     offset: usize,
 ) -> Result<(), AllocError>
-    requires { offset < 4096 }
+    requires inside { offset < 4096 }
     ensures { OnOk result (marked_in text.new ≡ (λ o. o == offset || marked_in text.old o)) }
 {
     match text {

@@ -18,7 +18,7 @@ number_on slots consecutive i (suc k) d within =
     let before = number_on slots consecutive i k d (omega arith) in
     rw e (omega (arith, before, consecutive (i + k) d (omega arith)))
 
--- fewer than capacity numbers on, the index is another one
+-- fewer than `capacity` numbers on, the index is another one
 other_index : (capacity n k : ℕ) → 0 < k → k < capacity → index_of capacity n ≡ index_of capacity (n + k) → ⊥
 other_index capacity n k some within same =
     let here = div-add-mod n capacity in

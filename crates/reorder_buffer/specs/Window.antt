@@ -16,7 +16,8 @@ IsConsecutive slots = AllAdjacentBelow (λ older younger. younger.number ≡ old
 abbrev pub youngest : List Slot → Option Slot
 youngest slots = slice_get slots (length slots - 1)
 
--- the index of an instruction's slot: the numbers in the window follow one another and are at most capacity, so each has its own
+-- the index of an instruction's slot: the numbers in the window follow one another, at most `capacity` of them, so each
+-- has its own
 abbrev pub index_of : ℕ → ℕ → ℕ
 index_of capacity number = number % capacity
 

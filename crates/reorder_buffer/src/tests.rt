@@ -40,7 +40,8 @@ fn slot(number: u64) -> Slot
 
 /// Whether the number is the one behind the youngest slot's.
 fn follows(window: &Window, number: u64) -> bool
-    ensures { IsTrue result → IfSome (youngest window.now.slots) (λ last. number ≡ last.number + 1) }
+    ensures { IsTrue result
+        → IfSome (youngest window.now.slots) (λ last. number ≡ last.number + 1) }
 {
     let len = window.len();
     if len == 0 {
@@ -50,7 +51,8 @@ fn follows(window: &Window, number: u64) -> bool
     number.checked_sub(1) == Some(last.number)
 }
 
-/// Does a step that is possible, and gives the index or the count that it answers; None for a step that isn't.
+/// Does a step that is possible, and gives the index or the count that it answers; None for a step
+/// that isn't.
 fn play(window: &mut Window, step: Step) -> Option<u32> {
     match step {
         Step::Append(number) if !window.is_full() && follows(window, number) => {

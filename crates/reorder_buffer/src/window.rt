@@ -7,8 +7,8 @@ use fsim_base::NoMemory;
 use std::alloc::Global;
 use std::marker::Model;
 
-/// The instructions in the window, the oldest first, with numbers one after the other and a fixed room (Hennessy and
-/// Patterson, Computer Architecture, section 3.6, the reorder buffer).
+/// The instructions in the window, the oldest first, with numbers one after the other and a fixed
+/// room (Hennessy and Patterson, Computer Architecture, section 3.6, the reorder buffer).
 #[derive(Debug, Drop)]
 pub struct Window {
     slots: HeapCircularBuffer<Slot>,
@@ -30,11 +30,15 @@ impl Model for Window {
 }
 
 impl Window {
-    ghost use Rattle.std.specs.Prelude.{◌≡◌, ◌≢◌, ◌↔◌, ◌+◌, ◌<◌, ◌≤◌, ◌++◌, ◌∷◌, [], length, drop, All, Some, IsTrue, IsNone, IfOk, IfSome, slice_get, slice_set};
+    ghost use Rattle.std.specs.Prelude.{◌≡◌, ◌≢◌, ◌↔◌, ◌+◌, ◌<◌, ◌≤◌, ◌++◌, ◌∷◌, [], length, drop};
+    ghost use Rattle.std.specs.Prelude.{All, Some, IsTrue, IsNone, IfOk, IfSome, slice_get};
+    ghost use Rattle.std.specs.Prelude.{slice_set};
     ghost use Rattle.std.specs.Option.{option_copied};
-    ghost use Rattle.reorder_buffer.specs.Window.{IsConsecutive, HasOwnIndices, youngest, index_of, below_number, count_from};
+    ghost use Rattle.reorder_buffer.specs.Window.{IsConsecutive, HasOwnIndices, youngest, index_of};
+    ghost use Rattle.reorder_buffer.specs.Window.{below_number, count_from};
 
-    /// An empty window with room for `capacity` slots. All its memory is taken here; want of it is the one refusal.
+    /// An empty window with room for `capacity` slots. All its memory is taken here; want of it is
+    /// the one refusal.
     pub fn new(alloc: Global, capacity: u32) -> Result<Window, NoMemory>
         ensures opening { IfOk result (λ w. w ≡ record { capacity = capacity; slots = [] }) }
     {
@@ -63,8 +67,8 @@ impl Window {
         self.slots.len() == self.slots.capacity()
     }
 
-    /// Adds a slot behind the others and gives its index, which no other slot has. There is room, and its number is
-    /// the one behind the youngest slot's.
+    /// Adds a slot behind the others and gives its index, which no other slot has. There is room,
+    /// and its number is the one behind the youngest slot's.
     pub fn append(&mut self, s: Slot) -> u32
         requires room { length self.old.slots < self.old.capacity }
         requires next { IfSome (youngest self.old.slots) (λ last. s.number ≡ last.number + 1) }
@@ -99,7 +103,7 @@ impl Window {
 
     /// The index and the slot at a place, counted from the oldest at 0.
     pub fn at(&self, place: u32) -> (u32, &Slot)
-        requires { place < length self.now.slots }
+        requires place { place < length self.now.slots }
         ensures slot { slice_get self.now.slots place ≡ Some result.1.now }
         ensures index { result.0 ≡ index_of self.now.capacity result.1.now.number }
         ensures below { result.0 < self.now.capacity }
@@ -111,7 +115,7 @@ impl Window {
 
     /// The slot at a place, counted from the oldest at 0.
     pub fn slot(&self, place: u32) -> &Slot
-        requires { place < length self.now.slots }
+        requires place { place < length self.now.slots }
         ensures slot { slice_get self.now.slots place ≡ Some result.now }
     {
         self.slots.get(place as usize).unwrap()
@@ -119,9 +123,10 @@ impl Window {
 
     /// Sets the state of the slot at a place, counted from the oldest at 0, and nothing else.
     pub fn mark(&mut self, place: u32, state: SlotState)
-        requires { place < length self.old.slots }
+        requires place { place < length self.old.slots }
         ensures marked { IfSome (slice_get self.old.slots place)
-            (λ s. self.new ≡ record self.old { slots = slice_set self.old.slots place (record s { state = state }) }) }
+            (λ s. self.new ≡ record self.old
+            { slots = slice_set self.old.slots place (record s { state = state }) }) }
     {
         if let Some(slot) = self.slots.get_mut(place as usize) {
             slot.state = state;
@@ -139,7 +144,7 @@ impl Window {
 
     /// Removes the oldest slot. There is one.
     pub fn pop(&mut self)
-        requires { 0 < length self.old.slots }
+        requires some { 0 < length self.old.slots }
         ensures popped { self.new ≡ record self.old { slots = drop 1 self.old.slots } }
     {
         self.first = index_behind(self.slots.capacity() as u32, self.first, 1);
@@ -158,7 +163,8 @@ impl Window {
         (len - kept) as u32
     }
 
-    /// How many slots have numbers below this one. They stand first, and their numbers follow one another.
+    /// How many slots have numbers below this one. They stand first, and their numbers follow one
+    /// another.
     fn count_below(&self, number: u64) -> usize
         ensures count { result ≡ length (below_number number self.now.slots) }
         ensures within { result ≤ length self.now.slots }
@@ -171,7 +177,7 @@ impl Window {
     }
 }
 
-/// The index of the slot that an instruction of this number has in a window of this room.
+/// The index of the slot that an instruction of this number has in a window of this capacity.
 fn index_in(capacity: usize, number: u64) -> u32
     requires some { 0 < capacity }
     requires fits { capacity < 2 ^ 32 }
@@ -181,7 +187,7 @@ fn index_in(capacity: usize, number: u64) -> u32
     (number % capacity as u64) as u32
 }
 
-/// The index so many places behind one, in a window of this room.
+/// The index so many places behind one, in a window of this capacity.
 fn index_behind(capacity: u32, index: u32, places: u32) -> u32
     requires index { index < capacity }
     requires places { places ≤ capacity }

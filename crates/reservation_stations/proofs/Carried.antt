@@ -1,4 +1,4 @@
--- How a change of single rows carries over to what they are by the older ones.
+-- How a change of single rows carries over to what they are beside the older ones.
 use Rattle.std.proofs.Common.{◌≡◌, ℕ, zero, suc, take, ◌==◌, ◌||◌, ◌&&◌, not, Bool, true, false, if◌then◌else◌, Option, Some, None, List, [], ◌∷◌, ◌++◌, reverse, refl, ap, sym, ◌∙◌, inl, inr, eq-eqb, subst}
 use Rattle.std.specs.Prelude.{slice_get}
 use Rattle.std.proofs.lemmas.Bool.{cases_eq, ne_eqb}

@@ -1,4 +1,4 @@
--- A record enters.
+-- A station enters.
 use Rattle.std.proofs.Common.{◌≡◌, ◌≢◌, ◌↔◌, ℕ, ◌+◌, ◌-◌, ◌^◌, ◌<◌, ◌≤◌, ◌==◌, ◌||◌, Bool, true, false, if◌then◌else◌, Option, Some, None, Result, Ok, Err, List, [], ◌∷◌, ◌++◌, length, reverse, refl, ap, sym, ◌∙◌, inl, inr, arith, eq-eqb, subst, take, length-append}
 use Rattle.std.specs.Prelude.{slice_set, IsNone, IsOk, OnOk}
 use Rattle.std.specs.List.{AllByRecursion, IsDistinct, list_any}
@@ -96,7 +96,7 @@ module _ (capacity : ℕ) (indices : List ℕ) (old : List Row) (producers : Lis
   stations_stay : stations_at (row_at (slice_set old index row)) indices ≡ stations_at (row_at old) indices
   stations_stay = stations_at-same (row_at old) (row_at (slice_set old index row)) indices (Each-map (λ other. other ≢ index) (Stays (row_at old) (row_at (slice_set old index row))) Stays-none indices fresh)
 
-  -- an index that no record holds keeps something else
+  -- an index that no station holds keeps something else
   pub AreTables-other : AreTables capacity indices (slice_set old index row) producers waiting
   AreTables-other =
       AreTables-changed capacity indices old (slice_set old index row) producers waiting waiting none keeps (length-set old index row) each_changes (keeps.count ∙ sym (ap waiting_count stations_stay))

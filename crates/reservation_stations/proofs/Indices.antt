@@ -1,4 +1,4 @@
--- Lists of indices, and the records that hold them.
+-- Lists of indices, and the stations that hold them.
 use Rattle.std.proofs.Common.{◌≡◌, ◌≢◌, ℕ, ◌==◌, if◌then◌else◌, Some, None, List, [], ◌∷◌, ◌++◌, map, reverse, refl, ap, sym, ◌∙◌, inl, inr, eq-eqb, subst}
 use Rattle.std.proofs.lemmas.Bool.{cases_eq, ne_eqb}
 use Rattle.std.proofs.lemmas.List.{append_assoc, reverse-append, map-append}
@@ -48,7 +48,7 @@ reverse-map f (index ∷ indices) =
     reverse-cons (f index) (map f indices) ∙ ap (λ xs. xs ++ f index ∷ []) (reverse-map f indices)
     ∙ sym (map-append f (reverse indices) (index ∷ [])) ∙ ap (map f) (sym (reverse-cons index indices))
 
--- what holds of each index that is held holds of one that a record holds, and the record is the row's
+-- what holds of each index in the list holds of that of a station, and the station is its row's
 module _ (at : ℕ → Row) (P : ℕ → Type 0) where
   pub station_of-held : (indices : List ℕ) (index : ℕ) (station : Station) → Each P indices → station_of index (stations_at at indices) ≡ Some station →
       P index × (station ≡ station_in index (at index))
@@ -63,7 +63,7 @@ module _ (at : ℕ → Row) (P : ℕ → Type 0) where
         station_of-held indices index station each.1 (rw (ne_eqb other index differ) at here)
   ]
 
--- and an index that no record holds is none of those
+-- an index that no station holds isn't in the list
 pub station_of-free : (at : ℕ → Row) (indices : List ℕ) (index : ℕ) → station_of index (stations_at at indices) ≡ None → Each (λ other. other ≢ index) indices
 station_of-free at [] index free = tt
 station_of-free at (other ∷ indices) index free = elim (cases_eq other index) [

@@ -54,7 +54,7 @@ module _ (at at' : ℕ → Row) (lost gone : ℕ → Bool) where
   pub Carries-none : Carries at at' lost gone [] []
   Carries-none = record { unfinished = λ register. refl; producer = λ register. refl }
 
--- where the list of indices stays, and no record leaves
+-- where the list of indices stays, and no station leaves
 module _ (capacity : ℕ) (indices : List ℕ) (old new : List Row) (producers : List (Option ℕ)) (waiting waiting' : ℕ) (lost : ℕ → Bool) where
   pub AreTables-changed : AreTables capacity indices old producers waiting → length new ≡ length old → Each (Changes (row_at old) (row_at new) lost none) indices →
       waiting' ≡ waiting_count (stations_at (row_at new) indices) → AreTables capacity indices new producers waiting'
@@ -75,7 +75,7 @@ module _ (capacity : ℕ) (indices : List ℕ) (old new : List Row) (producers :
         count = count;
       }
 
--- another mark on one record, which isn't done before nor behind
+-- another mark on one station, which isn't done before nor behind
 module _ (rows : List Row) (index : ℕ) (mark : Mark) (row : Row) (within : index < length rows) (is : row ≡ row_at rows index) where
   abbrev with_mark : Row
   with_mark = record row { mark = mark }
@@ -152,7 +152,7 @@ module _ {capacity : ℕ} {indices : List ℕ} {rows : List Row} {producers : Li
     pub seen-written : seen capacity indices new_rows ≡ record w { stations = marked index next w.stations }
     seen-written = seen-marked new_rows each_marked
 
-    -- neither mark is that of a done record
+    -- neither mark is that of a done station
     keeps_written : is_done next ≡ is_done mark → (waiting' : ℕ) → waiting' ≡ waiting_count (stations_at (row_at new_rows) indices) → AreTables capacity indices new_rows producers waiting'
     keeps_written alike waiting' count =
         let here = held_with index mark before in
@@ -201,7 +201,7 @@ done_or true Done = refl
 done_or true Faulted = refl
 done_or false mark = or_false (is_done mark)
 
--- a record is done, and none waits for it any more
+-- a station is done, and none waits for it any more
 module _ {capacity : ℕ} {indices : List ℕ} {rows : List Row} {producers : List (Option ℕ)} {waiting : ℕ} (keeps : AreTables capacity indices rows producers waiting) {w : Window} (is_seen : seen capacity indices rows ≡ w) (index : ℕ) (before : mark_of index w.stations ≡ Some Issued) (row : Row) (read : row ≡ get_or rows index row) (freed : List Row) (each : EachChanges (Releases index) (slice_set rows index (record row { mark = Done })) freed) where
   inside : index < length rows
   inside = (held_with keeps is_seen index Issued before).0

@@ -1,4 +1,4 @@
--- The oldest record retires, or the youngest is cut.
+-- The oldest station retires, or the youngest is cut.
 use Rattle.std.proofs.Common.{◌≡◌, ◌≢◌, ℕ, ◌+◌, ◌-◌, ◌<◌, ◌≤◌, ◌==◌, ◌||◌, Bool, true, false, if◌then◌else◌, Option, Some, None, List, [], ◌∷◌, ◌++◌, length, take, drop, get_or, reverse, refl, ap, sym, ◌∙◌, inl, inr, arith, eq-eqb, subst}
 use Rattle.std.specs.Prelude.{slice_get, option_map}
 use Rattle.std.proofs.lemmas.Bool.{cases_eq, ne_eqb, eqb-true, both_ways}
@@ -130,7 +130,7 @@ without-other index (Some producer) other = elim (cases_eq producer index) [
   | inr differ ↦ rw (ne_eqb producer index differ) refl
 ]
 
--- the oldest record is lost to those that waited for it, and no producer any more
+-- the oldest station is lost to those that waited for it, and no producer any more
 lost_oldest : (is done : Bool) (index : ℕ) → None ≡ dropped (one index) (if is then (if done then None else Some index) else None)
 lost_oldest true true index = refl
 lost_oldest true false index = rw (eq-eqb index index refl) refl

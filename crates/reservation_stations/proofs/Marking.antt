@@ -1,4 +1,4 @@
--- Another mark on one record.
+-- Another mark on one station.
 use Rattle.std.proofs.Common.{◌≡◌, ◌≢◌, ℕ, ◌+◌, ◌<◌, ◌==◌, Bool, true, false, if◌then◌else◌, Option, Some, None, List, [], ◌∷◌, length, refl, ap, sym, ◌∙◌, inl, inr, arith, eq-eqb, subst}
 use Rattle.std.specs.Prelude.{slice_set, option_map}
 use Rattle.std.proofs.lemmas.Bool.{cases_eq, ne_eqb}
@@ -21,7 +21,7 @@ row_at-set rows index row within other = elim (cases_eq other index) [
   | inr differ ↦ rw (ne_eqb other index differ) (get_or-set_other rows index other row free_row differ)
 ]
 
--- the mark of a record that holds an index is the row's
+-- the mark of a station that holds an index is the row's
 pub with_mark_of : (o : Option Station) (mark : Mark) → option_map (λ (station : Station). station.mark) o ≡ Some mark →
     (station : Station) × (o ≡ Some station) × (station.mark ≡ mark)
 with_mark_of None mark is = absurd cc
@@ -35,7 +35,7 @@ mark_of-held at P indices index mark each is =
     (held.0, sym (ap (λ (station : Station). station.mark) held.1) ∙ found.2)
 
 module _ (at at' : ℕ → Row) where
-  -- records that stay
+  -- stations that stay
   pub record Stays (index : ℕ) : Type 0 where
     pub first : (at' index).first ≡ (at index).first
     pub second : (at' index).second ≡ (at index).second
@@ -47,14 +47,14 @@ module _ (at at' : ℕ → Row) where
   stations_at-same (index ∷ indices) each =
       λ i. record { index = index; first = each.0.first i; second = each.0.second i; destination = each.0.destination i; mark = each.0.mark i } ∷ stations_at-same indices each.1 i
 
-  -- records of which as many wait
+  -- stations of which as many wait
   pub waiting_count-same : (indices : List ℕ) → Each (λ index. is_waiting (at' index).mark ≡ is_waiting (at index).mark) indices →
       waiting_count (stations_at at' indices) ≡ waiting_count (stations_at at indices)
   waiting_count-same [] each = refl
   waiting_count-same (index ∷ indices) each = λ i. (if each.0 i then 1 else 0) + waiting_count-same indices each.1 i
 
   module _ (index : ℕ) (next : Mark) where
-    -- one record with another mark
+    -- one station with another mark
     pub record Marks (other : ℕ) : Type 0 where
       pub first : (at' other).first ≡ (at other).first
       pub second : (at' other).second ≡ (at other).second
@@ -81,7 +81,7 @@ module _ (at at' : ℕ → Row) where
     waiting_count-apart (other ∷ indices) apart each =
         λ i. (if waits_alike other apart.0 each.0 i then 1 else 0) + waiting_count-apart indices apart.1 each.1 i
 
-    -- where the marked record waited and no longer does, one fewer waits
+    -- where the marked station waited and no longer does, one fewer waits
     pub waiting_count-one_less : (indices : List ℕ) → AreDistinct indices → Each Marks indices → is_waiting next ≡ false → is_waiting (at index).mark ≡ true →
         (station : Station) → station_of index (stations_at at indices) ≡ Some station →
         waiting_count (stations_at at' indices) + 1 ≡ waiting_count (stations_at at indices)

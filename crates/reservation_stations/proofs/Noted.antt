@@ -1,4 +1,4 @@
--- Who depends on an index: rows that are passed over know it not, and changes keep the others covered.
+-- Which rows depend on an index: those that are passed over don't know it, and changes keep the others covered.
 use Rattle.std.proofs.Common.{◌≡◌, ◌≢◌, ◌⊎◌, ℕ, ◌+◌, ◌<◌, ◌≤◌, ◌==◌, ◌||◌, ◌&&◌, not, Bool, true, false, if◌then◌else◌, Option, Some, None, List, length, get_or, refl, ap, sym, ◌∙◌, subst, inl, inr, arith, eq-eqb}
 use Rattle.std.specs.Prelude.{slice_set}
 use Rattle.std.proofs.lemmas.Bool.{cases_eq, cases_lt, ne_eqb, eqb-true}
@@ -14,7 +14,7 @@ use Rattle.reservation_stations.specs.AreTables.{row_at, free_row}
 use Rattle.reservation_stations.specs.Changes.{without, Releases, Forgets, EachChanges}
 use Rattle.reservation_stations.specs.Covers.{AreCovered, Notes, dependents_of, no_indices}
 
--- those below an bound have changed, and the others stand as they were
+-- those below a bound have changed, and the others stand as they were
 pub record PassedBelow (R : Row → Row → Type 0) (old new : List Row) (bound : ℕ) : Type 0 where
   pub every_index : length new ≡ length old
   pub below : (index : ℕ) → index < bound → index < length old → R (row_at old index) (row_at new index)
@@ -116,7 +116,7 @@ module _ (rows : List Row) (dependents : List Mask) (index : ℕ) (covers : AreC
         covers.displaced k other inside (sym (ap (λ (x : Row). x.displaced) e.kept) ∙ is);
   }
 
-  -- those in a mask that was read
+  -- those in the mask that was read
   module _ (mask : Mask) (read : mask ≡ get_or dependents index mask) (inside_index : index < length rows) where
     is_mask : mask ≡ dependents_of dependents index
     is_mask = get_or_read dependents index mask (omega (arith, inside_index, covers.every_index)) read no_indices

@@ -1,4 +1,4 @@
--- The places of the records that can begin and of those that execute, as the records change.
+-- The places of the stations that can begin and of those that execute, as the stations change.
 use Rattle.std.proofs.Common.{◌≡◌, ◌≢◌, ◌↔◌, ◌⊎◌, ℕ, zero, suc, ◌+◌, ◌-◌, ◌%◌, ◌<◌, ◌≤◌, ◌==◌, ◌&&◌, ◌||◌, not, Bool, true, false, if◌then◌else◌, Option, Some, None, IfNone, List, [], ◌∷◌, ◌++◌, length, get_or, refl, ap, sym, ◌∙◌, subst, inl, inr, arith, eq-eqb, length-append}
 use Rattle.std.specs.Prelude.{slice_get, slice_set, replicate}
 use Rattle.std.proofs.lemmas.Bool.{cases_eq, cases_lt, ne_eqb}
@@ -35,7 +35,7 @@ not_absent (other ∷ indices) (suc place) index there absent = not_absent indic
 same_index : (indices : List ℕ) (p q s t : ℕ) → p ≡ q → slice_get indices p ≡ Some s → slice_get indices q ≡ Some t → s ≡ t
 same_index indices p q s t same here there = same_Some s t (sym here ∙ ap (slice_get indices) same ∙ there)
 
--- one row is another one
+-- one row was written
 module _ (rows : List Row) (index : ℕ) (row : Row) where
   pub other_at : (s : ℕ) → s ≢ index → row_at (slice_set rows index row) s ≡ row_at rows s
   other_at s differ = get_or-set_other rows index s row free_row differ
@@ -43,14 +43,14 @@ module _ (rows : List Row) (index : ℕ) (row : Row) where
   pub mine_at : index < length rows → row_at (slice_set rows index row) index ≡ row
   mine_at inside = get_or-set_same rows index row free_row inside
 
-  -- with the same of something
+  -- where something of it stays
   kept_at : {X : Type 0} (f : Row → X) → index < length rows → f row ≡ f (row_at rows index) → (s : ℕ) → f (row_at (slice_set rows index row) s) ≡ f (row_at rows s)
   kept_at f inside same s = elim (cases_eq s index) [
     | inl is ↦ rw is (ap f (mine_at inside) ∙ same)
     | inr differ ↦ ap f (other_at s differ)
   ]
 
-  -- a row with the same turn and mark
+  -- where its turn and its mark stay
   pub turned_kept : (retired : ℕ) → index < length rows → row.turn ≡ (row_at rows index).turn → row.mark ≡ (row_at rows index).mark →
       (indices : List ℕ) → AreTurned retired indices rows → AreTurned retired indices (slice_set rows index row)
   turned_kept retired inside turn mark indices turned = record {
@@ -58,7 +58,7 @@ module _ (rows : List Row) (index : ℕ) (row : Row) where
     idle = λ s absent. ap is_waiting (kept_at (λ e. e.mark) inside mark s) ∙ turned.idle s absent;
   }
 
--- what waits stands in the list
+-- a row that waits stands in the list
 pub waits_in : (retired : ℕ) (indices : List ℕ) (rows : List Row) → AreTurned retired indices rows → (index : ℕ) → is_waiting (row_at rows index).mark ≡ true →
     (place : ℕ) × (slice_get indices place ≡ Some index)
 waits_in retired indices rows turned index waits = elim (find_place indices index) [
@@ -132,7 +132,7 @@ ready_on retired old mid new first second third one two = record {
 pub fewer_held : (was here now : Bool) → now ≡ (was && not here) → was ≡ false → now ≡ false
 fewer_held was here now is none = is ∙ ap (λ b. b && not here) none
 
--- a record that has a mark stands in the list
+-- a station that has a mark stands in the list
 pub marked_in : (at : ℕ → Row) (indices : List ℕ) (index : ℕ) (mark : Mark) → mark_of index (stations_at at indices) ≡ Some mark → (place : ℕ) × (slice_get indices place ≡ Some index)
 marked_in at indices index mark is = elim (find_place indices index) [
   | inl found ↦ found
@@ -142,7 +142,7 @@ marked_in at indices index mark is = elim (find_place indices index) [
 differs : (indices : List ℕ) (p q s t : ℕ) → slice_get indices p ≡ Some s → slice_get indices q ≡ Some t → s ≢ t → p ≢ q
 differs indices p q s t here there apart same = apart (same_index indices p q s t same here there)
 
--- one record changes, at its place
+-- one station changes, at its place
 module _ (retired : ℕ) (indices : List ℕ) (rows : List Row) (turned : AreTurned retired indices rows) (place index : ℕ) (there : slice_get indices place ≡ Some index) (row : Row) (inside : index < length rows) where
   turned_here : row.turn ≡ (row_at rows index).turn → AreTurned retired indices (slice_set rows index row)
   turned_here turn = record {
@@ -330,7 +330,7 @@ cut_placed retired index place front rows ready executing ready' executing' row 
       executes = holds_front IsIssued executing executing' placed.executes executing_is;
     }
 
--- a record enters behind the others
+-- a station enters behind the others
 pushed_at : (indices : List ℕ) (index p s : ℕ) → slice_get (indices ++ index ∷ []) p ≡ Some s → (slice_get indices p ≡ Some s) ⊎ ((p ≡ length indices) × (s ≡ index))
 pushed_at [] index zero s there = inr (refl, sym (same_Some index s there))
 pushed_at [] index (suc p) s there = absurd cc
@@ -414,7 +414,7 @@ none_on Q indices rows mask held None from upto all none = λ k behind. elim (ca
   | inr past ↦ not_true (holds mask k) (λ is. let w = held.within k is in omega (arith, w, past, all))
 ]
 
--- what stands for no record
+-- tables of no station
 pub Keeps_none : (capacity : ℕ) (row : Row) → capacity ≤ 256 → AreTables capacity [] (replicate capacity row) (replicate 256 None) 0
 Keeps_none capacity row limit = record {
   limit = limit;

@@ -1,4 +1,4 @@
--- What is read of the tables: producers, what is awaited of them, and whether a record waits for nothing.
+-- What is read of the tables: producers, what is awaited of them, and whether a station waits for nothing.
 use Rattle.std.proofs.Common.{◌≡◌, ◌≢◌, ◌↔◌, ℕ, zero, suc, ◌<◌, ◌==◌, ◌||◌, ◌&&◌, Bool, true, false, IsTrue, if◌then◌else◌, Option, Some, None, IfSome, IsSome, is_none, is_some, not, List, [], ◌∷◌, ◌++◌, length, take, get_or, reverse, refl, ap, sym, ◌∙◌, arith, eq-eqb, subst, inl, inr}
 use Rattle.std.specs.Prelude.{slice_get, option_map, All, AllPairs}
 use Rattle.std.proofs.lemmas.Bool.{both_ways, or_parts}
@@ -105,7 +105,7 @@ same_answers true t is to back = sym (to (is.0 refl))
 same_answers false true is to back = is.1 (back refl)
 same_answers false false is to back = refl
 
--- a row's mask is empty exactly where both its operands have a value
+-- a row waits for no index exactly where both operands of its station have a value
 pub empty-has_operands : (r : Bool) (older : List Station) (index : ℕ) (row : Row) → IsRow older row → IsTrue r ↔ ((k : ℕ) → waits_on row.waits k ≡ false) →
     r ≡ has_operands older (station_in index row)
 empty-has_operands r older index row is empty =
@@ -116,7 +116,7 @@ empty-has_operands r older index row is empty =
     (λ there k. is.waits k ∙ no_index_awaited a b there k)
     ∙ λ i. sym (has_operand-awaited older row.first) i && sym (has_operand-awaited older row.second) i
 
--- the older records at a place
+-- the older stations at a place
 pub older_than-at : (at : ℕ → Row) (indices : List ℕ) (place : ℕ) → older_than place (stations_at at indices) ≡ stations_at at (reverse (take place indices))
 older_than-at at indices place =
     ap reverse (take-map (λ index. station_in index (at index)) place indices) ∙ reverse-map (λ index. station_in index (at index)) (take place indices)
@@ -223,7 +223,7 @@ module _ {capacity : ℕ} {indices : List ℕ} {rows : List Row} {producers : Li
       let found = with_station (station_of index (stations_at (row_at rows) indices)) here in
       omega (arith, (station_of-held (row_at rows) (λ s. s < capacity) indices index found.0 keeps.within found.1).0, keeps.every_index)
 
-  -- the operands of the record at a place
+  -- the operands of the station at a place
   pub ready_seen : (place index : ℕ) (station : Station) (row : Row) (r : Bool) → slice_get w.stations place ≡ Some station → station.index ≡ index →
       row ≡ get_or rows index row → index < length rows → IsTrue r ↔ ((k : ℕ) → waits_on row.waits k ≡ false) →
       r ≡ has_operands (older_than place w.stations) station
@@ -243,13 +243,13 @@ module _ {capacity : ℕ} {indices : List ℕ} {rows : List Row} {producers : Li
       ap (λ d. if d then None else Some index) (sym done ∙ ap (λ (e : Row). is_done e.mark) (get_or_read rows index row inside read free_row))
       ∙ ap (still (row_at rows)) (sym found) ∙ awaited_seen source
 
-  -- whether the record at a place can begin
+  -- whether the station at a place can begin
   begins_at : (place index : ℕ) → slice_get indices place ≡ Some index →
       can_begin_at w.stations place ≡ (is_waiting (row_at rows index).mark && has_operands (older_than place w.stations) (station_in index (row_at rows index)))
   begins_at place index there =
       ap (can_begin (older_than place w.stations)) (station_seen place ∙ ap (option_map (λ s. station_in s (row_at rows s))) there)
 
-  -- whether the record at a place can begin, and whether it executes, by the sets of places
+  -- whether the station at a place can begin, and whether it executes, by the sets of places
   ready_by : (place index : ℕ) (r b : Bool) → slice_get indices place ≡ Some index → r ≡ true ↔ IsReady (row_at rows index) → is_waiting (row_at rows index).mark ≡ b →
       r ≡ (b && has_operands (older_than place w.stations) (station_in index (row_at rows index)))
   ready_by place index r true there ready waits =

@@ -8,7 +8,7 @@ use Rattle.reservation_stations.specs.Mask.{is_index}
 use Rattle.reservation_stations.specs.Waits.{waits_on}
 use Rattle.reservation_stations.specs.Readiness.{is_done, is_register, waiting_count}
 
--- an index that was never held
+-- the row of an index that was never held
 abbrev pub free_row : Row
 free_row = record {
   first = None;
@@ -20,20 +20,20 @@ free_row = record {
   turn = 0;
 }
 
--- what an index keeps
+-- the row of an index
 abbrev pub row_at : List Row → ℕ → Row
 row_at rows index = get_or rows index free_row
 
--- the record that a row keeps
+-- the station that a row keeps
 abbrev pub station_in : ℕ → Row → Station
 station_in index row =
     record { index = index; first = row.first; second = row.second; destination = row.destination; mark = row.mark }
 
--- the records that hold some indices
+-- the stations of some indices
 abbrev pub stations_at : (ℕ → Row) → List ℕ → List Station
 stations_at at indices = map (λ index. station_in index (at index)) indices
 
--- the index of a register's producer, the youngest of some older records that writes it. They stand youngest first.
+-- the index of a register's producer, the youngest of some older stations that writes it. They stand youngest first.
 abbrev pub producer : List Station → ℕ → Option ℕ
 producer [] register = None
 producer (station ∷ older) register =
@@ -55,7 +55,7 @@ abbrev pub awaited : List Station → Option ℕ → Option ℕ
 awaited older None = None
 awaited older (Some register) = unfinished older register
 
--- a row beside the records older than it
+-- a row beside the older stations, the youngest first
 pub record IsRow (older : List Station) (row : Row) : Type 0 where
   pub waits : (index : ℕ) → waits_on row.waits index ≡ (is_index index (awaited older row.first) || is_index index (awaited older row.second))
   pub displaced : row.displaced ≡ producer_of older row.destination

@@ -14,13 +14,13 @@ pub record Releases (index : ℕ) (old new : Row) : Type 0 where
   pub kept : record new { waits = old.waits } ≡ old
   pub waits : (other : ℕ) → waits_on new.waits other ≡ (waits_on old.waits other && not (other == index))
 
--- nor does it know it as the one that it displaced
+-- the row knows an index no more, neither as one that it waits for nor as the one that it displaced
 pub record Forgets (index : ℕ) (old new : Row) : Type 0 where
   pub kept : record new { waits = old.waits; displaced = old.displaced } ≡ old
   pub waits : (other : ℕ) → waits_on new.waits other ≡ (waits_on old.waits other && not (other == index))
   pub displaced : new.displaced ≡ without index old.displaced
 
--- each row changes so
+-- each row changes in this way
 pub record EachChanges (R : Row → Row → Type 0) (old new : List Row) : Type 0 where
   pub every_index : length new ≡ length old
   pub each_row : (index : ℕ) → index < length old → R (row_at old index) (row_at new index)

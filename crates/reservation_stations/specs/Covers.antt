@@ -1,4 +1,4 @@
--- Which rows may depend on the record in an index: at least those that wait for it and those that
+-- Which rows may depend on the station of an index: at least those that wait for it and those that
 -- displaced it.
 use Rattle.std.specs.Prelude.{◌≡◌, ◌≢◌, ℕ, ◌<◌, Bool, true, Option, Some, IfSome, List, [], ◌∷◌, length, get_or}
 use Rattle.reservation_stations.specs.declared.mask.Mask.{Mask}

@@ -5,12 +5,12 @@ use Rattle.reservation_stations.specs.declared.station.Mark.{Mark}
 use Rattle.reservation_stations.specs.declared.station.Mark.TheVariants.{Waiting, Issued, Done, Faulted}
 use Rattle.reservation_stations.specs.declared.station.Station.{Station}
 
--- how many indices there are, and the records of the instructions under way, the oldest first
+-- how many indices there are, and the stations of the instructions in the window, the oldest first
 pub record Window : Type 0 where
   pub capacity : ℕ
   pub stations : List Station
 
--- whether a record waits, and whether its destination has a value
+-- whether a station waits, and whether its destination has a value
 abbrev pub is_waiting : Mark → Bool
 is_waiting Waiting = true
 is_waiting Issued = false
@@ -28,8 +28,8 @@ abbrev pub is_register : ℕ → Option ℕ → Bool
 is_register register None = false
 is_register register (Some destination) = destination == register
 
--- Whether a register has a value: where an older record writes it, the youngest such record is done; else it is the
--- committed register, which has one. The older records stand youngest first.
+-- Whether a register has a value: where an older station writes it, the youngest such station is done; else it is the
+-- committed register, which has one. The older stations stand youngest first.
 abbrev pub has_written_value : List Station → ℕ → Bool
 has_written_value [] register = true
 has_written_value (station ∷ older) register =
@@ -40,15 +40,15 @@ abbrev pub has_operand : List Station → Option ℕ → Bool
 has_operand older None = true
 has_operand older (Some register) = has_written_value older register
 
--- whether both operands of a record have a value
+-- whether both operands of a station have a value
 abbrev pub has_operands : List Station → Station → Bool
 has_operands older station = has_operand older station.first && has_operand older station.second
 
--- the records older than the one at a place, the youngest first
+-- the stations older than the one at a place, the youngest first
 abbrev pub older_than : ℕ → List Station → List Station
 older_than place stations = reverse (take place stations)
 
--- whether the record at a place waits for nothing but a unit
+-- whether the station at a place waits for nothing but a unit
 abbrev pub can_begin : List Station → Option Station → Bool
 can_begin older None = false
 can_begin older (Some station) = is_waiting station.mark && has_operands older station
@@ -56,7 +56,7 @@ can_begin older (Some station) = is_waiting station.mark && has_operands older s
 abbrev pub can_begin_at : List Station → ℕ → Bool
 can_begin_at stations place = can_begin (older_than place stations) (slice_get stations place)
 
--- whether the record at a place executes
+-- whether the station at a place executes
 abbrev pub is_issued : Mark → Bool
 is_issued Waiting = false
 is_issued Issued = true
@@ -70,32 +70,32 @@ executes (Some station) = is_issued station.mark
 abbrev pub executes_at : List Station → ℕ → Bool
 executes_at stations place = executes (slice_get stations place)
 
--- the record that holds an index, and its mark
+-- the station that holds an index, and its mark
 abbrev pub station_of : ℕ → List Station → Option Station
 station_of index stations = find (λ station. station.index == index) stations
 
 abbrev pub mark_of : ℕ → List Station → Option Mark
 mark_of index stations = option_map (λ (station : Station). station.mark) (station_of index stations)
 
--- the indices of the oldest and of the youngest record
+-- the indices of the oldest and of the youngest station
 abbrev pub oldest_index : List Station → Option ℕ
 oldest_index stations = option_map (λ (station : Station). station.index) (slice_get stations 0)
 
 abbrev pub youngest_index : List Station → Option ℕ
 youngest_index stations = option_map (λ (station : Station). station.index) (slice_get stations (length stations - 1))
 
--- a record, and all of them, with another mark on the one that holds an index
+-- a station, and all of them, with another mark on the one that holds an index
 abbrev pub marked_if : ℕ → Mark → Station → Station
 marked_if index mark station = if station.index == index then record station { mark = mark } else station
 
 abbrev pub marked : ℕ → Mark → List Station → List Station
 marked index mark stations = map (marked_if index mark) stations
 
--- a record as it enters
+-- a station as it enters
 abbrev pub entered : ℕ → Option ℕ → Option ℕ → Option ℕ → Station
 entered index first second destination = record { index = index; first = first; second = second; destination = destination; mark = Waiting }
 
--- how many records wait
+-- how many stations wait
 abbrev pub waiting_count : List Station → ℕ
 waiting_count [] = 0
 waiting_count (station ∷ stations) = (if is_waiting station.mark then 1 else 0) + waiting_count stations

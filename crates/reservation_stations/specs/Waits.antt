@@ -1,4 +1,4 @@
--- What indices a record waits for.
+-- What indices a station waits for.
 use Rattle.std.specs.Prelude.{ℕ, ◌||◌, Bool}
 use Rattle.reservation_stations.specs.declared.waits.Waits.{Waits}
 use Rattle.reservation_stations.specs.Mask.{is_index}

@@ -1,4 +1,5 @@
-//! The reservation stations of the timing side: which instructions of the window wait for an operand, and which can begin.
+//! The reservation stations of the timing side: which instructions of the window wait for an
+//! operand, and which can begin.
 #![tactic(auto)]
 
 mod mask;

@@ -1,5 +1,6 @@
 //! A set of indices, or of places, in four words.
-ghost use Rattle.std.specs.Prelude.{◌≡◌, ◌+◌, ◌/◌, ◌%◌, ◌*◌, ◌^◌, ◌<◌, ◌≤◌, ◌==◌, ◌&&◌, ◌||◌, not, ℕ, IsTrue, false};
+ghost use Rattle.std.specs.Prelude.{◌≡◌, ◌+◌, ◌/◌, ◌%◌, ◌*◌, ◌^◌, ◌<◌, ◌≤◌, ◌==◌, ◌&&◌, ◌||◌, not};
+ghost use Rattle.std.specs.Prelude.{ℕ, IsTrue, false};
 ghost use Rattle.std.specs.Prelude.{IfSome, IfNone};
 ghost use Rattle.std.specs.Int.{bit_at};
 ghost use Rattle.reservation_stations.specs.Mask.{holds};
@@ -11,7 +12,7 @@ pub struct Mask {
 }
 
 impl Mask {
-    /// No index.
+    /// The empty set.
     pub fn none() -> Mask
         ensures none { (index : ℕ) → holds result index ≡ false }
     {
@@ -21,7 +22,8 @@ impl Mask {
     /// Puts an index into the set.
     pub fn insert(&mut self, index: u32)
         requires within { index < 256 }
-        ensures inserted { (other : ℕ) → holds self.new other ≡ (holds self.old other || (other == index)) }
+        ensures inserted { (other : ℕ)
+            → holds self.new other ≡ (holds self.old other || (other == index)) }
     {
         self.words[(index / 64) as usize] |= 1 << (index % 64);
     }
@@ -29,12 +31,13 @@ impl Mask {
     /// Takes an index out of the set.
     pub fn remove(&mut self, index: u32)
         requires within { index < 256 }
-        ensures removed { (other : ℕ) → holds self.new other ≡ (holds self.old other && not (other == index)) }
+        ensures removed { (other : ℕ)
+            → holds self.new other ≡ (holds self.old other && not (other == index)) }
     {
         self.words[(index / 64) as usize] &= !(1 << (index % 64));
     }
 
-    /// Takes the lowest place out of the set, and lets all others be one lower.
+    /// Takes place 0 out of the set, if it is there, and lets all others be one lower.
     pub fn shift(&mut self)
         ensures shifted { (place : ℕ) → holds self.new place ≡ holds self.old (place + 1) }
     {
@@ -47,7 +50,7 @@ impl Mask {
         ];
     }
 
-    /// The first index in the set from one on, looked for up to another one.
+    /// The first in the set from `from` on, and None where there is none below `upto`.
     pub fn next(&self, from: u32, upto: u32) -> Option<u32>
         requires few { upto ≤ 256 }
         ensures behind { IfSome result (λ index. (from ≤ index) × (index < 256)) }

@@ -1,7 +1,7 @@
 use crate::station::Mark;
 use crate::waits::Waits;
 
-/// What an index of the window keeps of the record that holds it.
+/// What an index of the window keeps of the station that holds it.
 #[derive(Clone, Copy, Debug, PartialEq, Eq)]
 pub struct Row {
     pub first: Option<u8>,
@@ -10,9 +10,9 @@ pub struct Row {
     pub mark: Mark,
     /// The indices that it still waits for: the producers of its sources that aren't done.
     pub waits: Waits,
-    /// The index that was its destination's producer before it, while that record stands in the window.
+    /// The index that was its destination's producer before it, until that one retires.
     pub displaced: Option<u32>,
-    /// Its place plus how many records retired, modulo 256.
+    /// Its place plus how many stations retired, modulo 256.
     pub turn: u8,
 }
 
@@ -23,7 +23,7 @@ impl Row {
     ghost use Rattle.reservation_stations.specs.Changes.{Releases, Forgets};
     ghost use Rattle.reservation_stations.specs.Places.{IsReady, place_in};
 
-    /// That of an index that no record held yet.
+    /// The row of an index that no station held yet.
     pub fn free() -> Row
         ensures free { result ≡ free_row }
     {
@@ -41,14 +41,14 @@ impl Row {
         }
     }
 
-    /// Whether its record waits for nothing but a unit.
+    /// Whether its station waits for nothing but a unit.
     pub fn is_ready(&self) -> bool
         ensures ready { IsTrue result ↔ IsReady self.now }
     {
         self.mark.is_waiting() && self.waits.is_empty()
     }
 
-    /// The place of its record, where so many retired.
+    /// The place of its station, where so many retired.
     pub fn place(&self, retired: u8) -> u32
         ensures place { result ≡ place_in retired self.now }
         ensures within { result < 256 }
@@ -56,14 +56,15 @@ impl Row {
         u32::from(self.turn.wrapping_sub(retired))
     }
 
-    /// Waits no longer for an index.
+    /// Its station waits no longer for an index.
     pub fn release(&mut self, index: u32)
         ensures released { Releases index self.old self.new }
     {
         self.waits.remove(index);
     }
 
-    /// Waits no longer for an index whose record leaves the window, and puts it back no more.
+    /// Its station waits no longer for an index whose own retires, and knows it no more as the one
+    /// that it displaced.
     pub fn forget(&mut self, index: u32)
         ensures forgotten { Forgets index self.old self.new }
     {

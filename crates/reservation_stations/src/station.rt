@@ -30,10 +30,12 @@ impl Mark {
     }
 }
 
-/// What the window knows of one instruction in it: the index that it holds, its registers by number, and its mark.
+/// What the reservation stations keep of an instruction in the window: its index, its registers by
+/// number, and its mark.
 #[derive(Clone, Copy, Debug, PartialEq, Eq)]
 pub struct Station {
-    /// Its place in the tables of the window, from its entering to its leaving.
+    /// Where it stands in the tables, from its entering to its leaving: the index of its slot in
+    /// the window.
     pub index: u32,
     /// The register of its first operand, if it reads one.
     pub first: Option<u8>,

@@ -8,27 +8,28 @@ use fsim_base::NoMemory;
 use std::alloc::Global;
 use std::marker::Model;
 
-/// The instructions of the window that are under way, the oldest first, and which of them wait for an operand.
+/// The instructions of the window that are under way, the oldest first, and which of them wait for
+/// an operand.
 ///
-/// Each register is renamed to its producer, the youngest record in the window that writes it. A record waits for the
-/// producers of its sources that weren't done when it entered, until they wake it or leave the window.
+/// Each register is renamed to its producer, the youngest station that writes it. A station waits
+/// for the producers of its sources that weren't done when it entered, until they wake it or leave.
 #[derive(Debug, Drop)]
 pub struct Stations {
-    /// The indices of the records, the oldest first.
+    /// The indices of the stations, the oldest first.
     order: HeapCircularBuffer<u32>,
-    /// What each index keeps of the record that holds it.
+    /// What each index keeps of the station that holds it.
     rows: Vec<Row>,
-    /// For each index, at least those whose records wait for its record or displaced it.
+    /// For each index, at least those whose stations wait for its own or displaced it.
     dependents: Vec<Mask>,
     /// The index of each register's producer, where it has one.
     producers: Vec<Option<u32>>,
-    /// How many records wait.
+    /// How many wait.
     waiting: u32,
-    /// The places of the records that wait for nothing but a unit.
+    /// The places of the stations that wait for nothing but a unit.
     ready: Mask,
-    /// The places of those that execute.
+    /// The places of the stations that execute.
     executing: Mask,
-    /// How many records retired, modulo 256.
+    /// How many stations retired, modulo 256.
     retired: u8,
 }
 
@@ -49,12 +50,19 @@ impl Model for Stations {
 }
 
 impl Stations {
-    ghost use Rattle.std.specs.Prelude.{◌≡◌, ◌≢◌, ◌↔◌, ◌<◌, ◌≤◌, ◌-◌, ◌++◌, ◌∷◌, [], ℕ, false, length, reverse, take, drop, slice_get, All, AllPairs, IsTrue, IsSome, IsNone, IfSome, IfNone, IfOk, if◌then◌else◌};
-    ghost use Rattle.reservation_stations.specs.Readiness.{Window, station_of, mark_of, oldest_index, youngest_index, older_than, has_operands, can_begin_at, executes_at, marked, entered, waiting_count};
+    ghost use Rattle.std.specs.Prelude.{◌≡◌, ◌≢◌, ◌↔◌, ◌<◌, ◌≤◌, ◌-◌, ◌++◌, ◌∷◌, [], ℕ, false};
+    ghost use Rattle.std.specs.Prelude.{length, reverse, take, drop, slice_get, All, AllPairs};
+    ghost use Rattle.std.specs.Prelude.{IsTrue, IsSome, IsNone, IfSome, IfNone, IfOk};
+    ghost use Rattle.std.specs.Prelude.{if◌then◌else◌};
+    ghost use Rattle.reservation_stations.specs.Readiness.{Window, station_of, mark_of};
+    ghost use Rattle.reservation_stations.specs.Readiness.{oldest_index, youngest_index};
+    ghost use Rattle.reservation_stations.specs.Readiness.{older_than, has_operands, can_begin_at};
+    ghost use Rattle.reservation_stations.specs.Readiness.{executes_at, marked, entered};
+    ghost use Rattle.reservation_stations.specs.Readiness.{waiting_count};
     ghost use Rattle.reservation_stations.specs.AreTables.{producer_of, awaited};
     ghost use Rattle.reservation_stations.specs.declared.station.Station.{Station};
 
-    /// Stations of a window of so many indices, which no record holds. They take their memory here and none later.
+    /// No stations, with so many indices. All memory is taken here, and none later.
     pub fn new(alloc: Global, capacity: u32) -> Result<Stations, NoMemory>
         requires limit { capacity ≤ 256 }
         ensures empty { IfOk result (λ it. it ≡ record { capacity = capacity; stations = [] }) }
@@ -83,7 +91,7 @@ impl Stations {
         })
     }
 
-    /// How many records there are.
+    /// How many stations there are.
     pub fn len(&self) -> u32
         ensures count { result ≡ length self.now.stations }
         ensures room { length self.now.stations ≤ self.now.capacity }
@@ -94,14 +102,14 @@ impl Stations {
         self.order.len() as u32
     }
 
-    /// How many records wait.
+    /// How many stations wait.
     pub fn waiting(&self) -> u32
         ensures count { result ≡ waiting_count self.now.stations }
     {
         self.waiting
     }
 
-    /// The index of the youngest record that writes a register, if one is given.
+    /// The index of the youngest station that writes a register, if one is given.
     fn producer(&self, register: Option<u8>) -> Option<u32>
         ensures producer { result ≡ producer_of (reverse self.now.stations) register }
         ensures within { IfSome result (λ index. index < self.now.capacity) }
@@ -110,7 +118,7 @@ impl Stations {
         self.producers[register as usize]
     }
 
-    /// The index whose record has yet to give the value of a source.
+    /// The index of the station that has yet to give the value of a source, if one has.
     fn awaited(&self, source: Option<u8>) -> Option<u32>
         ensures awaited { result ≡ awaited (reverse self.now.stations) source }
         ensures within { IfSome result (λ index. index < self.now.capacity) }
@@ -123,7 +131,7 @@ impl Stations {
         }
     }
 
-    /// Appends the record of an instruction, which waits, in an index that no record holds.
+    /// Appends the station of an instruction, which waits, at an index that no station holds.
     pub fn enter(&mut self, index: u32, sources: (Option<u8>, Option<u8>), destination: Option<u8>)
         requires within { index < self.old.capacity }
         requires free { IsNone (station_of index self.old.stations) }
@@ -155,7 +163,7 @@ impl Stations {
         self.waiting += 1;
     }
 
-    /// Whether both operands of the record that holds an index have a value.
+    /// Whether both operands of the station that holds an index have a value.
     pub fn ready(&self, index: u32) -> bool
         requires held { IsSome (station_of index self.now.stations) }
         ensures ready { (place : ℕ) (station : Station) →
@@ -166,7 +174,7 @@ impl Stations {
         held.waits.is_empty()
     }
 
-    /// Lets a record that waits execute.
+    /// Lets a station that waits execute.
     pub fn issue(&mut self, index: u32)
         requires waiting { mark_of index self.old.stations ≡ Some Mark.Waiting }
         ensures issued { self.new ≡ record self.old {
@@ -180,7 +188,8 @@ impl Stations {
         self.waiting -= 1;
     }
 
-    /// Ends the execution of a record, with a fault or without. Without one, its destination has a value from now on.
+    /// Ends the execution of a station, with a fault or without. Without one, its destination has a
+    /// value from now on.
     pub fn wake(&mut self, index: u32, faulted: bool)
         requires issued { mark_of index self.old.stations ≡ Some Mark.Issued }
         ensures woken { self.new ≡ record self.old {
@@ -203,7 +212,8 @@ impl Stations {
         }
     }
 
-    /// Removes the oldest record, whose index is given. Those that waited for it take the committed register.
+    /// Removes the oldest station, whose index is given. Those that waited for it take the
+    /// committed register.
     pub fn retire(&mut self, index: u32)
         requires oldest { oldest_index self.old.stations ≡ Some index }
         ensures retired { self.new ≡ record self.old { stations = drop 1 self.old.stations } }
@@ -230,7 +240,7 @@ impl Stations {
         self.retired = self.retired.wrapping_add(1);
     }
 
-    /// Removes the youngest record, whose index is given.
+    /// Removes the youngest station, whose index is given.
     pub fn cut(&mut self, index: u32)
         requires youngest { youngest_index self.old.stations ≡ Some index }
         ensures cut { self.new ≡ record self.old {
@@ -252,7 +262,8 @@ impl Stations {
         self.waiting = uncounted(self.waiting, mark);
     }
 
-    /// The place in the list of the first record from a place on that waits and whose operands have values.
+    /// The place in the list of the first station from a place on that waits and whose operands
+    /// have values.
     pub fn choose(&self, from: u32) -> Option<u32>
         ensures behind { IfSome result (λ place. from ≤ place) }
         ensures found { IfSome result (λ place. IsTrue (can_begin_at self.now.stations place)) }
@@ -263,7 +274,7 @@ impl Stations {
         self.ready.next(from, self.order.len() as u32)
     }
 
-    /// The place in the list of the first record from a place on that executes.
+    /// The place in the list of the first station from a place on that executes.
     pub fn executing(&self, from: u32) -> Option<u32>
         ensures behind { IfSome result (λ place. from ≤ place) }
         ensures found { IfSome result (λ place. IsTrue (executes_at self.now.stations place)) }

@@ -2,7 +2,8 @@
 ghost use Rattle.std.specs.Prelude.{◌≡◌, ◌<◌, ◌≤◌, ◌+◌, vec_len, if◌then◌else◌};
 ghost use Rattle.std.specs.Option.{ForSome};
 ghost use Rattle.reservation_stations.specs.Readiness.{is_waiting};
-ghost use Rattle.reservation_stations.specs.Changes.{Releases, Forgets, EachChanges, without, with_producer, producer_at};
+ghost use Rattle.reservation_stations.specs.Changes.{Releases, Forgets, EachChanges, without};
+ghost use Rattle.reservation_stations.specs.Changes.{with_producer, producer_at};
 ghost use Rattle.reservation_stations.specs.Covers.{AreCovered, Notes};
 ghost use Rattle.reservation_stations.specs.Places.{KeepsReady, NotesReady};
 
@@ -21,8 +22,9 @@ pub fn note(dependents: &mut Vec<Mask>, on: Option<u32>, index: u32)
     }
 }
 
-/// Lets every row wait no longer for an index, and puts the places of those that wait for nothing else
-/// into the ready ones, where so many records retired. Those that depend on it are the only ones that may.
+/// Lets every row wait no longer for an index, and puts the places of those that wait for nothing
+/// else into the ready ones, where so many stations retired. Only those that depend on it wait for
+/// it.
 pub fn release(
     rows: &mut Vec<Row>,
     ready: &mut Mask,
@@ -50,9 +52,9 @@ pub fn release(
     }
 }
 
-/// Lets every row forget an index whose record leaves the window, and puts the places of those that wait
-/// for nothing else into the ready ones, where so many records retired before. Those that depend on it are
-/// the only ones that know it.
+/// Lets every row forget an index whose station retires, and puts the places of those that wait for
+/// nothing else into the ready ones, where so many stations retired before. Only those that depend
+/// on it know it.
 pub fn forget(
     rows: &mut Vec<Row>,
     ready: &mut Mask,
@@ -80,8 +82,8 @@ pub fn forget(
     }
 }
 
-/// Puts the place of a row's record, where so many retired, into the ready ones, if it waits for nothing
-/// but a unit.
+/// Puts the place of a row's station, where so many retired, into the ready ones, if it waits for
+/// nothing but a unit.
 pub fn note_ready(ready: &mut Mask, row: &Row, retired: u8)
     ensures noted { NotesReady retired row.now ready.old ready.new }
 {
@@ -100,7 +102,7 @@ pub fn set_producer(producers: &mut Vec<Option<u32>>, register: Option<u8>, inde
     }
 }
 
-/// Makes a register, if one is given, have no producer where an index is its producer.
+/// Makes a register, if one is given, have no producer, where this index is its producer.
 pub fn drop_producer(producers: &mut Vec<Option<u32>>, register: Option<u8>, index: u32)
     requires every_register { vec_len producers.old ≡ 256 }
     ensures dropped { producers.new.items ≡
@@ -113,7 +115,7 @@ pub fn drop_producer(producers: &mut Vec<Option<u32>>, register: Option<u8>, ind
     }
 }
 
-/// How many records wait once one with this mark is gone.
+/// How many stations wait once one with this mark is gone.
 pub fn uncounted(waiting: u32, mark: Mark) -> u32
     requires counted { (if is_waiting mark then 1 else 0) ≤ waiting }
     ensures left { result + (if is_waiting mark then 1 else 0) ≡ waiting }

@@ -11,7 +11,8 @@ fn seen(stations: &Stations) -> (u32, Option<u32>, Option<u32>) {
     (stations.waiting(), first, second)
 }
 
-/// `lw x5, 0(x1)`, `add x6, x5, x2` and `lw x6, 0(x3)`; the last is cut, and `sw x6, 0(x5)` follows. The addition faults.
+/// `lw x5, 0(x1)`, `add x6, x5, x2` and `lw x6, 0(x3)`; the last is cut, and `sw x6, 0(x5)`
+/// follows. The addition faults.
 #[test]
 fn a_source_waits_for_its_youngest_older_writer(rt: HostRuntime) -> Result<(), Fail> {
     let mut stations = Stations::new(rt.alloc(), 4)?;

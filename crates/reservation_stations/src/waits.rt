@@ -1,9 +1,9 @@
-//! The indices that one record waits for.
+//! The indices that one station waits for.
 ghost use Rattle.std.specs.Prelude.{◌≡◌, ◌↔◌, ◌==◌, ◌&&◌, not, ℕ, IsTrue, false};
 ghost use Rattle.reservation_stations.specs.Waits.{waits_on};
 ghost use Rattle.reservation_stations.specs.Changes.{without};
 
-/// The indices that a record waits for: those of its sources' producers that aren't done.
+/// The indices that a station waits for: those of its sources' producers that aren't done.
 #[derive(Clone, Copy, Debug, PartialEq, Eq)]
 pub struct Waits {
     pub first: Option<u32>,
@@ -13,7 +13,8 @@ pub struct Waits {
 impl Waits {
     /// Waits no longer for an index.
     pub fn remove(&mut self, index: u32)
-        ensures removed { (other : ℕ) → waits_on self.new other ≡ (waits_on self.old other && not (other == index)) }
+        ensures removed { (other : ℕ)
+            → waits_on self.new other ≡ (waits_on self.old other && not (other == index)) }
     {
         self.first = without(self.first, index);
         self.second = without(self.second, index);

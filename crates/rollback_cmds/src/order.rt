@@ -5,8 +5,8 @@ pub const ORDER_ROOM: usize = 64;
 
 /// An order to the functional side. `n` is the number of an instruction along its path.
 ///
-/// Each order but [`Order::Commit`] takes the functional side to instruction `n`, whatever it had done
-/// from there on, and opens a new epoch: entries made before it are of no use any more.
+/// Each order but [`Order::Commit`] takes the functional side to instruction `n`, whatever it had
+/// done from there on, and opens a new epoch: entries made before it are of no use any more.
 #[derive(Clone, Copy, Debug, PartialEq, Eq)]
 pub enum Order {
     /// Instruction `n` stands at `addr`: a wrong path is entered or left.

@@ -9,8 +9,8 @@ use crate::field::{
 };
 use crate::insn::Insn;
 
-/// The instruction that a word spells: the row of the instruction table whose fixed bits the word has,
-/// with the word's fields. None where no row has them, that is, where the word is illegal.
+/// The instruction that a word spells: the row of the instruction table whose fixed bits the word
+/// has, with the word's fields. None where no row has them, that is, where the word is illegal.
 #[tactic(auto, unfolding(crate::specs::Decode::decode_of, crate::specs::Table::table))]
 pub fn decode(word: u32) -> Option<Insn>
     ensures row { result ≡ decode_of word }
@@ -53,7 +53,7 @@ pub fn one_row()
 
 #[tactic(auto, unfolding(crate::specs::Decode::decode_of, crate::specs::Table::table))]
 fn jalr(word: u32) -> Option<Insn>
-    requires { bits_of word 6 0 ≡ 0x67 }
+    requires opcode { bits_of word 6 0 ≡ 0x67 }
     ensures row { result ≡ decode_of word }
 {
     match funct3(word) {
@@ -68,7 +68,7 @@ fn jalr(word: u32) -> Option<Insn>
 
 #[tactic(auto, unfolding(crate::specs::Decode::decode_of, crate::specs::Table::table))]
 fn branch(word: u32) -> Option<Insn>
-    requires { bits_of word 6 0 ≡ 0x63 }
+    requires opcode { bits_of word 6 0 ≡ 0x63 }
     ensures row { result ≡ decode_of word }
 {
     match funct3(word) {
@@ -84,7 +84,7 @@ fn branch(word: u32) -> Option<Insn>
 
 #[tactic(auto, unfolding(crate::specs::Decode::decode_of, crate::specs::Table::table))]
 fn load(word: u32) -> Option<Insn>
-    requires { bits_of word 6 0 ≡ 0x03 }
+    requires opcode { bits_of word 6 0 ≡ 0x03 }
     ensures row { result ≡ decode_of word }
 {
     match funct3(word) {
@@ -100,7 +100,7 @@ fn load(word: u32) -> Option<Insn>
 
 #[tactic(auto, unfolding(crate::specs::Decode::decode_of, crate::specs::Table::table))]
 fn store(word: u32) -> Option<Insn>
-    requires { bits_of word 6 0 ≡ 0x23 }
+    requires opcode { bits_of word 6 0 ≡ 0x23 }
     ensures row { result ≡ decode_of word }
 {
     match funct3(word) {
@@ -117,7 +117,7 @@ fn store(word: u32) -> Option<Insn>
 /// A register with an immediate. The amount of a shift stands in the place of rs2.
 #[tactic(auto, unfolding(crate::specs::Decode::decode_of, crate::specs::Table::table))]
 fn op_imm(word: u32) -> Option<Insn>
-    requires { bits_of word 6 0 ≡ 0x13 }
+    requires opcode { bits_of word 6 0 ≡ 0x13 }
     ensures row { result ≡ decode_of word }
 {
     let kind = funct3(word);
@@ -139,7 +139,7 @@ fn op_imm(word: u32) -> Option<Insn>
 /// Two registers.
 #[tactic(auto, unfolding(crate::specs::Decode::decode_of, crate::specs::Table::table))]
 fn op(word: u32) -> Option<Insn>
-    requires { bits_of word 6 0 ≡ 0x33 }
+    requires opcode { bits_of word 6 0 ≡ 0x33 }
     ensures row { result ≡ decode_of word }
 {
     match (funct3(word), funct7(word)) {
@@ -169,7 +169,7 @@ fn op(word: u32) -> Option<Insn>
 
 #[tactic(auto, unfolding(crate::specs::Decode::decode_of, crate::specs::Table::table))]
 fn fence(word: u32) -> Option<Insn>
-    requires { bits_of word 6 0 ≡ 0x0f }
+    requires opcode { bits_of word 6 0 ≡ 0x0f }
     ensures row { result ≡ decode_of word }
 {
     match funct3(word) {
@@ -186,7 +186,7 @@ fn fence(word: u32) -> Option<Insn>
 /// CSR instructions, and the four whole words.
 #[tactic(auto, unfolding(crate::specs::Decode::decode_of, crate::specs::Table::table))]
 fn system(word: u32) -> Option<Insn>
-    requires { bits_of word 6 0 ≡ 0x73 }
+    requires opcode { bits_of word 6 0 ≡ 0x73 }
     ensures row { result ≡ decode_of word }
 {
     match (funct3(word), word) {

@@ -6,7 +6,8 @@ ghost use Rattle.rv_decode.specs.Fits.{Fits};
 use crate::insn::Insn;
 use fsim_base::bits;
 
-/// The word that spells an instruction: `decode` gives the instruction back, and no other word does.
+/// The word that spells an instruction: `decode` gives the instruction back, and no other word
+/// does.
 #[tactic(auto, using(crate::proofs::RoundTrip::encoded_decoded, crate::proofs::Kept::decoded_encoded), unfolding(crate::specs::Encode::encode_of))]
 pub fn encode(insn: Insn) -> u32
     requires fits { Fits insn }

@@ -2,7 +2,8 @@
 
 ghost use Rattle.std.specs.Prelude.{◌≡◌};
 ghost use Rattle.fsim_base.specs.Number.{bits_of};
-ghost use Rattle.rv_decode.specs.Field.{rd_of, rs1_of, rs2_of, upper_of, i_immediate, s_immediate, b_immediate, u_immediate, j_immediate};
+ghost use Rattle.rv_decode.specs.Field.{rd_of, rs1_of, rs2_of, upper_of, i_immediate, s_immediate};
+ghost use Rattle.rv_decode.specs.Field.{b_immediate, u_immediate, j_immediate};
 
 use fsim_base::{bits, sign_extend};
 

@@ -4,10 +4,11 @@ ghost use Rattle.rv_decode.specs.Fits.{Fits};
 
 use fsim_base::{Class, Flow, sign_extend};
 
-/// An instruction of RV32IM with Zicsr, FENCE.I and machine mode's MRET and WFI, as its word's fields say.
+/// An instruction of RV32IM with Zicsr, FENCE.I and machine mode's MRET and WFI, as its word's
+/// fields say.
 ///
-/// `rd`, `rs1` and `rs2` are register numbers, `kind` is the field funct3 and `imm` the immediate of the
-/// instruction's format, sign-extended to 32 bits (RISC-V unprivileged manual, section 2.3).
+/// `rd`, `rs1` and `rs2` are register numbers, `kind` is the field funct3 and `imm` the immediate
+/// of the instruction's format, sign-extended to 32 bits (RISC-V unprivileged manual, section 2.3).
 #[derive(Clone, Copy, Debug, PartialEq, Eq)]
 pub enum Insn {
     /// `imm` has the immediate in its upper 20 bits.
@@ -80,7 +81,8 @@ pub enum Insn {
     Ebreak,
     Mret,
     Wfi,
-    /// `csr` is the register's address; in the immediate forms (`kind` 5 to 7) `rs1` is the immediate.
+    /// `csr` is the register's address; in the immediate forms (`kind` 5 to 7) `rs1` is the
+    /// immediate.
     Csr {
         kind: u8,
         rd: u8,
@@ -107,7 +109,8 @@ impl Insn {
         }
     }
 
-    /// What a predictor may learn from the instruction: branches are `Branch`; JAL, JALR and MRET are `Jump`.
+    /// What a predictor may learn from the instruction: branches are `Branch`; JAL, JALR and MRET
+    /// are `Jump`.
     pub fn flow(&self) -> Flow
         ensures flow { result ≡ flow_of self.now }
     {
@@ -118,7 +121,8 @@ impl Insn {
         }
     }
 
-    /// The numbers of the registers that the instruction reads, rs1 and rs2. x0 is named like any other.
+    /// The numbers of the registers that the instruction reads, rs1 and rs2. x0 is named like any
+    /// other.
     pub fn sources(&self) -> (Option<u8>, Option<u8>)
         ensures registers { result ≡ sources_of self.now }
     {
@@ -135,7 +139,8 @@ impl Insn {
         }
     }
 
-    /// The number of the register that the instruction writes. None where it writes none or names x0.
+    /// The number of the register that the instruction writes. None where it writes none or names
+    /// x0.
     pub fn dest(&self) -> Option<u8>
         ensures register { result ≡ dest_of self.now }
     {
@@ -154,8 +159,8 @@ impl Insn {
         }
     }
 
-    /// Whether some word spells the instruction: its fields are in their ranges, and its funct3 and funct7
-    /// are those of a row of the instruction table.
+    /// Whether some word spells the instruction: its fields are in their ranges, and its funct3 and
+    /// funct7 are those of a row of the instruction table.
     #[tactic(auto, using(crate::proofs::Spelled::fits_spelled, crate::proofs::Spelled::spelled_fits))]
     pub fn fits(&self) -> bool
         ensures ranges { IsTrue result ↔ Fits self.now }

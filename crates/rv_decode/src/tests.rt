@@ -86,8 +86,8 @@ const WORDS: [(u32, Insn); 75] = table! {
     0xf158_7373 = Csr { kind: 7, rd: 6, rs1: 16, csr: 0xf15 }, // csrrci x6, mconfigptr, 16
 };
 
-/// Words that the GNU assembler 2.40 makes of instructions of other extensions and modes, and of fields
-/// that no instruction has.
+/// Words that the GNU assembler 2.40 makes of instructions of other extensions and modes, and of
+/// fields that no instruction has.
 const ILLEGAL: [u32; 39] = [
     0x1020_0073, // sret
     0x1200_0073, // sfence.vma x0, x0

@@ -1,5 +1,6 @@
 ghost use Rattle.std.specs.Prelude.{◌≡◌};
-ghost use Rattle.rv_exec.specs.Alu.{truth, shifted_left, shifted_right, shifted_right_signed, alu_value};
+ghost use Rattle.rv_exec.specs.Alu.{truth, shifted_left, shifted_right, shifted_right_signed};
+ghost use Rattle.rv_exec.specs.Alu.{alu_value};
 
 /// What an integer computational instruction writes; `alt` says that funct7 is 0x20.
 pub fn alu(kind: u8, alt: bool, a: u32, b: u32) -> u32

@@ -1,5 +1,6 @@
 ghost use Rattle.std.specs.Prelude.{◌≡◌, ◌%◌};
-ghost use Rattle.rv_exec.specs.Eval.{misalignment, computed, raised, redirected, jumped, branched, loaded, stored, eval_of};
+ghost use Rattle.rv_exec.specs.Eval.{misalignment, computed, raised, redirected, jumped, branched};
+ghost use Rattle.rv_exec.specs.Eval.{loaded, stored, eval_of};
 
 use crate::alu::alu;
 use crate::branch::is_taken;
@@ -11,8 +12,8 @@ use rv_decode::Insn;
 
 /// What the instruction at `addr` does, where `a` and `b` are the values of `rs1` and `rs2`.
 ///
-/// It has all that needs neither memory nor CSRs: loads and CSR instructions have value 0 here, and MRET goes on to the
-/// next word.
+/// It has all that needs neither memory nor CSRs: loads and CSR instructions have value 0 here, and
+/// MRET goes on to the next word.
 #[tactic(auto, unfolding(crate::specs::Eval::eval_of))]
 pub fn eval(insn: Insn, addr: u32, a: u32, b: u32) -> Outcome
     ensures outcome { result ≡ eval_of insn addr a b }

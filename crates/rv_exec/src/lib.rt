@@ -1,4 +1,5 @@
-//! What an instruction does with its operands: its value, its next address, its access and its cause.
+//! What an instruction does with its operands: its value, its next address, its access and its
+//! cause.
 #![tactic(auto)]
 
 mod alu;

@@ -1,6 +1,7 @@
 ghost use Rattle.std.specs.Prelude.{◌≡◌, pos, ◌*ℤ◌, ◌≤ℤ◌, ◌<ℤ◌, ◌^◌, neg_ℤ};
 ghost use Rattle.rv_exec.specs.Signed.{signed_of};
-ghost use Rattle.rv_exec.specs.MulDiv.{upper_half, overflows, signed_quotient, signed_remainder, quotient, remainder, muldiv_value};
+ghost use Rattle.rv_exec.specs.MulDiv.{upper_half, overflows, signed_quotient, signed_remainder};
+ghost use Rattle.rv_exec.specs.MulDiv.{quotient, remainder, muldiv_value};
 
 /// What an instruction of the M extension writes.
 pub fn muldiv(kind: u8, a: u32, b: u32) -> u32

@@ -21,7 +21,8 @@ pub enum Reach {
 /// What an instruction does with its operands.
 #[derive(Clone, Copy, Debug, PartialEq, Eq)]
 pub struct Outcome {
-    /// What `rd` gets; 0 for what writes none, and for loads and CSR instructions, whose values come later.
+    /// What `rd` gets; 0 for what writes none, and for loads and CSR instructions, whose values
+    /// come later.
     pub value: u32,
     /// The address of the next instruction; that of the next word where there is a cause.
     pub next: u32,

@@ -1,5 +1,6 @@
 ghost use Rattle.std.specs.Prelude.{◌≡◌};
-ghost use Rattle.rv_exec.specs.Load.{load_width, load_extends_sign, store_width, low_bytes, loaded_value};
+ghost use Rattle.rv_exec.specs.Load.{load_width, load_extends_sign, store_width, low_bytes};
+ghost use Rattle.rv_exec.specs.Load.{loaded_value};
 
 use fsim_base::{Width, sign_extend};
 
@@ -43,7 +44,8 @@ pub fn cut(value: u32, width: Width) -> u32
     }
 }
 
-/// What a load writes to its register: the low bytes of `raw`, with their sign or zeros before them.
+/// What a load writes to its register: the low bytes of `raw`, with their sign or zeros before
+/// them.
 pub fn extend(raw: u32, width: Width, signed: bool) -> u32
     ensures value { result ≡ loaded_value width signed raw }
 {

@@ -10,7 +10,8 @@ ghost use Rattle.mono_model.specs.Cycle.{mono};
 ghost use Rattle.mono_model.specs.Demand.{order};
 ghost use Rattle.func_model.specs.declared.walk.Walk.{Walk};
 ghost use Rattle.func_model.specs.Contents.{ContentsStandFor};
-ghost use Rattle.func_model.specs.Walk.{WalkStandsFor, IsFresh, IsForward, IsAtRest, IsProduced, IsObeyed};
+ghost use Rattle.func_model.specs.Walk.{WalkStandsFor, IsFresh, IsForward, IsAtRest, IsProduced};
+ghost use Rattle.func_model.specs.Walk.{IsObeyed};
 ghost use Rattle.side_laws.specs.Along.{IsAlong, MayObey, MayProduce};
 
 use device_bus::Device;

@@ -1,4 +1,5 @@
-//! The timer interrupt as an instruction meets it: enabled or not, and from which cycle on it is due.
+//! The timer interrupt as an instruction meets it: enabled or not, and from which cycle on it is
+//! due.
 #![tactic(auto)]
 
 mod view;

@@ -3,7 +3,6 @@ use Rattle.std.proofs.Common.{◌≡◌, ℕ, Bool, true, false, if◌then◌els
 use Rattle.fsim_base.specs.declared.access.Access.TheVariants as access
 use Rattle.fsim_base.specs.declared.cause.Cause.{Cause}
 use Rattle.fsim_base.specs.declared.access.RamRange.{RamRange}
-use Rattle.rv_decode.specs.declared.insn.Insn.{Insn}
 use Rattle.rv_exec.specs.declared.outcome.Outcome.{Outcome}
 use Rattle.rv_exec.specs.declared.outcome.Reach.{Reach}
 use Rattle.rv_exec.specs.declared.outcome.Reach.TheVariants as reach

@@ -1,5 +1,5 @@
 -- The divisions that execute: those when the phase began, with those begun in it, are those of the window as it stands.
-use Rattle.std.proofs.Common.{◌≡◌, ℕ, ◌+◌, Bool, true, false, if◌then◌else◌, List, [], ◌∷◌, refl, ap, arith}
+use Rattle.std.proofs.Common.{◌≡◌, ℕ, ◌+◌, Bool, true, false, if◌then◌else◌, List, ◌∷◌, refl, ap, arith}
 use Rattle.std.proofs.lemmas.Bool.{cond_both}
 use Rattle.fsim_base.specs.declared.instruction.Class.{Class}
 use Rattle.fsim_base.specs.declared.instruction.Class.TheVariants as class

@@ -80,7 +80,7 @@ class_allows class.Store made older = true
 class_allows class.Serial made older = is_oldest older
 
 -- A slot begins to execute where it has passed the front, its operands are there, its class allows it and a unit is free.
--- So many divisions were executing when the phase began.
+-- `busy` divisions were executing when the phase began.
 abbrev pub may_begin : Params → ℕ → ℕ → List Slot → Slot → Used → Bool
 may_begin p cycle busy older slot used =
     is_past_front p cycle slot && has_operands older slot && class_allows slot.class slot.access older && has_unit p (busy + used.div) used slot.class

@@ -1,5 +1,5 @@
 //! The timing side by its definition: a machine on entries that holds no value of an instruction.
 //!
-//! No call of this crate computes a cycle: what the timing side is stands in `specs/`, in the order of
-//! `specs/Lib.antt`.
+//! No call of this crate computes a cycle: what the timing side is stands in `specs/`, in the order
+//! of `specs/Lib.antt`.
 #![tactic(auto)]

@@ -14,8 +14,8 @@ pub struct Entry {
     pub epoch: u64,
     /// The instruction's address.
     pub addr: u32,
-    /// The instruction's word; 0 where nothing could be fetched, which is exactly where the cause is
-    /// an instruction address misaligned or an instruction access fault on a word of 0.
+    /// The instruction's word; 0 where nothing could be fetched, which is exactly where the cause
+    /// is an instruction address misaligned or an instruction access fault on a word of 0.
     pub word: u32,
     /// The load or store as it was attempted, also where it has a cause.
     pub access: Access,

@@ -31,7 +31,8 @@ impl Model for FuncEnd {
     ghost invariant = { λ end.
         IsPassOf (arc_value end.ring) end.entries_in
         × IsPassOf (arc_value end.orders) end.orders_out
-        × IsFuncEnd (seen end.entries_in) (seen end.orders_out) (ruled_capacity (arc_value end.ring)) };
+        × IsFuncEnd (seen end.entries_in) (seen end.orders_out)
+        (ruled_capacity (arc_value end.ring)) };
 }
 
 impl FuncEnd {

@@ -31,7 +31,8 @@ impl Model for TimeEnd {
     ghost invariant = { λ end.
         IsPassOf (arc_value end.ring) end.entries_out
         × IsPassOf (arc_value end.orders) end.orders_in
-        × IsTimeEnd (seen end.entries_out) (seen end.orders_in) (ruled_capacity (arc_value end.orders)) };
+        × IsTimeEnd (seen end.entries_out) (seen end.orders_in)
+        (ruled_capacity (arc_value end.orders)) };
 }
 
 impl TimeEnd {

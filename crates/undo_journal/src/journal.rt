@@ -22,7 +22,8 @@ impl Model for Journal {
 }
 
 impl Journal {
-    ghost use Rattle.std.specs.Prelude.{◌≡◌, ◌↔◌, ◌<◌, ◌≤◌, ◌++◌, ◌∷◌, [], length, IsTrue, IsNone, IfOk, IfSome, IfNone, nat_lt};
+    ghost use Rattle.std.specs.Prelude.{◌≡◌, ◌↔◌, ◌<◌, ◌≤◌, ◌++◌, ◌∷◌, [], length, IsTrue, IsNone};
+    ghost use Rattle.std.specs.Prelude.{IfOk, IfSome, IfNone, nat_lt};
     ghost use Rattle.std.specs.List.{prefix_len};
     ghost use Rattle.undo_journal.specs.Journal.{IsRising, newest, from_number};
 
@@ -67,7 +68,8 @@ impl Journal {
     #[tactic(auto, using(crate::proofs::Steps::split_newest, crate::proofs::Steps::split_empty))]
     pub fn back(&mut self) -> Option<Past>
         ensures empty { IsNone result ↔ (self.old.steps ≡ []) }
-        ensures newest { IfSome result (λ p. self.old ≡ record self.new { steps = self.new.steps ++ p ∷ [] }) }
+        ensures newest { IfSome result (λ p. self.old ≡ record self.new
+            { steps = self.new.steps ++ p ∷ [] }) }
         ensures none { IfNone result (self.new ≡ self.old) }
     {
         self.steps.pop_back()

@@ -18,7 +18,8 @@ pub enum Change {
     Memory { addr: u32, width: Width, old: u32 },
     /// That count, and the device at this place on the bus.
     Device { device: u32, undo: DevUndo },
-    /// The control and status registers, which were these before: an instruction of theirs, or a trap.
+    /// The control and status registers, which were these before: an instruction of theirs, or a
+    /// trap.
     System(Csrs),
 }
 

@@ -54,7 +54,7 @@ fn note(journal: &mut Journal, number: u64)
 /// Drops the steps below `lowest` where the journal is full; gives whether it did.
 #[tactic(auto, using(crate::proofs::Steps::below_from))]
 fn make_room(journal: &mut Journal, lowest: u64, number: u64) -> bool
-    requires { All (λ p. p.number < number) journal.old.steps }
+    requires numbers { All (λ p. p.number < number) journal.old.steps }
     ensures { All (λ p. p.number < number) journal.new.steps }
 {
     let full = journal.is_full();
@@ -67,7 +67,7 @@ fn make_room(journal: &mut Journal, lowest: u64, number: u64) -> bool
 /// Takes the newest step back in every seventh turn.
 #[tactic(auto, using(crate::proofs::Steps::below_front))]
 fn take_back(journal: &mut Journal, number: u64) -> Option<Past>
-    requires { All (λ p. p.number < number + 1) journal.old.steps }
+    requires numbers { All (λ p. p.number < number + 1) journal.old.steps }
     ensures { All (λ p. p.number < number + 1) journal.new.steps }
 {
     if number % 7 == 6 {

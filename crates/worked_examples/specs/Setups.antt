@@ -1,11 +1,11 @@
 -- Words for worked examples: images made of words, machine files by the keys that differ from the defaults, setups, and
 -- what is reported by what differs from the start.
 use Rattle.std.specs.Prelude.{ℕ, ◌*◌, ◌/◌, ◌%◌, ◌^◌, ◌-◌, ◌==◌, if◌then◌else◌, true, false, List, [], ◌∷◌, ◌++◌, length}
-use Rattle.branch_predictor.specs.declared.params.PredKind.TheVariants.{Static}
 use Rattle.elf_image.specs.declared.segment.Segment.{Segment}
 use Rattle.elf_image.specs.declared.image.Image.{Image}
 use Rattle.mono_model.specs.declared.params.Params.{Params}
 use Rattle.mono_model.specs.declared.setup.Setup.{Setup}
+use Rattle.mono_model.specs.Plain.{plain_params}
 use Rattle.mono_model.specs.declared.final_state.Stats.{Stats}
 use Rattle.mono_model.specs.Final.{registers_from}
 
@@ -34,42 +34,7 @@ data_image words addr size contents = record {
 
 -- the machine file without keys
 abbrev pub plain_machine : Params
-plain_machine = record {
-  version = 1;
-  ram_base = 0x80000000;
-  ram_size = 16777216;
-  core_fetch = 1;
-  core_commit = 1;
-  core_front = 1;
-  core_window = 1;
-  core_stations = 256;
-  alu_count = 1;
-  alu_latency = 1;
-  mul_count = 1;
-  mul_latency = 1;
-  div_count = 1;
-  div_latency = 1;
-  mem_count = 1;
-  mem_latency = 1;
-  predictor_kind = Static;
-  predictor_counters = 1024;
-  predictor_history = 8;
-  predictor_targets = 0;
-  icache_line = 64;
-  icache_sets = 64;
-  icache_ways = 0;
-  icache_miss = 20;
-  dcache_line = 64;
-  dcache_sets = 64;
-  dcache_ways = 0;
-  dcache_miss = 20;
-  dcache_back = false;
-  l2_line = 64;
-  l2_sets = 512;
-  l2_ways = 0;
-  l2_hit = 10;
-  l2_miss = 100;
-}
+plain_machine = plain_params
 
 -- a run with an empty input and the limits of a command line without options
 abbrev pub setup_of : Image → Params → Setup

@@ -1,6 +1,8 @@
-//! Small programs whose ends, counts and registers the checker computes from the definitions of the machines.
+//! Small programs whose ends, counts and registers the checker computes from the definitions of the
+//! machines.
 //!
-//! Each function does nothing: its clauses are the examples. The numbers come from an independent simulator.
+//! Each function does nothing: its clauses are the examples. The numbers come from an independent
+//! simulator.
 #![tactic(auto)]
 
 mod alone;

@@ -65,7 +65,7 @@ pub fn refused_fetch(epoch: u64, number: u64, addr: u32) -> Entry
 
 /// The order in a place.
 pub fn next_word(place: u32) -> Order
-    requires { place < 72 }
+    requires place { place < 72 }
     ensures { result ≡ next_word place }
 {
     let number = place + 1;

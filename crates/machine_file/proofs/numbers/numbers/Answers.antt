@@ -11,9 +11,9 @@ loop-i-preserved c =
     let file = table_view c.args.file.now in
     let rows = c.args.rows.now in
     record {
-      long = length-set c.loop-i.numbers c.loop-i.i c.in-Ok.n ∙ c.loop-i.invariant.long;
-      values = values-next (value_of file) row_of rows c.loop-i.numbers c.loop-i.i c.in-Ok.n _ (omega arith) (omega arith) c.loop-i.invariant.values c.in-Ok.ensures.value;
-      clear = clear-next file row_of rows c.loop-i.i _ (omega arith) c.in-Ok.ensures.clear ∙ c.loop-i.invariant.clear;
+      long = length-set c.loop-i.numbers c.loop-i.i c.in_ok-n.n ∙ c.loop-i.invariant.long;
+      values = values-next (value_of file) row_of rows c.loop-i.numbers c.loop-i.i c.in_ok-n.n _ (omega arith) (omega arith) c.loop-i.invariant.values c.in_ok-n.ensures.value;
+      clear = clear-next file row_of rows c.loop-i.i _ (omega arith) c.in_ok-n.ensures.clear ∙ c.loop-i.invariant.clear;
     }
 
 pub returns-clause-values : goal.returns-clause-values

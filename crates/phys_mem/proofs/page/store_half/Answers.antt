@@ -4,4 +4,4 @@ use Rattle.phys_mem.proofs.page.store_half.Goals as goal
 
 pub returns : goal.returns
 returns c =
-    over_half c.args.page.now c.write_u16.new.buf c.args.offset c.args.value c.told-page c.requires (rw (← and_mask c.args.value 16) c.write_u16.ensures)
+    over_half c.args.page.now c.write_u16.new.buf c.args.offset c.args.value c.told-page c.requires.inside (rw (← and_mask c.args.value 16) c.write_u16.ensures)
