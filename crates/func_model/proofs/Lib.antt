@@ -1,5 +1,6 @@
 pub mod Advance
 pub mod Bending
+pub mod Compared
 pub mod Concluded
 pub mod Counts
 pub mod Effects
@@ -17,5 +18,8 @@ pub mod Stepping
 pub mod Stores
 pub mod System
 pub mod TakenBack
+pub mod Trailing
+pub mod Trails
 pub mod Undone
+pub mod Unmaking
 pub mod Walking

@@ -4,9 +4,14 @@ use Rattle.std.proofs.Math.Seq.{drop-cons}
 use Rattle.std.proofs.lemmas.List.{drop_all}
 use Rattle.mono_model.specs.declared.final_state.End.{End}
 use Rattle.mono_model.specs.declared.final_state.Final.{Final}
-use Rattle.mono_model.specs.Arch.{Arch}
+use Rattle.mono_model.specs.declared.setup.Setup.{Setup}
+use Rattle.mono_model.specs.Arch.{Arch, compare_of}
 use Rattle.mono_model.specs.Final.{registers_from, final_of}
 use Rattle.mono_model.specs.Alone.{Alone, alone_final}
+use Rattle.func_model.specs.declared.contents.Contents.{Contents}
+use Rattle.func_model.specs.Hart.{arch_of}
+use Rattle.func_model.specs.Contents.{ContentsStandFor}
+use Rattle.func_model.specs.Side.{registers_in, registers_at}
 
 -- the registers of an array, one by one, are the array
 from_place : (xs : List ℕ) (count : ℕ) → length xs ≡ 32 → count ≤ 32 → registers_from count (λ r. slice_index xs r) ≡ drop (32 - count) xs
@@ -60,3 +65,15 @@ pub zeros_at : (n r : ℕ) → slice_index (replicate n 0) r ≡ 0
 zeros_at zero r = refl
 zeros_at (suc n) zero = refl
 zeros_at (suc n) (suc r) = zeros_at n r
+
+-- the registers of a hart that stands for a state
+pub registers_same : {D : Type 0} (s : Setup) (a : Arch) (contents : Contents D) → ContentsStandFor s a contents → length contents.hart.regs ≡ 32 → registers_in contents ≡ registers_at a
+unfolding arch_of
+registers_same s a contents h whole =
+    let same : registers_in contents ≡ registers_at (arch_of contents.hart contents.bus) = λ i. record {
+      pc = contents.hart.pc;
+      regs = sym (registers_are contents.hart.regs whole) i;
+      csrs = contents.hart.csrs;
+      cmp = compare_of contents.bus;
+    } in
+    same ∙ ap registers_at h.arch

@@ -176,7 +176,7 @@ alone_adds s zero = refl
 alone_adds s (suc n) = step_adds s (alone s n) (alone_adds s n)
 
 -- a run that has ended stays
-stay_step : (s : Setup) (m : Alone) → has_ended m.end ≡ true → alone_step s m ≡ m
+pub stay_step : (s : Setup) (m : Alone) → has_ended m.end ≡ true → alone_step s m ≡ m
 unfolding alone_step
 stay_step s m ended = rw ended refl
 
@@ -201,11 +201,11 @@ pub record Ready {D : Type 0} (s : Setup) (m : Alone) (made count : ℕ) (side :
   pub steps : m.steps ≡ made
   pub taken : m.interrupts ≡ count
 
-if_arch : (b : Bool) (m : Alone) → (if◌then◌else◌ {A = Alone} b (record m { arch = interrupted m.arch; interrupts = m.interrupts + 1 }) m).arch ≡ (if b then interrupted m.arch else m.arch)
+pub if_arch : (b : Bool) (m : Alone) → (if◌then◌else◌ {A = Alone} b (record m { arch = interrupted m.arch; interrupts = m.interrupts + 1 }) m).arch ≡ (if b then interrupted m.arch else m.arch)
 if_arch true m = refl
 if_arch false m = refl
 
-if_steps : (b : Bool) (m : Alone) → (if◌then◌else◌ {A = Alone} b (record m { arch = interrupted m.arch; interrupts = m.interrupts + 1 }) m).steps ≡ m.steps
+pub if_steps : (b : Bool) (m : Alone) → (if◌then◌else◌ {A = Alone} b (record m { arch = interrupted m.arch; interrupts = m.interrupts + 1 }) m).steps ≡ m.steps
 if_steps true m = refl
 if_steps false m = refl
 

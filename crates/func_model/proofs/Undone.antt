@@ -82,7 +82,7 @@ unfolding retired trapped
 output_by None found r time addr a is = refl
 output_by (Some cause) found r time addr a is = rw is refl
 
-effect_output : (found : Found) (r : Result) (time : Option ℕ) (addr : ℕ) (a : Arch) → (effect found r time addr a).output ≡ with_note (note_of r a) a.output
+pub effect_output : (found : Found) (r : Result) (time : Option ℕ) (addr : ℕ) (a : Arch) → (effect found r time addr a).output ≡ with_note (note_of r a) a.output
 unfolding effect
 effect_output found r time addr a = output_by r.cause found r time addr a refl
 

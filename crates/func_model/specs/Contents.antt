@@ -19,6 +19,7 @@ pub record ContentsStandFor {D : Type 0} (s : Setup) (a : Arch) (side : Contents
   pub arch : arch_of side.hart side.bus ≡ a
   pub exec : exec_of side.hart.memory ≡ is_executable s.image
   pub range : range_of side.hart.memory ≡ ram_range s.params
+  pub compare : side.cmp ≡ compare_of a.devices
 
 -- how many instructions have retired
 abbrev pub retired_in : {D : Type 0} → Contents D → ℕ

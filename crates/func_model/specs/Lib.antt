@@ -2,5 +2,7 @@ pub mod Hart
 pub mod Steps
 pub mod Undo
 pub mod Contents
+pub mod History
 pub mod Walk
+pub mod Trail
 pub mod Side

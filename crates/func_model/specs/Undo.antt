@@ -40,6 +40,13 @@ csrs_back (Memory addr width old) csrs = uncounted csrs
 csrs_back (Device device undo) csrs = uncounted csrs
 csrs_back (System before) csrs = before
 
+-- a device was accessed
+abbrev pub is_device : Change → Bool
+is_device Nothing = false
+is_device (Memory addr width old) = false
+is_device (Device device undo) = true
+is_device (System before) = false
+
 -- the devices with an access to one of them taken back
 abbrev pub devices_back : Change → Devices → Devices
 devices_back Nothing devices = devices

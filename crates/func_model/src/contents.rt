@@ -1,12 +1,15 @@
-ghost use Rattle.std.specs.Prelude.{◌≡◌, ◌<◌, ◌≤◌, ◌+◌, ◌-◌, ◌^◌, Some, IfOk, is_none, length, ◌&&◌, map, true, if◌then◌else◌};
+ghost use Rattle.std.specs.Prelude.{◌≡◌, ◌<◌, ◌≤◌, ◌+◌, ◌-◌, ◌^◌, Some, IfOk, is_none, length};
+ghost use Rattle.std.specs.Prelude.{◌&&◌, map, true, if◌then◌else◌};
 ghost use Rattle.mono_model.specs.Final.{end_of};
 ghost use Rattle.mono_model.specs.Result.{is_time_load, is_time_read};
+ghost use Rattle.mono_model.specs.Found.{is_fence_i};
 ghost use Rattle.func_model.specs.Hart.{found_in};
-ghost use Rattle.func_model.specs.Undo.{ended_in};
+ghost use Rattle.mono_model.specs.Arch.{compare_of};
+ghost use Rattle.func_model.specs.Undo.{ended_in, is_device};
 
 use crate::found::Fetched;
 use crate::hart::{Hart, compare};
-use crate::performed::Stepped;
+use crate::performed::{Made, PastStep, Stepped};
 use device_bus::{Bus, Device};
 use fsim_base::{Access, Halt, NoMemory, RamRange, Width};
 use machine_csr::Csrs;
@@ -14,7 +17,7 @@ use mono_model::{End, Final, Setup, Stats};
 use phys_mem::Ram;
 use std::alloc::Global;
 use trace_entry::Entry;
-use undo_journal::Past;
+use undo_journal::{Change, Past};
 
 /// The cause number of the machine timer interrupt: the interrupt bit and code 7.
 const TIMER_INTERRUPT: u32 = 0x8000_0007;
@@ -23,7 +26,7 @@ const TIMER_INTERRUPT: u32 = 0x8000_0007;
 const TIME: u32 = 0x0200_bff8;
 
 /// The end that the program asked for.
-fn end_of(halt: Halt) -> End
+pub fn end_of(halt: Halt) -> End
     ensures end { result ≡ end_of halt }
 {
     match halt {
@@ -70,11 +73,24 @@ fn takes_interrupts(csrs: &Csrs) -> bool
     csrs.mie && csrs.mtie
 }
 
-/// What a functional side holds of the machine: the hart with its memory and output, and the devices.
+/// mtimecmp behind a change, in cycles, with what it was before.
+fn compare_behind<D: Device>(bus: &Bus<D>, change: Change, before: u64) -> u64
+    ensures compare { result ≡ (if is_device change then compare_of bus.now else before) }
+{
+    match change {
+        Change::Device { .. } => compare(bus),
+        _ => before,
+    }
+}
+
+/// What a functional side holds of the machine: the hart with its memory and output, and the
+/// devices.
 #[derive(Drop)]
 pub struct Contents<D: Device> {
     pub hart: Hart,
     pub bus: Bus<D>,
+    /// mtimecmp, in cycles. The devices are asked for it only where one of them was accessed.
+    pub cmp: u64,
 }
 
 impl<D: Device> Contents<D> {
@@ -82,25 +98,31 @@ impl<D: Device> Contents<D> {
     ghost use Rattle.machine_csr.specs.Trap.{timer_pending};
     ghost use Rattle.device_bus.specs.Bus.{device_order};
     ghost use Rattle.mono_model.specs.Setup.{is_setup, ram_range};
-    ghost use Rattle.mono_model.specs.Arch.{Arch, compare_of, start, interrupted, synced};
+    ghost use Rattle.mono_model.specs.Arch.{Arch, start, interrupted, synced};
     ghost use Rattle.mono_model.specs.Alone.{Alone, alone, alone_final};
     ghost use Rattle.mono_model.specs.Effect.{note_of};
     ghost use Rattle.mono_model.specs.Sequence.{found_next, result_at, entry_at, seq};
     ghost use Rattle.func_model.specs.Steps.{stepped_by};
-    ghost use Rattle.func_model.specs.Contents.{ContentsStandFor, retired_in, output_in, after_instruction, before};
+    ghost use Rattle.func_model.specs.Contents.{ContentsStandFor, retired_in, output_in};
+    ghost use Rattle.func_model.specs.Contents.{after_instruction, before};
     ghost use Rattle.func_model.specs.Undo.{undone, IsRestorable};
+    ghost use Rattle.func_model.specs.History.{step_undone, step_seq, IsMade};
 
     /// Executes the next instruction with a time, and says how it leaves the run.
     fn advance(&mut self, time: u64, limit: u32) -> Stepped
         requires count { retired_in self.old < 2 ^ 64 - 1 }
         requires limit { limit ≤ self.old.hart.room }
-        ensures stepped { (s : Setup) (a : Arch) → s.output ≡ limit → ContentsStandFor s a self.old → result ≡ stepped_by s.output a.output (note_of (result_at s (Some time) a) a) }
-        ensures stands { (s : Setup) (a : Arch) → s.output ≡ limit → ContentsStandFor s a self.old → ContentsStandFor s (after_instruction s (found_next s a) (result_at s (Some time) a) time a) self.new }
+        ensures stepped { (s : Setup) (a : Arch) → s.output ≡ limit → ContentsStandFor s a self.old
+            → result ≡ stepped_by s.output a.output (note_of (result_at s (Some time) a) a) }
+        ensures stands { (s : Setup) (a : Arch) → s.output ≡ limit → ContentsStandFor s a self.old
+            → ContentsStandFor s (after_instruction s (found_next s a) (result_at s (Some time) a)
+            time a) self.new }
         ensures bound { retired_in self.new ≤ retired_in self.old + 1 }
         ensures room { self.new.hart.room ≡ self.old.hart.room }
     {
         let fetched = self.hart.fetch();
         let done = self.hart.execute(&mut self.bus, fetched, Some(time), limit);
+        self.cmp = compare_behind(&self.bus, done.change, self.cmp);
         if fetched.is_fence_i() {
             self.hart.sync();
         }
@@ -109,10 +131,13 @@ impl<D: Device> Contents<D> {
 
     /// Takes a pending timer interrupt, and counts it.
     fn interrupt(&mut self, time: u64) -> u64
-        ensures pending { (s : Setup) (a : Arch) → ContentsStandFor s a self.old → result ≡ (if timer_pending a.csrs time (compare_of a.devices) then 1 else 0) }
+        ensures pending { (s : Setup) (a : Arch) → ContentsStandFor s a self.old
+            → result ≡ (if timer_pending a.csrs time (compare_of a.devices) then 1 else 0) }
         ensures one { result ≤ 1 }
-        ensures stands { (s : Setup) (a : Arch) → ContentsStandFor s a self.old → ContentsStandFor s (before time a) self.new }
+        ensures stands { (s : Setup) (a : Arch) → ContentsStandFor s a self.old
+            → ContentsStandFor s (before time a) self.new }
         ensures retired { retired_in self.new ≡ retired_in self.old }
+        ensures output { output_in self.new ≡ output_in self.old }
         ensures room { self.new.hart.room ≡ self.old.hart.room }
     {
         if !takes_interrupts(&self.hart.csrs) {
@@ -128,7 +153,9 @@ impl<D: Device> Contents<D> {
 
     /// What is reported of a run that ended so after `made` steps.
     fn report(&self, end: End, made: u64, interrupts: u64) -> Final
-        ensures reported { (s : Setup) (m : Alone) → ContentsStandFor s m.arch self.now → m.end ≡ end → m.interrupts ≡ interrupts → m.exceptions ≡ made - retired_in self.now → result ≡ alone_final m }
+        ensures reported { (s : Setup) (m : Alone) → ContentsStandFor s m.arch self.now
+            → m.end ≡ end → m.interrupts ≡ interrupts → m.exceptions ≡ made - retired_in self.now
+            → result ≡ alone_final m }
     {
         let stats = Stats {
             version: 0,
@@ -160,15 +187,19 @@ impl<D: Device> Contents<D> {
         }
     }
 
-    /// Runs alone: one instruction a step, with the step's number as its time, until the program ends the run, the output
-    /// has no room for a byte, or so many steps were made. Nothing was executed before.
+    /// Runs alone: one instruction a step, with the step's number as its time, until the program
+    /// ends the run, the output has no room for a byte, or so many steps were made. Nothing was
+    /// executed before.
     pub fn alone(&mut self, steps: u64, limit: u32) -> Final
         requires fresh { retired_in self.old ≡ 0 }
         requires some { 1 ≤ steps }
         requires bounded { steps < 2 ^ 63 }
         requires limit { limit ≤ self.old.hart.room }
-        ensures reported { (s : Setup) → s.cycles ≡ steps → s.output ≡ limit → ContentsStandFor s (start s) self.old → result ≡ alone_final (alone s steps) }
-        ensures contents { (s : Setup) → s.cycles ≡ steps → s.output ≡ limit → ContentsStandFor s (start s) self.old → ContentsStandFor s (alone s steps).arch self.new }
+        ensures reported { (s : Setup) → s.cycles ≡ steps → s.output ≡ limit
+            → ContentsStandFor s (start s) self.old → result ≡ alone_final (alone s steps) }
+        ensures contents { (s : Setup) → s.cycles ≡ steps → s.output ≡ limit
+            → ContentsStandFor s (start s) self.old
+            → ContentsStandFor s (alone s steps).arch self.new }
     {
         let mut interrupts = 0;
         for made in 0..steps {
@@ -189,8 +220,9 @@ impl<D: Device> Contents<D> {
         self.hart.output.as_slice()
     }
 
-    /// The contents at the start of a run. They take all memory of the run here, but for the journal's: RAM, output and
-    /// what the devices keep. The output has room for `ahead` bytes beyond its limit.
+    /// The contents at the start of a run. They take all memory of the run here, but for the
+    /// journal's: RAM, output and what the devices keep. The output has room for `ahead` bytes
+    /// beyond its limit.
     pub fn new(
         alloc: Global,
         setup: &Setup,
@@ -200,7 +232,8 @@ impl<D: Device> Contents<D> {
         requires sound { is_setup setup.now ≡ true }
         requires order { map D.kind devices.items ≡ device_order }
         requires ahead { ahead ≤ 65794 }
-        ensures opened { IfOk result (λ contents. ContentsStandFor setup.now (start setup.now) contents) }
+        ensures opened { IfOk result (λ contents. ContentsStandFor setup.now (start setup.now)
+            contents) }
         ensures fresh { IfOk result (λ contents. retired_in contents ≡ 0) }
         ensures room { IfOk result (λ contents. contents.hart.room ≡ setup.now.output + ahead) }
     {
@@ -223,16 +256,21 @@ impl<D: Device> Contents<D> {
             output,
             room,
         };
-        Ok(Contents { hart, bus })
+        let cmp = compare(&bus);
+        Ok(Contents { hart, bus, cmp })
     }
 
-    /// Executes the next instruction, with its number, epoch and time or none: what is told of it, and what takes it back.
+    /// Executes the next instruction, with its number, epoch and time or none: what is told of it,
+    /// and what takes it back.
     pub fn step(&mut self, number: u64, epoch: u64, time: Option<u64>) -> (Entry, Past)
         requires count { retired_in self.old < 2 ^ 64 - 1 }
         requires room { length (output_in self.old) < self.old.hart.room }
-        ensures stands { (s : Setup) (a : Arch) → ContentsStandFor s a self.old → ContentsStandFor s (seq s time a) self.new }
-        ensures entry { (s : Setup) (a : Arch) → ContentsStandFor s a self.old → result.0 ≡ entry_at s time a number epoch }
-        ensures back { (s : Setup) (a : Arch) → ContentsStandFor s a self.old → undone (ram_range s.params) result.1 (seq s time a) ≡ a }
+        ensures stands { (s : Setup) (a : Arch) → ContentsStandFor s a self.old
+            → ContentsStandFor s (seq s time a) self.new }
+        ensures entry { (s : Setup) (a : Arch) → ContentsStandFor s a self.old
+            → result.0 ≡ entry_at s time a number epoch }
+        ensures back { (s : Setup) (a : Arch) → ContentsStandFor s a self.old
+            → undone (ram_range s.params) result.1 (seq s time a) ≡ a }
         ensures number { result.1.number ≡ number }
         ensures restorable { IsRestorable result.1 }
         ensures room { self.new.hart.room ≡ self.old.hart.room }
@@ -242,6 +280,7 @@ impl<D: Device> Contents<D> {
         let reg = self.hart.before(fetched.destination());
         let room = self.hart.room;
         let done = self.hart.execute(&mut self.bus, fetched, time, room);
+        self.cmp = compare_behind(&self.bus, done.change, self.cmp);
         let entry = Entry {
             number,
             epoch,
@@ -255,7 +294,7 @@ impl<D: Device> Contents<D> {
             out: done.sent,
             halt: halt_in(done.stepped),
             irq_on: takes_interrupts(&self.hart.csrs),
-            cmp: compare(&self.bus),
+            cmp: self.cmp,
         };
         let past = Past {
             number,
@@ -270,15 +309,18 @@ impl<D: Device> Contents<D> {
     /// Takes an instruction back.
     pub fn undo(&mut self, past: Past)
         requires restorable { IsRestorable past }
-        ensures stands { (s : Setup) (a : Arch) → ContentsStandFor s a self.old → ContentsStandFor s (undone (ram_range s.params) past a) self.new }
+        ensures stands { (s : Setup) (a : Arch) → ContentsStandFor s a self.old
+            → ContentsStandFor s (undone (ram_range s.params) past a) self.new }
         ensures room { self.new.hart.room ≡ self.old.hart.room }
     {
         self.hart.restore(&mut self.bus, past);
+        self.cmp = compare_behind(&self.bus, past.change, self.cmp);
     }
 
     /// Goes on at another address.
     pub fn jump(&mut self, addr: u32)
-        ensures stands { (s : Setup) (a : Arch) → ContentsStandFor s a self.old → ContentsStandFor s (record a { pc = addr }) self.new }
+        ensures stands { (s : Setup) (a : Arch) → ContentsStandFor s a self.old
+            → ContentsStandFor s (record a { pc = addr }) self.new }
         ensures room { self.new.hart.room ≡ self.old.hart.room }
     {
         self.hart.pc = addr;
@@ -286,7 +328,8 @@ impl<D: Device> Contents<D> {
 
     /// Takes the timer interrupt.
     pub fn interrupted(&mut self)
-        ensures stands { (s : Setup) (a : Arch) → ContentsStandFor s a self.old → ContentsStandFor s (interrupted a) self.new }
+        ensures stands { (s : Setup) (a : Arch) → ContentsStandFor s a self.old
+            → ContentsStandFor s (interrupted a) self.new }
         ensures room { self.new.hart.room ≡ self.old.hart.room }
     {
         self.hart.trap(TIMER_INTERRUPT, 0);
@@ -294,9 +337,59 @@ impl<D: Device> Contents<D> {
 
     /// Lets fetch see memory as it stands.
     pub fn sync(&mut self)
-        ensures stands { (s : Setup) (a : Arch) → ContentsStandFor s a self.old → ContentsStandFor s (synced s a) self.new }
+        ensures stands { (s : Setup) (a : Arch) → ContentsStandFor s a self.old
+            → ContentsStandFor s (synced s a) self.new }
         ensures room { self.new.hart.room ≡ self.old.hart.room }
     {
         self.hart.sync();
+    }
+
+    /// Whether the next instruction is a FENCE.I.
+    fn is_at_fence(&self) -> bool
+        ensures fence { (s : Setup) (a : Arch) → ContentsStandFor s a self.now
+            → result ≡ is_fence_i (found_next s a) }
+    {
+        self.hart.fetch().is_fence_i()
+    }
+
+    /// Makes one step of a run alone, but for what a FENCE.I lets fetch see: a pending timer
+    /// interrupt, then the next instruction, with the step's number as its time. The output's limit
+    /// doesn't stop it.
+    pub fn make(&mut self, number: u64) -> Made
+        requires count { retired_in self.old < 2 ^ 64 - 1 }
+        requires room { length (output_in self.old) < self.old.hart.room }
+        ensures stands { (s : Setup) (a : Arch) → ContentsStandFor s a self.old
+            → ContentsStandFor s (step_seq s number a) self.new }
+        ensures made { (s : Setup) (a : Arch) → ContentsStandFor s a self.old
+            → IsMade s number a result }
+        ensures restorable { IsRestorable result.past.instruction }
+        ensures room { self.new.hart.room ≡ self.old.hart.room }
+    {
+        let (pc, csrs) = (self.hart.pc, self.hart.csrs);
+        self.interrupt(number);
+        let is_fence = self.is_at_fence();
+        let (entry, instruction) = self.step(number, 0, Some(number));
+        Made {
+            has_sent: entry.out.is_some(),
+            halt: entry.halt,
+            is_fence,
+            past: PastStep {
+                instruction,
+                pc,
+                csrs,
+            },
+        }
+    }
+
+    /// Takes a step of a run alone back.
+    pub fn unmake(&mut self, past: PastStep)
+        requires restorable { IsRestorable past.instruction }
+        ensures stands { (s : Setup) (a : Arch) → ContentsStandFor s a self.old
+            → ContentsStandFor s (step_undone (ram_range s.params) past a) self.new }
+        ensures room { self.new.hart.room ≡ self.old.hart.room }
+    {
+        self.undo(past.instruction);
+        self.hart.pc = past.pc;
+        self.hart.csrs = past.csrs;
     }
 }

@@ -1,4 +1,5 @@
-ghost use Rattle.std.specs.Prelude.{◌≡◌, ◌≤◌, ◌<◌, ◌^◌, ◌+◌, ◌-◌, ◌%◌, ℕ, None, Some, false, length, slice_index, vec_capacity, unwrap_or, if◌then◌else◌};
+ghost use Rattle.std.specs.Prelude.{◌≡◌, ◌≤◌, ◌<◌, ◌^◌, ◌+◌, ◌-◌, ◌%◌, ℕ, None, Some, false};
+ghost use Rattle.std.specs.Prelude.{length, slice_index, vec_capacity, unwrap_or, if◌then◌else◌};
 ghost use Rattle.mono_model.specs.Arch.{compare_of};
 ghost use Rattle.mono_model.specs.Found.{is_csr_insn, is_mret_insn};
 ghost use Rattle.mono_model.specs.Result.{attempted, csr_value};
@@ -47,7 +48,8 @@ struct StoreAccess {
     value: u32,
 }
 
-/// The bytes of a load, as a number, where it can be made; where they lie; and what takes an access to a device back.
+/// The bytes of a load, as a number, where it can be made; where they lie; and what takes an access
+/// to a device back.
 #[derive(Clone, Copy)]
 struct Read {
     raw: Option<u32>,
@@ -142,22 +144,31 @@ impl Hart {
     ghost use Rattle.fsim_base.specs.Width.{width_bytes};
     ghost use Rattle.mono_model.specs.Arch.{Arch, register_value, with_register, trapped};
     ghost use Rattle.mono_model.specs.Found.{known, destination_in};
-    ghost use Rattle.mono_model.specs.Result.{raw_at, spot_of, loaded_at, stored_at, resulting, csr_result};
+    ghost use Rattle.mono_model.specs.Result.{raw_at, spot_of, loaded_at, stored_at, resulting};
+    ghost use Rattle.mono_model.specs.Result.{csr_result};
     ghost use Rattle.mono_model.specs.Sequence.{seen_in};
     ghost use Rattle.rv_decode.specs.Fits.{Fits};
     ghost use Rattle.machine_csr.specs.Csr.{csr_access};
     ghost use Rattle.machine_csr.specs.Trap.{return_address};
     ghost use Rattle.rv_decode.specs.Class.{dest_of};
     ghost use Rattle.phys_mem.specs.Ram.{ram_of, text_of, exec_of, range_of, text_from};
-    ghost use Rattle.func_model.specs.Steps.{failed_with, finished, read_devices, load_made, stepped_by, concluded, store_made, outcome_made, outcome_result, AlignedBy, csr_made, mret_made, behind, result_of, Told};
-    ghost use Rattle.func_model.specs.Hart.{found_in, FetchedFits, found_by, IsDestination, arch_of};
-    ghost use Rattle.func_model.specs.Undo.{undone, TakesBack, IsRestorable, IsRestorableChange, IsOfLoad, uncounted, devices_back, changed_back, register_before};
+    ghost use Rattle.func_model.specs.Steps.{failed_with, finished, read_devices, load_made};
+    ghost use Rattle.func_model.specs.Steps.{stepped_by, concluded, store_made, outcome_made};
+    ghost use Rattle.func_model.specs.Steps.{outcome_result, AlignedBy, csr_made, mret_made};
+    ghost use Rattle.func_model.specs.Steps.{behind, result_of, Told};
+    ghost use Rattle.func_model.specs.Hart.{found_in, FetchedFits, found_by, IsDestination};
+    ghost use Rattle.func_model.specs.Hart.{arch_of};
+    ghost use Rattle.func_model.specs.Undo.{undone, TakesBack, IsRestorable, IsRestorableChange};
+    ghost use Rattle.func_model.specs.Undo.{IsOfLoad, uncounted, devices_back, changed_back};
+    ghost use Rattle.func_model.specs.Undo.{register_before};
     ghost use Rattle.undo_journal.specs.declared.past.Change.TheVariants.{System};
 
     /// What stands at the next address.
     #[tactic(auto, unfolding(crate::specs::Hart::found_by))]
+    #[inline(always)]
     pub fn fetch(&self) -> Fetched
-        ensures found { found_in result ≡ found_by (exec_of self.now.memory) (text_of self.now.memory) self.now.pc }
+        ensures found { found_in result
+            ≡ found_by (exec_of self.now.memory) (text_of self.now.memory) self.now.pc }
         ensures fits { FetchedFits result }
     {
         if self.pc % 4 != 0 {
@@ -185,7 +196,8 @@ impl Hart {
     /// Takes a trap at the next address.
     #[tactic(auto, unfolding(crate::specs::Hart::arch_of, mono_model::specs::Arch::trapped))]
     pub fn trap(&mut self, cause: u32, mtval: u32)
-        ensures arch { (d : Devices) → arch_of self.new d ≡ trapped cause mtval self.old.pc (arch_of self.old d) }
+        ensures arch { (d : Devices)
+            → arch_of self.new d ≡ trapped cause mtval self.old.pc (arch_of self.old d) }
         ensures memory { self.new.memory ≡ self.old.memory }
         ensures room { self.new.room ≡ self.old.room }
     {
@@ -196,7 +208,9 @@ impl Hart {
     #[tactic(auto, unfolding(crate::specs::Hart::arch_of, mono_model::specs::Arch::trapped))]
     fn fail(&mut self, access: Access, cause: Cause, mtval: u32) -> Performed
         ensures done { result ≡ failed_with access cause self.old.csrs }
-        ensures arch { (d : Devices) → arch_of self.new d ≡ trapped (cause_number cause) mtval self.old.pc (arch_of self.old d) }
+        ensures arch { (d : Devices)
+            → arch_of self.new d
+            ≡ trapped (cause_number cause) mtval self.old.pc (arch_of self.old d) }
         ensures memory { self.new.memory ≡ self.old.memory }
         ensures room { self.new.room ≡ self.old.room }
     {
@@ -214,7 +228,8 @@ impl Hart {
     /// Writes the destination register, if there is one.
     fn write(&mut self, destination: Option<u8>, value: u32)
         requires exists { IsDestination destination }
-        ensures regs { (λ r. slice_index self.new.regs r) ≡ with_register destination value (λ r. slice_index self.old.regs r) }
+        ensures regs { (λ r. slice_index self.new.regs r)
+            ≡ with_register destination value (λ r. slice_index self.old.regs r) }
         ensures others { self.new ≡ record self.old { regs = self.new.regs } }
     {
         if let Some(register) = destination {
@@ -227,7 +242,8 @@ impl Hart {
     fn finish(&mut self, destination: Option<u8>, value: u32, next: u32)
         requires exists { IsDestination destination }
         requires count { self.old.csrs.retired < 2 ^ 64 - 1 }
-        ensures arch { (d : Devices) → arch_of self.new d ≡ finished destination value next (arch_of self.old d) }
+        ensures arch { (d : Devices)
+            → arch_of self.new d ≡ finished destination value next (arch_of self.old d) }
         ensures memory { self.new.memory ≡ self.old.memory }
         ensures room { self.new.room ≡ self.old.room }
         ensures output { self.new.output ≡ self.old.output }
@@ -247,9 +263,12 @@ impl Hart {
         time: Option<u64>,
     ) -> Read
         requires aligned { addr % width_bytes width ≡ 0 }
-        ensures raw { result.raw ≡ raw_at (seen_in time (arch_of self.old bus.old)) addr width (spot_of (range_of self.old.memory) addr width) }
+        ensures raw { result.raw
+            ≡ raw_at (seen_in time (arch_of self.old bus.old)) addr width
+            (spot_of (range_of self.old.memory) addr width) }
         ensures spot { result.spot ≡ spot_of (range_of self.old.memory) addr width }
-        ensures devices { bus.new ≡ read_devices result.raw (range_of self.old.memory) addr width bus.old }
+        ensures devices { bus.new
+            ≡ read_devices result.raw (range_of self.old.memory) addr width bus.old }
         ensures back { devices_back result.change bus.new ≡ bus.old }
         ensures exists { IsRestorableChange result.change }
         ensures of_load { IsOfLoad result.change }
@@ -299,9 +318,14 @@ impl Hart {
         requires exists { IsDestination destination }
         requires count { self.old.csrs.retired < 2 ^ 64 - 1 }
         requires aligned { access.addr % width_bytes access.width ≡ 0 }
-        ensures told { (limit : ℕ) → Told limit (loaded_at access.next access.addr access.width access.signed (seen_in time (arch_of self.old bus.old)) (spot_of (range_of self.old.memory) access.addr access.width)) (arch_of self.old bus.old) result }
-        ensures arch { arch_of self.new bus.new ≡ load_made (range_of self.old.memory) destination access.next access.addr access.width access.signed time (arch_of self.old bus.old) }
-        ensures back { TakesBack (range_of self.old.memory) result (arch_of self.old bus.old) (arch_of self.new bus.new) }
+        ensures told { (limit : ℕ)
+            → Told limit (loaded_at access.next access.addr access.width access.signed
+            (seen_in time (arch_of self.old bus.old)) (spot_of (range_of self.old.memory) access.addr access.width)) (arch_of self.old bus.old) result }
+        ensures arch { arch_of self.new bus.new
+            ≡ load_made (range_of self.old.memory) destination access.next access.addr access.width
+            access.signed time (arch_of self.old bus.old) }
+        ensures back { TakesBack (range_of self.old.memory) result (arch_of self.old bus.old)
+            (arch_of self.new bus.new) }
         ensures memory { self.new.memory ≡ self.old.memory }
         ensures room { self.new.room ≡ self.old.room }
     {
@@ -324,13 +348,15 @@ impl Hart {
         }
     }
 
-    /// Ends a store that does this outside its device: sends a byte, if there is room for it, or ends the run.
+    /// Ends a store that does this outside its device: sends a byte, if there is room for it, or
+    /// ends the run.
     #[tactic(auto, unfolding(crate::specs::Hart::arch_of))]
     fn conclude(&mut self, note: Note, next: u32, limit: u32) -> Stepped
         requires count { self.old.csrs.retired < 2 ^ 64 - 1 }
         requires limit { limit ≤ self.old.room }
         ensures stepped { result ≡ stepped_by limit self.old.output.items note }
-        ensures arch { (d : Devices) → arch_of self.new d ≡ concluded limit note next (arch_of self.old d) }
+        ensures arch { (d : Devices)
+            → arch_of self.new d ≡ concluded limit note next (arch_of self.old d) }
         ensures memory { self.new.memory ≡ self.old.memory }
         ensures room { self.new.room ≡ self.old.room }
     {
@@ -360,9 +386,13 @@ impl Hart {
         requires count { self.old.csrs.retired < 2 ^ 64 - 1 }
         requires aligned { access.addr % width_bytes access.width ≡ 0 }
         requires limit { limit ≤ self.old.room }
-        ensures told { Told limit (stored_at access.next access.addr access.width access.value (spot_of (range_of self.old.memory) access.addr access.width)) (arch_of self.old bus.old) result }
-        ensures arch { arch_of self.new bus.new ≡ store_made (range_of self.old.memory) limit access.next access.addr access.width access.value (arch_of self.old bus.old) }
-        ensures back { TakesBack (range_of self.old.memory) result (arch_of self.old bus.old) (arch_of self.new bus.new) }
+        ensures told { Told limit (stored_at access.next access.addr access.width access.value
+            (spot_of (range_of self.old.memory) access.addr access.width)) (arch_of self.old bus.old) result }
+        ensures arch { arch_of self.new bus.new
+            ≡ store_made (range_of self.old.memory) limit access.next access.addr access.width
+            access.value (arch_of self.old bus.old) }
+        ensures back { TakesBack (range_of self.old.memory) result (arch_of self.old bus.old)
+            (arch_of self.new bus.new) }
         ensures range { range_of self.new.memory ≡ range_of self.old.memory }
         ensures exec { exec_of self.new.memory ≡ exec_of self.old.memory }
         ensures room { self.new.room ≡ self.old.room }
@@ -412,6 +442,7 @@ impl Hart {
 
     /// Does what an instruction does whose outcome this is, with an output limit.
     #[tactic(auto, unfolding(crate::specs::Hart::arch_of))]
+    #[inline(always)]
     fn reach<D: Device>(
         &mut self,
         bus: &mut Bus<D>,
@@ -424,9 +455,13 @@ impl Hart {
         requires count { self.old.csrs.retired < 2 ^ 64 - 1 }
         requires aligned { AlignedBy outcome.cause outcome.reach }
         requires limit { limit ≤ self.old.room }
-        ensures told { Told limit (outcome_result (range_of self.old.memory) (seen_in time (arch_of self.old bus.old)) outcome) (arch_of self.old bus.old) result }
-        ensures arch { arch_of self.new bus.new ≡ outcome_made (range_of self.old.memory) limit destination outcome time (arch_of self.old bus.old) }
-        ensures back { TakesBack (range_of self.old.memory) result (arch_of self.old bus.old) (arch_of self.new bus.new) }
+        ensures told { Told limit (outcome_result (range_of self.old.memory)
+            (seen_in time (arch_of self.old bus.old)) outcome) (arch_of self.old bus.old) result }
+        ensures arch { arch_of self.new bus.new
+            ≡ outcome_made (range_of self.old.memory) limit destination outcome time
+            (arch_of self.old bus.old) }
+        ensures back { TakesBack (range_of self.old.memory) result (arch_of self.old bus.old)
+            (arch_of self.new bus.new) }
         ensures range { range_of self.new.memory ≡ range_of self.old.memory }
         ensures exec { exec_of self.new.memory ≡ exec_of self.old.memory }
         ensures room { self.new.room ≡ self.old.room }
@@ -465,8 +500,8 @@ impl Hart {
         }
     }
 
-    /// Reads and writes a control and status register, or traps where the access is illegal. Without a time, a register
-    /// that shows it reads 0.
+    /// Reads and writes a control and status register, or traps where the access is illegal.
+    /// Without a time, a register that shows it reads 0.
     #[tactic(auto, unfolding(crate::specs::Hart::arch_of))]
     fn access_csr(
         &mut self,
@@ -478,8 +513,13 @@ impl Hart {
     ) -> Performed
         requires exists { IsDestination (dest_of insn) }
         requires count { self.old.csrs.retired < 2 ^ 64 - 1 }
-        ensures told { (limit : ℕ) (d : Devices) → Told limit (csr_result word insn self.old.pc time (csr_access self.old.csrs insn x (unwrap_or time 0) cmp)) (arch_of self.old d) result }
-        ensures arch { (d : Devices) → arch_of self.new d ≡ csr_made word insn time (csr_access self.old.csrs insn x (unwrap_or time 0) cmp) (arch_of self.old d) }
+        ensures told { (limit : ℕ) (d : Devices)
+            → Told limit (csr_result word insn self.old.pc time
+            (csr_access self.old.csrs insn x (unwrap_or time 0) cmp)) (arch_of self.old d) result }
+        ensures arch { (d : Devices)
+            → arch_of self.new d
+            ≡ csr_made word insn time (csr_access self.old.csrs insn x (unwrap_or time 0) cmp)
+            (arch_of self.old d) }
         ensures change { result.change ≡ System self.old.csrs }
         ensures memory { self.new.memory ≡ self.old.memory }
         ensures room { self.new.room ≡ self.old.room }
@@ -513,6 +553,7 @@ impl Hart {
 
     /// Executes an instruction with a time or none and an output limit.
     #[tactic(auto, unfolding(crate::specs::Hart::arch_of))]
+    #[inline(always)]
     fn perform<D: Device>(
         &mut self,
         bus: &mut Bus<D>,
@@ -524,9 +565,13 @@ impl Hart {
         requires fits { Fits insn }
         requires count { self.old.csrs.retired < 2 ^ 64 - 1 }
         requires limit { limit ≤ self.old.room }
-        ensures told { Told limit (result_of (range_of self.old.memory) (known word insn) time (arch_of self.old bus.old)) (arch_of self.old bus.old) result }
-        ensures arch { arch_of self.new bus.new ≡ behind limit (known word insn) (result_of (range_of self.old.memory) (known word insn) time (arch_of self.old bus.old)) time (arch_of self.old bus.old) }
-        ensures back { TakesBack (range_of self.old.memory) result (arch_of self.old bus.old) (arch_of self.new bus.new) }
+        ensures told { Told limit (result_of (range_of self.old.memory) (known word insn) time
+            (arch_of self.old bus.old)) (arch_of self.old bus.old) result }
+        ensures arch { arch_of self.new bus.new
+            ≡ behind limit (known word insn)
+            (result_of (range_of self.old.memory) (known word insn) time (arch_of self.old bus.old)) time (arch_of self.old bus.old) }
+        ensures back { TakesBack (range_of self.old.memory) result (arch_of self.old bus.old)
+            (arch_of self.new bus.new) }
         ensures range { range_of self.new.memory ≡ range_of self.old.memory }
         ensures exec { exec_of self.new.memory ≡ exec_of self.old.memory }
         ensures room { self.new.room ≡ self.old.room }
@@ -544,9 +589,10 @@ impl Hart {
         self.reach(bus, insn.dest(), outcome, time, limit)
     }
 
-    /// Executes what was fetched, with a time or none. Where the output already has as many bytes as the limit, an
-    /// instruction that sends one isn't executed.
+    /// Executes what was fetched, with a time or none. Where the output already has as many bytes
+    /// as the limit, an instruction that sends one isn't executed.
     #[tactic(auto, unfolding(crate::specs::Hart::arch_of))]
+    #[inline(always)]
     pub fn execute<D: Device>(
         &mut self,
         bus: &mut Bus<D>,
@@ -557,9 +603,13 @@ impl Hart {
         requires fits { FetchedFits fetched }
         requires count { self.old.csrs.retired < 2 ^ 64 - 1 }
         requires limit { limit ≤ self.old.room }
-        ensures told { Told limit (result_of (range_of self.old.memory) (found_in fetched) time (arch_of self.old bus.old)) (arch_of self.old bus.old) result }
-        ensures arch { arch_of self.new bus.new ≡ behind limit (found_in fetched) (result_of (range_of self.old.memory) (found_in fetched) time (arch_of self.old bus.old)) time (arch_of self.old bus.old) }
-        ensures back { TakesBack (range_of self.old.memory) result (arch_of self.old bus.old) (arch_of self.new bus.new) }
+        ensures told { Told limit (result_of (range_of self.old.memory) (found_in fetched) time
+            (arch_of self.old bus.old)) (arch_of self.old bus.old) result }
+        ensures arch { arch_of self.new bus.new
+            ≡ behind limit (found_in fetched)
+            (result_of (range_of self.old.memory) (found_in fetched) time (arch_of self.old bus.old)) time (arch_of self.old bus.old) }
+        ensures back { TakesBack (range_of self.old.memory) result (arch_of self.old bus.old)
+            (arch_of self.new bus.new) }
         ensures range { range_of self.new.memory ≡ range_of self.old.memory }
         ensures exec { exec_of self.new.memory ≡ exec_of self.old.memory }
         ensures room { self.new.room ≡ self.old.room }
@@ -576,7 +626,12 @@ impl Hart {
     /// Lets fetch see memory as it stands.
     #[tactic(auto, unfolding(crate::specs::Hart::arch_of))]
     pub fn sync(&mut self)
-        ensures arch { (d : Devices) → arch_of self.new d ≡ record (arch_of self.old d) { text = text_from (exec_of self.old.memory) (ram_of self.old.memory) } }
+        ensures arch { (d : Devices)
+            → arch_of self.new d
+            ≡ record (arch_of self.old d) {
+              text = text_from (exec_of self.old.memory)
+                  (ram_of self.old.memory);
+            } }
         ensures range { range_of self.new.memory ≡ range_of self.old.memory }
         ensures exec { exec_of self.new.memory ≡ exec_of self.old.memory }
         ensures room { self.new.room ≡ self.old.room }
@@ -600,7 +655,8 @@ impl Hart {
     #[tactic(auto, unfolding(crate::specs::Hart::arch_of))]
     fn take_back<D: Device>(&mut self, bus: &mut Bus<D>, change: Change)
         requires restorable { IsRestorableChange change }
-        ensures arch { arch_of self.new bus.new ≡ changed_back (range_of self.old.memory) change (arch_of self.old bus.old) }
+        ensures arch { arch_of self.new bus.new
+            ≡ changed_back (range_of self.old.memory) change (arch_of self.old bus.old) }
         ensures range { range_of self.new.memory ≡ range_of self.old.memory }
         ensures exec { exec_of self.new.memory ≡ exec_of self.old.memory }
         ensures room { self.new.room ≡ self.old.room }
@@ -630,7 +686,8 @@ impl Hart {
     #[tactic(auto, unfolding(crate::specs::Hart::arch_of, crate::specs::Undo::undone))]
     pub fn restore<D: Device>(&mut self, bus: &mut Bus<D>, past: Past)
         requires restorable { IsRestorable past }
-        ensures arch { arch_of self.new bus.new ≡ undone (range_of self.old.memory) past (arch_of self.old bus.old) }
+        ensures arch { arch_of self.new bus.new
+            ≡ undone (range_of self.old.memory) past (arch_of self.old bus.old) }
         ensures range { range_of self.new.memory ≡ range_of self.old.memory }
         ensures exec { exec_of self.new.memory ≡ exec_of self.old.memory }
         ensures room { self.new.room ≡ self.old.room }

@@ -1,14 +1,18 @@
-//! The functional side: it executes instructions along the path that the timing side's orders bend, goes back by undoing
-//! and forwards by executing, or runs alone without a timing side.
+//! The functional side: it executes instructions along the path that the timing side's orders bend,
+//! goes back by undoing and forwards by executing, or runs alone without a timing side, also step
+//! by step with a history to go back over.
 #![tactic(auto)]
 
 mod contents;
 mod found;
 mod hart;
+mod history;
 mod performed;
 mod side;
+mod trail;
 mod walk;
 
+pub use history::History;
 pub use side::{Arch, FuncSide};
 
 #[cfg(test)]

@@ -1,5 +1,6 @@
 use fsim_base::{Access, Cause, Halt};
-use undo_journal::Change;
+use machine_csr::Csrs;
+use undo_journal::{Change, Past};
 
 /// How an instruction leaves the run.
 #[derive(Clone, Copy, Debug, PartialEq, Eq)]
@@ -12,8 +13,8 @@ pub enum Stepped {
     Ended(Halt),
 }
 
-/// What an instruction did beside its changes of the hart: how it leaves the run, what is told of it, and what takes back
-/// its changes of memory and devices.
+/// What is told of an instruction once it is executed: how it leaves the run, what its entry needs,
+/// and what takes back what it changed beside its register.
 #[derive(Clone, Copy, Debug, PartialEq, Eq)]
 pub struct Performed {
     pub stepped: Stepped,
@@ -24,4 +25,27 @@ pub struct Performed {
     pub cause: Option<Cause>,
     /// What it changed beside its register.
     pub change: Change,
+}
+
+/// What takes one step of a run alone back.
+#[derive(Clone, Copy, Debug, PartialEq, Eq)]
+pub struct PastStep {
+    /// What takes its instruction back, to where its interrupt left off.
+    pub instruction: Past,
+    /// The next address before the step.
+    pub pc: u32,
+    /// The control and status registers before the step, which a timer interrupt changes first.
+    pub csrs: Csrs,
+}
+
+/// What one step of a run alone did.
+#[derive(Clone, Copy, Debug, PartialEq, Eq)]
+pub struct Made {
+    /// Whether it sent a byte to the console.
+    pub has_sent: bool,
+    /// How the program ended the run, where it did.
+    pub halt: Option<Halt>,
+    /// Whether its instruction is a FENCE.I.
+    pub is_fence: bool,
+    pub past: PastStep,
 }

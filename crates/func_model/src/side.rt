@@ -1,6 +1,13 @@
-ghost use Rattle.std.specs.Prelude.{◌≡◌, ◌↔◌, ◌<◌, ◌≤◌, ◌+◌, ◌^◌, ℕ, Option, Some, None, true, false, map, IfOk, IfSome, IfNone, IsNone, length};
+ghost use Rattle.std.specs.Prelude.{◌≡◌, ◌↔◌, ◌<◌, ◌≤◌, ◌+◌, ◌^◌, ℕ, Option, Some, None, true};
+ghost use Rattle.std.specs.Prelude.{false, map, IfOk, IfSome, IfNone, IsNone, length};
+ghost use Rattle.mono_model.specs.declared.setup.Setup.{Setup as RunSetup};
+ghost use Rattle.mono_model.specs.Arch.{Arch as State};
+ghost use Rattle.func_model.specs.Contents.{ContentsStandFor};
+ghost use Rattle.func_model.specs.Side.{registers_in, registers_at};
 
+use crate::contents::Contents;
 use crate::hart::compare;
+use crate::history::History;
 use crate::walk::Walk;
 use device_bus::Device;
 use fsim_base::{NoMemory, Width};
@@ -22,7 +29,23 @@ pub struct Arch {
     pub cmp: u64,
 }
 
-/// The functional side. It stands for a setup, the orders that it obeyed, and a position on their path.
+/// The registers of what a side holds.
+pub fn registers<D: Device>(contents: &Contents<D>) -> Arch
+    ensures registers { result ≡ registers_in contents.now }
+    ensures state { (s : RunSetup) (a : State) → ContentsStandFor s a contents.now
+        → result ≡ registers_at a }
+{
+    let hart = &contents.hart;
+    Arch {
+        pc: hart.pc,
+        regs: hart.regs,
+        csrs: hart.csrs,
+        cmp: compare(&contents.bus),
+    }
+}
+
+/// The functional side. It stands for a setup, the orders that it obeyed, and a position on their
+/// path.
 #[derive(Drop)]
 pub struct FuncSide<D: Device> {
     walk: Walk<D>,
@@ -43,17 +66,18 @@ impl<D: Device> Model for FuncSide<D> {
 impl<D: Device> FuncSide<D> {
     ghost use Rattle.std.specs.Prelude.{List, ◌∷◌, []};
     ghost use Rattle.rollback_cmds.specs.declared.order.Order.{Order as SpecOrder};
-    ghost use Rattle.mono_model.specs.declared.setup.Setup.{Setup as RunSetup};
     ghost use Rattle.device_bus.specs.Bus.{device_order};
     ghost use Rattle.mono_model.specs.Setup.{is_setup};
     ghost use Rattle.mono_model.specs.Demand.{number_of};
     ghost use Rattle.mono_model.specs.Alone.{alone, alone_final};
-    ghost use Rattle.func_model.specs.Contents.{ContentsStandFor, output_in};
-    ghost use Rattle.func_model.specs.Walk.{WalkStandsFor, IsFresh, IsForward, IsAtRest, IsProduced, IsObeyed, HasRoom};
+    ghost use Rattle.func_model.specs.Contents.{output_in};
+    ghost use Rattle.func_model.specs.Walk.{WalkStandsFor, IsFresh, IsForward, IsAtRest};
+    ghost use Rattle.func_model.specs.Walk.{IsProduced, IsObeyed, HasRoom};
+    ghost use Rattle.func_model.specs.Trail.{TrailStandsFor, IsOpening};
     ghost use Rattle.func_model.specs.Side.{arch_in, word_in};
 
-    /// The functional side at the start of a run. It takes all memory of the run here: RAM, the journal, the output, and
-    /// what the devices keep; a refusal drops what it was given.
+    /// The functional side at the start of a run. It takes all memory of the run here: RAM, the
+    /// journal, the output, and what the devices keep; a refusal drops what it was given.
     pub fn new(alloc: Global, setup: &Setup, devices: Vec<D>) -> Result<FuncSide<D>, NoMemory>
         requires sound { is_setup setup.now ≡ true }
         requires order { map D.kind devices.items ≡ device_order }
@@ -64,12 +88,30 @@ impl<D: Device> FuncSide<D> {
         Ok(FuncSide { walk })
     }
 
-    /// The next entry of its path, in its epoch, and goes on behind it. None exactly where the journal is full or the side
-    /// is stopped.
+    /// A run alone, at its start, that can go back over so many steps. It takes all memory of the
+    /// run here: RAM, what leads back, the output, and what the devices keep; a refusal drops what
+    /// it was given.
+    pub fn history(
+        alloc: Global,
+        setup: &Setup,
+        devices: Vec<D>,
+        steps: u32,
+    ) -> Result<History<D>, NoMemory>
+        requires sound { is_setup setup.now ≡ true }
+        requires order { map D.kind devices.items ≡ device_order }
+        ensures stands { IfOk result (λ history. TrailStandsFor setup.now history) }
+        ensures opening { IfOk result (λ history. IsOpening steps history) }
+    {
+        History::new(alloc, setup, devices, steps)
+    }
+
+    /// The next entry of its path, in its epoch, and goes on behind it. None exactly where the
+    /// journal is full or the side is stopped.
     pub fn produce(&mut self) -> Option<Entry>
         requires position { self.old.position < 2 ^ 62 }
         requires epoch { self.old.epoch < 2 ^ 62 }
-        ensures produced { (s : RunSetup) (os : List SpecOrder) → WalkStandsFor s os self.old → IsProduced s os self.old self.new result }
+        ensures produced { (s : RunSetup) (os : List SpecOrder) → WalkStandsFor s os self.old
+            → IsProduced s os self.old self.new result }
         ensures moved { IfSome result (λ e. IsForward self.old self.new) }
         ensures none { IsNone result ↔ IsAtRest self.old }
         ensures same { IfNone result (self.new ≡ self.old) }
@@ -77,8 +119,9 @@ impl<D: Device> FuncSide<D> {
         self.walk.produce()
     }
 
-    /// Obeys an order of the timing side. Each but Commit goes to instruction `n`, backwards by undoing or forwards by
-    /// executing; a side that is stopped goes no further. What is committed, by Commit, Interrupt or Sync, is never taken back.
+    /// Obeys an order of the timing side. Each but Commit goes to instruction `n`, backwards by
+    /// undoing or forwards by executing; a side that is stopped goes no further. What is committed,
+    /// by Commit, Interrupt or Sync, is never taken back.
     pub fn obey(&mut self, order: Order)
         requires reach { self.old.is_stopped ≡ true → number_of order ≤ self.old.position }
         requires from { self.old.committed ≤ number_of order }
@@ -87,22 +130,25 @@ impl<D: Device> FuncSide<D> {
         requires position { self.old.position < 2 ^ 62 }
         requires epoch { self.old.epoch < 2 ^ 62 }
         requires within { HasRoom order self.old self.old.limit }
-        ensures stands { (s : RunSetup) (os : List SpecOrder) → WalkStandsFor s os self.old → WalkStandsFor s (order ∷ os) self.new }
+        ensures stands { (s : RunSetup) (os : List SpecOrder) → WalkStandsFor s os self.old
+            → WalkStandsFor s (order ∷ os) self.new }
         ensures moved { IsObeyed order self.old self.new }
         ensures committed_never_falls { self.old.committed ≤ self.new.committed }
     {
         self.walk.obey(order);
     }
 
-    /// Runs alone, without a timing side: one instruction a step, with the step's number as its time, until the program ends
-    /// the run, the output has no room for a byte, or so many steps were made. Nothing was produced or obeyed before; the
-    /// side is stopped then.
+    /// Runs alone, without a timing side: one instruction a step, with the step's number as its
+    /// time, until the program ends the run, the output has no room for a byte, or so many steps
+    /// were made. Nothing was produced or obeyed before; the side is stopped then.
     pub fn alone(&mut self, steps: u64) -> Final
         requires fresh { IsFresh self.old }
         requires some { 1 ≤ steps }
         requires bounded { steps < 2 ^ 63 }
-        ensures reported { (s : RunSetup) → s.cycles ≡ steps → WalkStandsFor s [] self.old → result ≡ alone_final (alone s steps) }
-        ensures contents { (s : RunSetup) → s.cycles ≡ steps → WalkStandsFor s [] self.old → ContentsStandFor s (alone s steps).arch self.new.contents }
+        ensures reported { (s : RunSetup) → s.cycles ≡ steps → WalkStandsFor s [] self.old
+            → result ≡ alone_final (alone s steps) }
+        ensures contents { (s : RunSetup) → s.cycles ≡ steps → WalkStandsFor s [] self.old
+            → ContentsStandFor s (alone s steps).arch self.new.contents }
         ensures stopped { self.new.is_stopped ≡ true }
     {
         self.walk.is_stopped = true;
@@ -114,13 +160,7 @@ impl<D: Device> FuncSide<D> {
     pub fn arch(&self) -> Arch
         ensures arch { result ≡ arch_in self.now }
     {
-        let hart = &self.walk.contents.hart;
-        Arch {
-            pc: hart.pc,
-            regs: hart.regs,
-            csrs: hart.csrs,
-            cmp: compare(&self.walk.contents.bus),
-        }
+        registers(&self.walk.contents)
     }
 
     /// The output so far.
@@ -130,7 +170,8 @@ impl<D: Device> FuncSide<D> {
         self.walk.contents.output()
     }
 
-    /// The word of RAM at an address; None exactly where the address isn't a multiple of 4 or is outside RAM.
+    /// The word of RAM at an address; None exactly where the address isn't a multiple of 4 or is
+    /// outside RAM.
     pub fn word_at(&self, addr: u32) -> Option<u32>
         ensures word { result ≡ word_in self.now.contents addr }
     {

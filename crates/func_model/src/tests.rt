@@ -1,5 +1,5 @@
-//! A functional side that is driven by orders, and one that runs alone. The values are worked out by hand from the manual
-//! and the machine's rules.
+//! A functional side that is driven by orders, and one that runs alone. The values are worked out
+//! by hand from the manual and the machine's rules.
 
 ghost use Rattle.std.specs.Prelude.{◌≡◌, map};
 ghost use Rattle.device_bus.specs.Bus.{device_order};
@@ -36,7 +36,8 @@ use std::test::Fail;
 use trace_entry::Entry;
 use watched::Watched;
 
-/// The journal of a machine with a trace and a reorder buffer of one place each has room for 4 steps.
+/// The journal of a machine with a trace and a reorder buffer of one place each has room for 4
+/// steps.
 fn fill_journal<D: Device>(rt: &impl Abort, alloc: Global, devices: Vec<D>) -> Result<(), Fail>
     requires order { map D.kind devices.items ≡ device_order }
 {
@@ -66,8 +67,8 @@ fn full_journal_gives_no_entry(rt: HostRuntime) -> Result<(), Fail> {
     fill_journal(&rt, rt.alloc(), devices)
 }
 
-/// What is told of the instructions at these addresses, each set by an order, but for the last, which is refused behind the
-/// trap before it.
+/// What is told of the instructions at these addresses, each set by an order, but for the last,
+/// which is refused behind the trap before it.
 fn compare_entries<D: Device>(rt: &impl Abort, alloc: Global, devices: Vec<D>) -> Result<(), Fail>
     requires order { map D.kind devices.items ≡ device_order }
 {
@@ -287,7 +288,8 @@ fn interrupt_goes_to_the_handler_for_good(rt: HostRuntime) -> Result<(), Fail> {
     interrupt(&rt, rt.alloc(), devices)
 }
 
-/// Produces an entry, and compares whether its instruction reads the time without one, and the register that it writes.
+/// Produces an entry, and compares whether its instruction reads the time without one, and the
+/// register that it writes.
 fn check_read<D: Device>(
     rt: &impl Abort,
     side: &mut Watched<D>,

@@ -1,4 +1,5 @@
-ghost use Rattle.std.specs.Prelude.{◌≡◌, ◌↔◌, ◌⊎◌, ◌<◌, ◌≤◌, ◌+◌, ◌^◌, ℕ, Option, Some, None, true, false, map, IfOk, IfSome, IfNone, IsNone, length};
+ghost use Rattle.std.specs.Prelude.{◌≡◌, ◌↔◌, ◌⊎◌, ◌<◌, ◌≤◌, ◌+◌, ◌^◌, ℕ, Option, Some, None, true};
+ghost use Rattle.std.specs.Prelude.{false, map, IfOk, IfSome, IfNone, IsNone, length};
 
 use crate::contents::Contents;
 use device_bus::Device;
@@ -9,7 +10,8 @@ use std::alloc::Global;
 use trace_entry::Entry;
 use undo_journal::Journal;
 
-/// A walk along a path: what the machine holds at a position, and what leads back from there to what is committed.
+/// A walk along a path: what the machine holds at a position, and what leads back from there to
+/// what is committed.
 #[derive(Drop)]
 pub struct Walk<D: Device> {
     pub contents: Contents<D>,
@@ -30,13 +32,17 @@ pub struct Walk<D: Device> {
 impl<D: Device> Walk<D> {
     ghost use Rattle.std.specs.Prelude.{List, ◌∷◌, []};
     ghost use Rattle.rollback_cmds.specs.declared.order.Order.{Order as SpecOrder};
-    ghost use Rattle.rollback_cmds.specs.declared.order.Order.TheVariants.{Set, Interrupt, Time, Stop, Sync};
+    ghost use Rattle.rollback_cmds.specs.declared.order.Order.TheVariants.{Set, Interrupt, Time};
+    ghost use Rattle.rollback_cmds.specs.declared.order.Order.TheVariants.{Stop, Sync};
     ghost use Rattle.mono_model.specs.declared.setup.Setup.{Setup as RunSetup};
     ghost use Rattle.device_bus.specs.Bus.{device_order};
     ghost use Rattle.mono_model.specs.Setup.{is_setup};
     ghost use Rattle.mono_model.specs.Path.{path, entry};
     ghost use Rattle.mono_model.specs.Demand.{number_of};
-    ghost use Rattle.func_model.specs.Walk.{IsOnPath, WalkStandsFor, IsOnSomePath, CanReach, IsOver, IsSameBut, IsStanding, IsFresh, IsMoved, IsForward, IsAtRest, IsProduced, IsObeyed, HasRoom, bytes_before, given_at};
+    ghost use Rattle.func_model.specs.Walk.{IsOnPath, WalkStandsFor, IsOnSomePath, CanReach};
+    ghost use Rattle.func_model.specs.Walk.{IsOver, IsSameBut, IsStanding, IsFresh, IsMoved};
+    ghost use Rattle.func_model.specs.Walk.{IsForward, IsAtRest, IsProduced, IsObeyed, HasRoom};
+    ghost use Rattle.func_model.specs.Walk.{bytes_before, given_at};
 
     /// The walk at the start of a run. All memory of the run is taken here.
     pub fn new(alloc: Global, setup: &Setup, devices: Vec<D>) -> Result<Walk<D>, NoMemory>
@@ -76,8 +82,10 @@ impl<D: Device> Walk<D> {
         requires running { self.old.is_stopped ≡ false }
         requires room { self.old.position < self.old.committed + self.old.journal.room }
         requires bounded { self.old.position < 2 ^ 63 }
-        ensures stands { (s : RunSetup) (os : List SpecOrder) → WalkStandsFor s os self.old → WalkStandsFor s os self.new }
-        ensures entry { (s : RunSetup) (os : List SpecOrder) → WalkStandsFor s os self.old → result ≡ entry s os self.old.position }
+        ensures stands { (s : RunSetup) (os : List SpecOrder) → WalkStandsFor s os self.old
+            → WalkStandsFor s os self.new }
+        ensures entry { (s : RunSetup) (os : List SpecOrder) → WalkStandsFor s os self.old
+            → result ≡ entry s os self.old.position }
         ensures position { self.new.position ≡ self.old.position + 1 }
         ensures others { IsSameBut self.old self.new }
     {
@@ -90,11 +98,13 @@ impl<D: Device> Walk<D> {
         entry
     }
 
-    /// Takes instructions back until instruction `n` is the next one. What is committed isn't taken back.
+    /// Takes instructions back until instruction `n` is the next one. What is committed isn't taken
+    /// back.
     fn go_back(&mut self, n: u64)
         requires holding { n < self.old.position → IsOnSomePath self.old }
         requires from { self.old.committed ≤ n }
-        ensures holds { (s : RunSetup) (os : List SpecOrder) → IsOnPath s os self.old → IsOnPath s os self.new }
+        ensures holds { (s : RunSetup) (os : List SpecOrder) → IsOnPath s os self.old
+            → IsOnPath s os self.new }
         ensures position { n < self.old.position → self.new.position ≡ n }
         ensures stays { self.old.position ≤ n → self.new ≡ self.old }
         ensures others { IsSameBut self.old self.new }
@@ -114,7 +124,8 @@ impl<D: Device> Walk<D> {
         requires running { self.old.position < n → self.old.is_stopped ≡ false }
         requires room { n ≤ self.old.committed + self.old.journal.room }
         requires bounded { n < 2 ^ 63 }
-        ensures stands { (s : RunSetup) (os : List SpecOrder) → WalkStandsFor s os self.old → WalkStandsFor s os self.new }
+        ensures stands { (s : RunSetup) (os : List SpecOrder) → WalkStandsFor s os self.old
+            → WalkStandsFor s os self.new }
         ensures position { self.old.position ≤ n → self.new.position ≡ n }
         ensures stays { n < self.old.position → self.new ≡ self.old }
         ensures others { IsSameBut self.old self.new }
@@ -130,7 +141,8 @@ impl<D: Device> Walk<D> {
         requires from { self.old.committed ≤ n }
         requires room { n ≤ self.old.committed + self.old.journal.room }
         requires bounded { n < 2 ^ 63 }
-        ensures holds { (s : RunSetup) (os : List SpecOrder) → WalkStandsFor s os self.old → IsOnPath s os self.new }
+        ensures holds { (s : RunSetup) (os : List SpecOrder) → WalkStandsFor s os self.old
+            → IsOnPath s os self.new }
         ensures position { self.new.position ≡ n }
         ensures others { IsSameBut self.old self.new }
     {
@@ -141,10 +153,12 @@ impl<D: Device> Walk<D> {
         }
     }
 
-    /// Makes `n` the number of the first instruction that isn't committed. What is below can't be taken back any more.
+    /// Makes `n` the number of the first instruction that isn't committed. What is below can't be
+    /// taken back any more.
     fn commit(&mut self, n: u64)
         requires from { self.old.committed ≤ n }
-        ensures holds { (s : RunSetup) (os : List SpecOrder) → IsOnPath s os self.old → length (path s os n).output ≤ s.output → IsOnPath s os self.new }
+        ensures holds { (s : RunSetup) (os : List SpecOrder) → IsOnPath s os self.old
+            → length (path s os n).output ≤ s.output → IsOnPath s os self.new }
         ensures committed { self.new.committed ≡ n }
         ensures room { self.new.journal.room ≡ self.old.journal.room }
         ensures others { self.new ≡ record self.old { journal = self.new.journal; committed = n } }
@@ -160,7 +174,8 @@ impl<D: Device> Walk<D> {
         requires room { n ≤ self.old.committed + self.old.journal.room }
         requires bounded { n < 2 ^ 63 }
         requires epoch { self.old.epoch < 2 ^ 63 }
-        ensures stands { (s : RunSetup) (os : List SpecOrder) → WalkStandsFor s os self.old → WalkStandsFor s (Set n addr ∷ os) self.new }
+        ensures stands { (s : RunSetup) (os : List SpecOrder) → WalkStandsFor s os self.old
+            → WalkStandsFor s (Set n addr ∷ os) self.new }
         ensures moved { IsMoved n self.old.committed self.old.is_stopped self.old self.new }
     {
         self.go_to(n);
@@ -176,7 +191,8 @@ impl<D: Device> Walk<D> {
         requires bounded { n < 2 ^ 63 }
         requires epoch { self.old.epoch < 2 ^ 63 }
         requires within { bytes_before self.old n ≤ self.old.limit }
-        ensures stands { (s : RunSetup) (os : List SpecOrder) → WalkStandsFor s os self.old → WalkStandsFor s (Interrupt n ∷ os) self.new }
+        ensures stands { (s : RunSetup) (os : List SpecOrder) → WalkStandsFor s os self.old
+            → WalkStandsFor s (Interrupt n ∷ os) self.new }
         ensures moved { IsMoved n n self.old.is_stopped self.old self.new }
     {
         self.go_to(n);
@@ -193,7 +209,8 @@ impl<D: Device> Walk<D> {
         requires room { n ≤ self.old.committed + self.old.journal.room }
         requires bounded { n < 2 ^ 63 }
         requires epoch { self.old.epoch < 2 ^ 63 }
-        ensures stands { (s : RunSetup) (os : List SpecOrder) → WalkStandsFor s os self.old → WalkStandsFor s (Time n time ∷ os) self.new }
+        ensures stands { (s : RunSetup) (os : List SpecOrder) → WalkStandsFor s os self.old
+            → WalkStandsFor s (Time n time ∷ os) self.new }
         ensures moved { IsMoved n self.old.committed self.old.is_stopped self.old self.new }
     {
         self.go_to(n);
@@ -208,7 +225,8 @@ impl<D: Device> Walk<D> {
         requires room { n ≤ self.old.committed + self.old.journal.room }
         requires bounded { n < 2 ^ 63 }
         requires epoch { self.old.epoch < 2 ^ 63 }
-        ensures stands { (s : RunSetup) (os : List SpecOrder) → WalkStandsFor s os self.old → WalkStandsFor s (Stop n ∷ os) self.new }
+        ensures stands { (s : RunSetup) (os : List SpecOrder) → WalkStandsFor s os self.old
+            → WalkStandsFor s (Stop n ∷ os) self.new }
         ensures moved { IsMoved n self.old.committed true self.old self.new }
     {
         self.go_to(n);
@@ -224,7 +242,8 @@ impl<D: Device> Walk<D> {
         requires bounded { n < 2 ^ 63 }
         requires epoch { self.old.epoch < 2 ^ 63 }
         requires within { bytes_before self.old n ≤ self.old.limit }
-        ensures stands { (s : RunSetup) (os : List SpecOrder) → WalkStandsFor s os self.old → WalkStandsFor s (Sync n ∷ os) self.new }
+        ensures stands { (s : RunSetup) (os : List SpecOrder) → WalkStandsFor s os self.old
+            → WalkStandsFor s (Sync n ∷ os) self.new }
         ensures moved { IsMoved n n self.old.is_stopped self.old self.new }
     {
         self.go_to(n);
@@ -237,7 +256,8 @@ impl<D: Device> Walk<D> {
     pub fn produce(&mut self) -> Option<Entry>
         requires standing { self.old.is_stopped ≡ false → IsStanding self.old }
         requires bounded { self.old.position < 2 ^ 63 }
-        ensures produced { (s : RunSetup) (os : List SpecOrder) → WalkStandsFor s os self.old → IsProduced s os self.old self.new result }
+        ensures produced { (s : RunSetup) (os : List SpecOrder) → WalkStandsFor s os self.old
+            → IsProduced s os self.old self.new result }
         ensures moved { IfSome result (λ e. IsForward self.old self.new) }
         ensures none { IsNone result ↔ IsAtRest self.old }
         ensures same { IfNone result (self.new ≡ self.old) }
@@ -257,7 +277,8 @@ impl<D: Device> Walk<D> {
         requires bounded { number_of order < 2 ^ 63 }
         requires epoch { self.old.epoch < 2 ^ 63 }
         requires within { HasRoom order self.old self.old.limit }
-        ensures stands { (s : RunSetup) (os : List SpecOrder) → WalkStandsFor s os self.old → WalkStandsFor s (order ∷ os) self.new }
+        ensures stands { (s : RunSetup) (os : List SpecOrder) → WalkStandsFor s os self.old
+            → WalkStandsFor s (order ∷ os) self.new }
         ensures moved { IsObeyed order self.old self.new }
         ensures committed_never_falls { self.old.committed ≤ self.new.committed }
     {

@@ -201,8 +201,8 @@ module _ {D : Type 0} (passed : ℕ) (old state there : SplitState D) (is : Goin
       (sym (stop_at s gone.stands.behind gone.split.place gone.stands.place) ∙ sym here.stopped ∙ sym same.stopped ∙ stopped)
 
   pub going_on : (new : SplitState D) → there.func.is_stopped ≡ false → Leads (λ s x. event_at s tick x) there new → Going (passed + 1) old new
-  going_on new running end_of_cycle = record {
-    standing = after_event tick there new (after_rounds state there is.standing rounds) end_of_cycle;
+  going_on new running stepped = record {
+    standing = after_event tick there new (after_rounds state there is.standing rounds) stepped;
     on = λ s x sound reached h.
         let gone : Gone s passed there = arrived s x sound reached h in
         let at : is_boundary gone.split ≡ true = at_boundary s x sound reached h in
@@ -213,7 +213,7 @@ module _ {D : Type 0} (passed : ℕ) (old state there : SplitState D) (is : Goin
         record {
           split = event_at s tick gone.split;
           reached = event_reached s tick gone.split gone.reached;
-          stands = end_of_cycle s gone.split sound gone.reached gone.stands;
+          stands = stepped s gone.split sound gone.reached gone.stands;
           from = record {
             steps = suc gone.from.steps;
             least = omega arith;

@@ -10,3 +10,4 @@ pub mod Reporting
 pub mod Opening
 pub mod OnDemand
 pub mod Handing
+pub mod Clear

@@ -117,11 +117,11 @@ module _ {D : Type 0} (made : ℕ) (old state : SplitState D) (is : Rounded made
   }
 
 -- the parts of a round, one after the other
-pub round_stands : {D : Type 0} (old obeyed computed pushed taken end_of_cycle new : SplitState D) →
+pub round_stands : {D : Type 0} (old obeyed computed pushed taken stepped new : SplitState D) →
     Leads (λ s x. event_at s split.obey x) old obeyed → Leads (λ s x. event_at s split.compute x) obeyed computed → Leads (λ s x. event_at s split.push x) computed pushed →
-    Leads (λ s x. event_at s split.take x) pushed taken → Leads (λ s x. if is_place_boundary x.place then x else event_at s split.tick x) taken end_of_cycle →
-    Leads (λ s x. event_at s split.send x) end_of_cycle new → Leads round old new
-round_stands old obeyed computed pushed taken end_of_cycle new to_obeyed to_computed to_pushed to_taken to_ticked to_new = λ s x sound reached h.
+    Leads (λ s x. event_at s split.take x) pushed taken → Leads (λ s x. if is_place_boundary x.place then x else event_at s split.tick x) taken stepped →
+    Leads (λ s x. event_at s split.send x) stepped new → Leads round old new
+round_stands old obeyed computed pushed taken stepped new to_obeyed to_computed to_pushed to_taken to_ticked to_new = λ s x sound reached h.
     let o = event_at s split.obey x in
     let c = event_at s split.compute o in
     let a = event_at s split.push c in

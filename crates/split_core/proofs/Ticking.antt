@@ -128,8 +128,8 @@ module _ {D : Type 0} (s : Setup) (x : Split) (state : SplitState D) (h : SplitS
             ∙ ap (λ (p : Place). held_after (told_by x.place (step s x.place)) x.place p state.time.held) next
             ∙ ap (held_after (told_by x.place (step s x.place)) x.place (step s x.place)) h.held
 
-    pub end_of_cycle : (hand : Option Order) → hand ≡ order_told turn → SplitStandsFor s (event_at s tick x) (record state { time = time; hand = hand })
-    end_of_cycle hand told =
+    pub stepped : (hand : Option Order) → hand ≡ order_told turn → SplitStandsFor s (event_at s tick x) (record state { time = time; hand = hand })
+    stepped hand told =
         let P : Option Order → Type 0 = λ o. SplitStandsFor s (event_at s tick x) (record state { time = time; hand = o }) in
         subst P (sym told) (by_lack (needs_entry there && is_none state.time.held) refl)
       where

@@ -1,16 +1,19 @@
-ghost use Rattle.std.specs.Prelude.{◌≡◌, [], is_none, true};
-ghost use Rattle.split_core.specs.Plays.{Plays};
+ghost use Rattle.std.specs.Prelude.{◌≡◌, []};
+ghost use Rattle.split_core.specs.Plays.{Plays, IsClear};
 ghost use Rattle.split_core.specs.Standing.{IsStanding};
 
 use crate::state::SplitState;
 use device_bus::Device;
+use time_model::Turn;
 
 /// The run on demand: an entry is computed only where the timing side wants it, and an order is
 /// obeyed as soon as it is told. So nothing is computed for nothing, whatever room there is between
 /// the sides.
 impl<D: Device> SplitState<D> {
-    /// Plays steps of the timing side until the functional side has obeyed the last order, as many
-    /// as a run has at most.
+    ghost use Rattle.std.specs.Prelude.{true};
+
+    /// Plays until the functional side has obeyed the last order, or the timing side has made as
+    /// many steps as a run has at most.
     pub fn play_on_demand(&mut self)
         requires standing { IsStanding self.old }
         ensures plays { Plays self.old self.new }
@@ -19,8 +22,22 @@ impl<D: Device> SplitState<D> {
             if self.func.stopped() {
                 return;
             }
+            if self.is_clear() {
+                self.play_clear();
+                return;
+            }
             self.play_step();
         }
+    }
+
+    /// Whether nothing is under way between the sides.
+    fn is_clear(&self) -> bool
+        ensures clear { result ≡ true → IsClear self.now }
+    {
+        self.computed.is_none()
+            && self.hand.is_none()
+            && self.entries.is_empty()
+            && self.listed_orders.is_empty()
     }
 
     /// A step of the timing side, behind the entry that it wants, and the order that it tells.
@@ -34,27 +51,74 @@ impl<D: Device> SplitState<D> {
         self.obey();
     }
 
-    /// Brings the timing side the next entry, if it wants one.
+    /// Brings the timing side the next entry, if it wants one: the oldest under way, or the next
+    /// one computed.
     fn bring_entry(&mut self)
         requires standing { IsStanding self.old }
         ensures plays { Plays self.old self.new }
     {
-        if self.computed.is_none() && self.entries.is_empty() {
-            self.hand_over();
-        } else if self.time.wants() {
-            self.compute();
-            self.push();
+        if self.time.wants() {
+            self.list_entry();
             self.take();
         }
     }
 
-    /// Hands the timing side the next entry as it is computed, if it wants one: as where it goes through the
-    /// list of entries, with none before it.
+    /// Computes the next entry where none is under way.
+    fn list_entry(&mut self)
+        requires standing { IsStanding self.old }
+        ensures plays { Plays self.old self.new }
+    {
+        if self.entries.is_empty() {
+            self.compute();
+            self.push();
+        }
+    }
+
+    /// Plays on with nothing under way, until the run is over.
+    fn play_clear(&mut self)
+        requires standing { IsStanding self.old }
+        requires clear { IsClear self.old }
+        ensures plays { Plays self.old self.new }
+    {
+        // each step may want an entry first
+        for _ in 0..self.steps.saturating_mul(2) {
+            if self.play_turn() {
+                return;
+            }
+        }
+    }
+
+    /// With nothing under way the timing side makes steps, or is handed the entry that the next one
+    /// wants. The order that it tells is obeyed at once. Whether the timing side stood at the end
+    /// of the run.
+    fn play_turn(&mut self) -> bool
+        requires standing { IsStanding self.old }
+        requires clear { IsClear self.old }
+        ensures plays { Plays self.old self.new }
+        ensures clear { IsClear self.new }
+    {
+        match self.time.run() {
+            Turn::Moved => false,
+            Turn::CycleEnd => false,
+            Turn::Want => {
+                self.hand_over();
+                false
+            }
+            Turn::Ordered(order) => {
+                self.func.obey(order);
+                false
+            }
+            Turn::Halted => true,
+        }
+    }
+
+    /// Hands the timing side the next entry as it is computed, if it wants one: as where it goes
+    /// through the list of entries, with none before it.
     fn hand_over(&mut self)
         requires standing { IsStanding self.old }
-        requires free { is_none self.old.computed ≡ true }
-        requires empty { self.old.entries.items ≡ [] }
+        requires clear { IsClear self.old }
         ensures plays { Plays self.old self.new }
+        ensures clear { IsClear self.new }
     {
         if self.time.wants() {
             if let Some(entry) = self.func.produce() {

@@ -50,7 +50,8 @@ impl<D: Device> SplitState<D> {
     pub fn new(alloc: Global, setup: &Setup, devices: Vec<D>) -> Result<SplitState<D>, NoMemory>
         requires sound { is_setup setup.now ≡ true }
         requires order { map D.kind devices.items ≡ device_order }
-        ensures stands { IfOk result (λ state. SplitStandsFor setup.now (split_start setup.now) state) }
+        ensures stands { IfOk result (λ state. SplitStandsFor setup.now (split_start setup.now)
+            state) }
     {
         let func = FuncSide::new(alloc, setup, devices)?;
         let time = TimeSide::new(alloc, setup)?;
@@ -111,7 +112,7 @@ impl<D: Device> SplitState<D> {
 
     /// The timing side makes a step, if no order is in hand.
     pub fn tick(&mut self)
-        ensures end_of_cycle { Leads (λ s. event_at s tick) self.old self.new }
+        ensures stepped { Leads (λ s. event_at s tick) self.old self.new }
     {
         if self.hand.is_none() {
             self.hand = order_told(self.time.step());
@@ -189,7 +190,8 @@ impl<D: Device> SplitState<D> {
 
     /// The timing side makes a step, if it isn't at a boundary.
     fn tick_within_cycle(&mut self)
-        ensures end_of_cycle { Leads (λ s x. if is_place_boundary x.place then x else event_at s tick x)
+        ensures stepped { Leads (λ s x. if is_place_boundary x.place then x else event_at s
+            tick x)
             self.old self.new }
     {
         if !self.time.at_boundary() {

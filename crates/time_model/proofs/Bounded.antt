@@ -1,6 +1,6 @@
 -- Two bounds that each turn of the timing side keeps: no more instructions retire than are committed, and no miss is waited
 -- for longer than the caches take.
-use Rattle.std.proofs.Common.{ℕ, zero, suc, ◌+◌, ◌≤◌, ◌&&◌, ◌==◌, not, nat_lt, Bool, true, false, Option, Some, None, List, [], ◌∷◌, ap, sym, subst, arith}
+use Rattle.std.proofs.Common.{ℕ, zero, suc, ◌+◌, ◌≤◌, ◌&&◌, ◌==◌, not, nat_lt, false, Option, Some, None, List, [], ◌∷◌, ap, sym, subst, arith}
 use Rattle.std.proofs.lemmas.Bool.{cond_both}
 use Rattle.rollback_cmds.specs.declared.order.Order.{Order}
 use Rattle.rollback_cmds.specs.declared.order.Order.TheVariants.{Interrupt, Time}

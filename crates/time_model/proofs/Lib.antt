@@ -8,3 +8,4 @@ pub mod Sides
 pub mod Turns
 pub mod Trials
 pub mod NextNumber
+pub mod Running

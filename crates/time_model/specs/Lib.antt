@@ -3,3 +3,4 @@ pub mod Turns
 pub mod Standing
 pub mod Turning
 pub mod Trial
+pub mod Running

@@ -1,4 +1,5 @@
-//! The timing side: it makes the steps of the demand run on the entries that it is handed, and tells the orders.
+//! The timing side: it makes the steps of the demand run on the entries that it is handed, and
+//! tells the orders.
 #![tactic(auto)]
 
 mod at;

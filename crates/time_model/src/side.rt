@@ -8,6 +8,9 @@ use std::alloc::Global;
 use std::marker::Model;
 use trace_entry::Entry;
 
+/// No call of [`TimeSide::run`] makes more steps.
+const STEPS: u32 = 64;
+
 /// What became of an entry that was handed over.
 #[derive(Clone, Copy, Debug, PartialEq, Eq)]
 pub enum Taken {
@@ -17,9 +20,9 @@ pub enum Taken {
     Dropped,
 }
 
-/// The timing side. It stands for a setup and a number of steps of its demand run: it makes the steps, tells their orders,
-/// and is handed the entries that they need (Chiou et al., FPGA-Accelerated Simulation Technologies, MICRO 2007, the timing
-/// model).
+/// The timing side. It stands for a setup and a number of steps of its demand run: it makes the
+/// steps, tells their orders, and is handed the entries that they need (Chiou et al.,
+/// FPGA-Accelerated Simulation Technologies, MICRO 2007, the timing model).
 #[derive(Drop)]
 pub struct TimeSide {
     state: TimeState,
@@ -42,9 +45,11 @@ impl TimeSide {
     ghost use Rattle.mono_model.specs.Machine.{stats_of};
     ghost use Rattle.mono_model.specs.Demand.{place, next, needs_entry, needed_entry};
     ghost use Rattle.mono_model.specs.Split.{is_place_boundary};
+    ghost use Rattle.time_model.specs.Running.{IsRun};
     ghost use Rattle.time_model.specs.Standing.{TimeSideStandsFor, IsStep, IsRight, wants_in};
 
-    /// The timing side before the first step of a run. It takes all its memory here, and want of it is the one refusal.
+    /// The timing side before the first step of a run. It takes all its memory here, and want of it
+    /// is the one refusal.
     pub fn new(alloc: Global, setup: &Setup) -> Result<TimeSide, NoMemory>
         requires sound { is_setup setup.now ≡ true }
         ensures stands { IfOk result (λ side. TimeSideStandsFor setup.now 0 side) }
@@ -54,28 +59,40 @@ impl TimeSide {
         Ok(TimeSide { state })
     }
 
-    /// Makes one step of the demand run, and tells the one order of it, if it has one. It does nothing where the step needs an
-    /// entry that isn't held, and where the run is over.
+    /// Makes one step of the demand run, and tells the one order of it, if it has one. It does
+    /// nothing where the step needs an entry that isn't held, and where the run is over.
     pub fn step(&mut self) -> Turn
-        ensures made { (s : RunSetup) (k : ℕ) → is_setup s ≡ true → TimeSideStandsFor s k self.old → IsStep s k self.old self.new result }
+        ensures made { (s : RunSetup) (k : ℕ) → is_setup s ≡ true → TimeSideStandsFor s k self.old
+            → IsStep s k self.old self.new result }
     {
-        self.state.step()
+        self.state.run(1)
+    }
+
+    /// Makes steps of the demand run, up to the first that tells an order, needs an entry that isn't
+    /// held, or finds the run over; and at most 64 of them. The result is what the last one did.
+    pub fn run(&mut self) -> Turn
+        ensures made { IsRun self.old self.new result }
+    {
+        self.state.run(STEPS)
     }
 
     /// Whether the next step needs the entry of the instruction to fetch next, and none is held.
     pub fn wants(&self) -> bool
         ensures wants { result ≡ wants_in self.now }
-        ensures needs { (s : RunSetup) (k : ℕ) → TimeSideStandsFor s k self.now → result ≡ (needs_entry (place s k) && is_none self.now.held) }
+        ensures needs { (s : RunSetup) (k : ℕ) → TimeSideStandsFor s k self.now
+            → result ≡ (needs_entry (place s k) && is_none self.now.held) }
     {
         self.state.wants()
     }
 
-    /// Takes the entry that arrives next, where one is needed. An entry of the side's epoch is held for the next try; any other
-    /// is dropped.
+    /// Takes the entry that arrives next, where one is needed. An entry of the side's epoch is held
+    /// for the next try; any other is dropped.
     pub fn take(&mut self, entry: &Entry) -> Taken
         requires wants { wants_in self.old ≡ true }
         requires right { IsRight entry.now self.old }
-        ensures stands { (s : RunSetup) (k : ℕ) → TimeSideStandsFor s k self.old → (entry.now.epoch ≡ self.old.epoch → entry.now ≡ needed_entry s (place s k)) → TimeSideStandsFor s k self.new }
+        ensures stands { (s : RunSetup) (k : ℕ) → TimeSideStandsFor s k self.old
+            → (entry.now.epoch ≡ self.old.epoch → entry.now ≡ needed_entry s (place s k))
+            → TimeSideStandsFor s k self.new }
         ensures used { result ≡ Taken.Used → self.new ≡ record self.old { held = Some entry.now } }
         ensures dropped { result ≡ Taken.Dropped → self.new ≡ self.old }
         ensures by_epoch { (result ≡ Taken.Used) ↔ (entry.now.epoch ≡ self.old.epoch) }
@@ -89,14 +106,16 @@ impl TimeSide {
 
     /// The number of the cycle, counted from 0.
     pub fn cycle(&self) -> u64
-        ensures cycle { (s : RunSetup) (k : ℕ) → TimeSideStandsFor s k self.now → result ≡ (place s k).run.demand.machine.cycle }
+        ensures cycle { (s : RunSetup) (k : ℕ) → TimeSideStandsFor s k self.now
+            → result ≡ (place s k).run.demand.machine.cycle }
     {
         self.state.core.cycle()
     }
 
     /// The number of the next instruction to commit, counted from 0 along the path.
     pub fn committed(&self) -> u64
-        ensures committed { (s : RunSetup) (k : ℕ) → TimeSideStandsFor s k self.now → result ≡ (place s k).run.demand.to_commit }
+        ensures committed { (s : RunSetup) (k : ℕ) → TimeSideStandsFor s k self.now
+            → result ≡ (place s k).run.demand.to_commit }
     {
         self.state.core.to_commit()
     }
@@ -111,21 +130,24 @@ impl TimeSide {
 
     /// How the run stands or ended.
     pub fn end(&self) -> End
-        ensures end { (s : RunSetup) (k : ℕ) → TimeSideStandsFor s k self.now → result ≡ (place s k).run.demand.machine.end }
+        ensures end { (s : RunSetup) (k : ℕ) → TimeSideStandsFor s k self.now
+            → result ≡ (place s k).run.demand.machine.end }
     {
         self.state.core.end()
     }
 
     /// What was counted so far.
     pub fn stats(&self) -> Stats
-        ensures stats { (s : RunSetup) (k : ℕ) → TimeSideStandsFor s k self.now → result ≡ stats_of s (place s k).run.demand.machine }
+        ensures stats { (s : RunSetup) (k : ℕ) → TimeSideStandsFor s k self.now
+            → result ≡ stats_of s (place s k).run.demand.machine }
     {
         self.state.core.stats()
     }
 
     /// Whether all orders are told where a cycle starts or the run has ended.
     pub fn at_boundary(&self) -> bool
-        ensures boundary { (s : RunSetup) (k : ℕ) → TimeSideStandsFor s k self.now → result ≡ is_place_boundary (place s k) }
+        ensures boundary { (s : RunSetup) (k : ℕ) → TimeSideStandsFor s k self.now
+            → result ≡ is_place_boundary (place s k) }
     {
         self.state.at_boundary()
     }

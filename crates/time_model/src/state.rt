@@ -1,4 +1,5 @@
-ghost use Rattle.std.specs.Prelude.{◌≡◌, ◌&&◌, ℕ, true, false, if◌then◌else◌, Some, None, IfOk, is_none};
+ghost use Rattle.std.specs.Prelude.{◌≡◌, ◌&&◌, ℕ, true, false, if◌then◌else◌, Some, None, IfOk};
+ghost use Rattle.std.specs.Prelude.{is_none};
 
 use crate::at::At;
 use crate::turn::{Turn, turn_of};
@@ -25,19 +26,23 @@ pub struct TimeState {
 }
 
 impl TimeState {
+    ghost use Rattle.std.specs.Prelude.{◌<◌};
     ghost use Rattle.mono_model.specs.declared.setup.Setup.{Setup as RunSetup};
     ghost use Rattle.trace_entry.specs.declared.Entry.{Entry as SpecEntry};
     ghost use Rattle.mono_model.specs.Setup.{is_setup};
     ghost use Rattle.mono_model.specs.Demand.{is_try, trying, ending};
     ghost use Rattle.mono_model.specs.Split.{is_cycle_start};
     ghost use Rattle.timing_side.specs.Timing.{Timing};
-    ghost use Rattle.timing_side.specs.Turn.{timing_turn, try_or_end, at_after_commit, at_after_cycle};
+    ghost use Rattle.timing_side.specs.Turn.{timing_turn, try_or_end, at_after_commit};
+    ghost use Rattle.timing_side.specs.Turn.{at_after_cycle};
     ghost use Rattle.timing_core.specs.CoreStandsFor.{CoreStandsFor};
     ghost use Rattle.timing_core.specs.Small.{IsSmall};
     ghost use Rattle.timing_core.specs.Orders.{orders_in};
     ghost use Rattle.time_model.specs.At.{at_in};
     ghost use Rattle.time_model.specs.Standing.{TimeSideStandsFor, IsStanding, IsStep, wants_in};
-    ghost use Rattle.time_model.specs.Turning.{MayTry, IsTurned, IsTold, over_in, held_by, owed_by, epoch_by, kept_by};
+    ghost use Rattle.time_model.specs.Running.{IsRun, Steps};
+    ghost use Rattle.time_model.specs.Turning.{MayTry, IsTurned, IsTold, over_in, held_by, owed_by};
+    ghost use Rattle.time_model.specs.Turning.{epoch_by, kept_by};
 
     /// Before the first step of a run. All memory is taken here.
     pub fn new(alloc: Global, setup: &Setup) -> Result<TimeState, NoMemory>
@@ -79,7 +84,8 @@ impl TimeState {
 
     /// A try of fetch where one may be made and is allowed, else the end of the cycle.
     fn try_or_end(&self, allowed: u32) -> At
-        ensures at { (s : RunSetup) (t : Timing) → CoreStandsFor s t self.now.core → at_in result ≡ try_or_end s allowed t }
+        ensures at { (s : RunSetup) (t : Timing) → CoreStandsFor s t self.now.core
+            → at_in result ≡ try_or_end s allowed t }
     {
         if allowed > 0 && self.core.may_fetch() {
             At::Trying(allowed - 1)
@@ -90,7 +96,8 @@ impl TimeState {
 
     /// What comes behind a try: the next one, where it may follow, or the end of the cycle.
     fn at_after_try(&self, goes_on: bool, allowed: u32) -> At
-        ensures at { (s : RunSetup) (t : Timing) → CoreStandsFor s t self.now.core → at_in result ≡ (if goes_on then try_or_end s allowed t else ending) }
+        ensures at { (s : RunSetup) (t : Timing) → CoreStandsFor s t self.now.core
+            → at_in result ≡ (if goes_on then try_or_end s allowed t else ending) }
     {
         if goes_on {
             self.try_or_end(allowed)
@@ -101,7 +108,8 @@ impl TimeState {
 
     /// What comes behind commit: where the run has ended the other phases are left out.
     fn at_after_commit(&self) -> At
-        ensures at { (s : RunSetup) (t : Timing) → CoreStandsFor s t self.now.core → at_in result ≡ at_after_commit t }
+        ensures at { (s : RunSetup) (t : Timing) → CoreStandsFor s t self.now.core
+            → at_in result ≡ at_after_commit t }
     {
         if self.core.has_ended() {
             At::Ending
@@ -112,7 +120,8 @@ impl TimeState {
 
     /// What comes behind the end of a cycle: the next cycle, or the last order.
     fn at_after_cycle(&self) -> At
-        ensures at { (s : RunSetup) (t : Timing) → CoreStandsFor s t self.now.core → at_in result ≡ at_after_cycle t }
+        ensures at { (s : RunSetup) (t : Timing) → CoreStandsFor s t self.now.core
+            → at_in result ≡ at_after_cycle t }
     {
         if self.core.has_ended() {
             At::Stopping
@@ -124,11 +133,14 @@ impl TimeState {
     /// Tries to fetch the instruction of the held entry, with so many tries allowed behind it.
     fn attempt(&mut self, allowed: u32) -> Orders
         requires tries { MayTry self.old }
-        ensures made { (s : RunSetup) (t : Timing) (e : SpecEntry) → CoreStandsFor s t self.old.core → IsSmall t → self.old.held ≡ Some e →
+        ensures made { (s : RunSetup) (t : Timing) (e : SpecEntry) → CoreStandsFor s t self.old.core
+            → IsSmall t → self.old.held ≡ Some e →
             IsTurned s (timing_turn s e (trying allowed) t) self.new result }
-        ensures held { (s : RunSetup) (t : Timing) (e : SpecEntry) → CoreStandsFor s t self.old.core → IsSmall t → self.old.held ≡ Some e →
+        ensures held { (s : RunSetup) (t : Timing) (e : SpecEntry) → CoreStandsFor s t self.old.core
+            → IsSmall t → self.old.held ≡ Some e →
             self.new.held ≡ held_by (timing_turn s e (trying allowed) t).timing t self.old.held }
-        ensures others { self.new ≡ record self.old { core = self.new.core; at = self.new.at; held = self.new.held } }
+        ensures others { self.new
+            ≡ record self.old { core = self.new.core; at = self.new.at; held = self.new.held } }
     {
         let entry = self.held.unwrap();
         let tried = self.core.fetch(&entry);
@@ -142,12 +154,16 @@ impl TimeState {
     /// Makes the turn that comes next. A try needs that its entry is held.
     fn turn(&mut self) -> Orders
         requires tries { is_try (at_in self.old.at) ≡ true → MayTry self.old }
-        ensures made { (s : RunSetup) (t : Timing) (e : SpecEntry) → CoreStandsFor s t self.old.core → IsSmall t →
-            (is_try (at_in self.old.at) ≡ true → self.old.held ≡ Some e) → IsTurned s (timing_turn s e (at_in self.old.at) t) self.new result }
-        ensures held { (s : RunSetup) (t : Timing) (e : SpecEntry) → CoreStandsFor s t self.old.core → IsSmall t → is_try (at_in self.old.at) ≡ true → self.old.held ≡ Some e →
+        ensures made { (s : RunSetup) (t : Timing) (e : SpecEntry) → CoreStandsFor s t self.old.core
+            → IsSmall t →
+            (is_try (at_in self.old.at) ≡ true → self.old.held ≡ Some e)
+            → IsTurned s (timing_turn s e (at_in self.old.at) t) self.new result }
+        ensures held { (s : RunSetup) (t : Timing) (e : SpecEntry) → CoreStandsFor s t self.old.core
+            → IsSmall t → is_try (at_in self.old.at) ≡ true → self.old.held ≡ Some e →
             self.new.held ≡ held_by (timing_turn s e (at_in self.old.at) t).timing t self.old.held }
         ensures keeps { is_try (at_in self.old.at) ≡ false → self.new.held ≡ self.old.held }
-        ensures others { self.new ≡ record self.old { core = self.new.core; at = self.new.at; held = self.new.held } }
+        ensures others { self.new
+            ≡ record self.old { core = self.new.core; at = self.new.at; held = self.new.held } }
     {
         match self.at {
             At::Interrupting => {
@@ -184,13 +200,22 @@ impl TimeState {
         }
     }
 
-    /// The orders that stand to be told: the owed one, or else those of the turn that comes next, which is made.
+    /// The orders that stand to be told: the owed one, or else those of the turn that comes next,
+    /// which is made.
     fn due(&mut self) -> Orders
         requires standing { IsStanding self.old }
         requires holds { wants_in self.old ≡ false }
         requires goes { over_in self.old ≡ false }
-        ensures due { (s : RunSetup) (k : ℕ) → is_setup s ≡ true → TimeSideStandsFor s k self.old → IsTold s k self.old self.new result }
-        ensures others { self.new ≡ record self.old { core = self.new.core; at = self.new.at; owed = None; held = self.new.held } }
+        ensures due { (s : RunSetup) (k : ℕ) → is_setup s ≡ true → TimeSideStandsFor s k self.old
+            → IsTold s k self.old self.new result }
+        ensures others { self.new
+            ≡ record self.old {
+              core = self.new.core;
+              at = self.new.at;
+              owed = None;
+              held =
+                  self.new.held;
+            } }
     {
         match self.owed.take() {
             Some(order) => Orders::one(order),
@@ -198,12 +223,17 @@ impl TimeState {
         }
     }
 
-    /// Tells the first of a turn's orders, and owes the second. Entries made before an order that opens an epoch are of no use
-    /// behind it, so the held one is dropped.
+    /// Tells the first of a turn's orders, and owes the second. Entries made before an order that
+    /// opens an epoch are of no use behind it, so the held one is dropped.
     fn tell(&mut self, orders: Orders) -> Option<Order>
         requires none { self.old.owed ≡ None }
         ensures told { result ≡ orders.first }
-        ensures owed { self.new ≡ record self.old { owed = owed_by orders; epoch = epoch_by orders.first self.old.epoch; held = kept_by orders.first self.old.held } }
+        ensures owed { self.new
+            ≡ record self.old {
+              owed = owed_by orders;
+              epoch = epoch_by orders.first self.old.epoch;
+              held = kept_by orders.first self.old.held;
+            } }
     {
         let order = orders.first?;
         self.owed = orders.second;
@@ -215,9 +245,10 @@ impl TimeState {
     }
 
     /// Makes one step of the demand run, if the entry that it needs is held.
-    pub fn step(&mut self) -> Turn
+    fn step(&mut self) -> Turn
         requires standing { IsStanding self.old }
-        ensures made { (s : RunSetup) (k : ℕ) → is_setup s ≡ true → TimeSideStandsFor s k self.old → IsStep s k self.old self.new result }
+        ensures made { (s : RunSetup) (k : ℕ) → is_setup s ≡ true → TimeSideStandsFor s k self.old
+            → IsStep s k self.old self.new result }
     {
         if self.wants() {
             return Turn::Want;
@@ -228,5 +259,24 @@ impl TimeState {
         let at = self.at;
         let orders = self.due();
         turn_of(self.tell(orders), at)
+    }
+
+    /// Makes steps of the demand run, at least one and at most so many, up to the first that isn't
+    /// made or tells an order.
+    pub fn run(&mut self, most: u32) -> Turn
+        requires some { 0 < most }
+        requires standing { IsStanding self.old }
+        ensures made { IsRun self.old self.new result }
+        ensures single { most ≡ 1 → Steps self.old self.new result }
+        ensures standing { IsStanding self.new }
+    {
+        let mut turn = Turn::Moved;
+        for _ in 0..most {
+            turn = self.step();
+            if !turn.is_silent() {
+                return turn;
+            }
+        }
+        turn
     }
 }

@@ -1,5 +1,5 @@
-//! A run whose one fetch fails, from its first step to behind its last order. Its steps are worked out by hand from the
-//! machine's rules (`specs/Trial.antt`).
+//! A run whose one fetch fails, from its first step to behind its last order. Its steps are worked
+//! out by hand from the machine's rules (`specs/Trial.antt`).
 
 ghost use Rattle.std.specs.Prelude.{◌≡◌, ◌<◌, ◌+◌, true};
 ghost use Rattle.mono_model.specs.Setup.{is_setup};

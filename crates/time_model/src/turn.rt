@@ -1,6 +1,7 @@
 ghost use Rattle.std.specs.Prelude.{◌≡◌};
 ghost use Rattle.time_model.specs.At.{at_in};
 ghost use Rattle.time_model.specs.Turns.{turn_told};
+ghost use Rattle.time_model.specs.Running.{is_silent};
 
 use crate::at::At;
 use rollback_cmds::Order;
@@ -18,6 +19,15 @@ pub enum Turn {
     CycleEnd,
     /// Nothing, since the run is over and its last order told.
     Halted,
+}
+
+impl Turn {
+    /// Whether the step was made and told no order.
+    pub(crate) fn is_silent(self) -> bool
+        ensures silent { result ≡ is_silent self }
+    {
+        matches!(self, Turn::Moved | Turn::CycleEnd)
+    }
 }
 
 /// What a step did that told this order, or none, where this turn came next before it.

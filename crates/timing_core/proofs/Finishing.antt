@@ -17,7 +17,7 @@ in_fronts (slot ∷ rest) c = in_front slot (in_fronts rest c)
 abbrev pub completed_from : ℕ → ℕ → List Slot → Completed
 completed_from cycle place slots = in_fronts (take place slots) (completes cycle (drop place slots))
 
--- a slot that isn't due stays as it is
+-- a slot whose latency isn't over stays as it is
 pub passes : (cycle place : ℕ) (slots : List Slot) (slot : Slot) → slice_get slots place ≡ Some slot → is_finishing cycle slot.state ≡ false →
     completed_from cycle place slots ≡ completed_from cycle (suc place) slots
 passes cycle place [] slot is later = absurd (cc)
@@ -75,7 +75,7 @@ executes_there slots place there = elim (slice_get_cases slots place).1 [
   | inr over ↦ let none = ap executes over.1 in let e : executes_at slots place ≡ false = none in cc
 ]
 
--- a slot that is due is done
+-- one whose latency is over is done
 pub finishes : (cycle place : ℕ) (slots : List Slot) (slot : Slot) → slice_get slots place ≡ Some slot → is_finishing cycle slot.state ≡ true → is_mispredicted slot ≡ false →
     completed_from cycle place slots ≡ completed_from cycle (suc place) (slice_set slots place (finished slot))
 finishes cycle place [] slot is due right = absurd (cc)

@@ -6,3 +6,4 @@ pub mod Finishing
 pub mod Fetching
 pub mod Walks
 pub mod Issuing
+pub mod Opcodes

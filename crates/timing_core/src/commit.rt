@@ -10,7 +10,7 @@ ghost use Rattle.timing_core.specs.Leaving.{ending_in, ended_by};
 
 use crate::orders::Orders;
 use crate::state::TimingCore;
-use fsim_base::Halt;
+use fsim_base::{Halt, bits};
 use mono_model::End;
 use reorder_buffer::{Slot, SlotState};
 use rollback_cmds::Order;
@@ -70,8 +70,16 @@ fn is_fence_i_insn(insn: Insn) -> bool
     }
 }
 
-/// Whether a word is a FENCE.I.
+/// Whether a word is a FENCE.I. Only words with its opcode are decoded for it.
+#[tactic(auto, using(crate::proofs::Opcodes::no_fence))]
 fn is_fence_i(word: u32) -> bool
+    ensures fence { result ≡ is_fence_i (found_word word (decode_of word)) }
+{
+    bits(word, 6, 0) == 0x0f && is_decoded_fence_i(word)
+}
+
+/// The same, by decoding.
+fn is_decoded_fence_i(word: u32) -> bool
     ensures fence { result ≡ is_fence_i (found_word word (decode_of word)) }
 {
     match decode(word) {
@@ -107,7 +115,8 @@ fn commit_order(left: u32, done: u64) -> Option<Order>
 
 /// The order that the ending asks for.
 fn ending_order(ending: Ending, done: u64) -> Option<Order>
-    ensures order { (os : List SpecOrder) → and_then result os ≡ ending_orders (ending_in ending) done os }
+    ensures order { (os : List SpecOrder)
+        → and_then result os ≡ ending_orders (ending_in ending) done os }
 {
     match ending {
         Ending::Plain => None,
@@ -122,7 +131,8 @@ impl TimingCore {
     ghost use Rattle.mono_model.specs.declared.setup.Setup.{Setup};
     ghost use Rattle.timing_side.specs.Slots.{found_in};
     ghost use Rattle.timing_side.specs.Timing.{Timing};
-    ghost use Rattle.timing_side.specs.Commit.{has_no_room, leaving_by, leaving_done, stays, leaving, commits, timing_commit};
+    ghost use Rattle.timing_side.specs.Commit.{has_no_room, leaving_by, leaving_done, stays};
+    ghost use Rattle.timing_side.specs.Commit.{leaving, commits, timing_commit};
     ghost use Rattle.timing_core.specs.Small.{IsAlmostSmall, IsSmall};
     ghost use Rattle.timing_core.specs.Orders.{orders_in};
     ghost use Rattle.timing_core.specs.Leaving.{kind_of, behind_of};
@@ -130,8 +140,10 @@ impl TimingCore {
 
     /// The second phase of a cycle: the oldest slots, once done, leave in order.
     pub fn commit(&mut self) -> Orders
-        ensures kept { (s : Setup) (t : Timing) → CoreStandsFor s t self.old → IsSmall t → CoreStandsFor s (timing_commit s t).timing self.new }
-        ensures orders { (s : Setup) (t : Timing) → CoreStandsFor s t self.old → IsSmall t → orders_in result ≡ (timing_commit s t).orders }
+        ensures kept { (s : Setup) (t : Timing) → CoreStandsFor s t self.old → IsSmall t
+            → CoreStandsFor s (timing_commit s t).timing self.new }
+        ensures orders { (s : Setup) (t : Timing) → CoreStandsFor s t self.old → IsSmall t
+            → orders_in result ≡ (timing_commit s t).orders }
     {
         let committed = self.leave_in_order();
         let to_commit = self.to_commit;
@@ -143,9 +155,12 @@ impl TimingCore {
 
     /// The oldest slots leave, at most so many as the machine commits in a cycle.
     fn leave_in_order(&mut self) -> Committed
-        ensures kept { (s : Setup) (t : Timing) → CoreStandsFor s t self.old → IsSmall t → CoreStandsFor s (commits s s.params.core_commit 0 t).timing self.new }
-        ensures left { (s : Setup) (t : Timing) → CoreStandsFor s t self.old → IsSmall t → result.left ≡ (commits s s.params.core_commit 0 t).left }
-        ensures ending { (s : Setup) (t : Timing) → CoreStandsFor s t self.old → IsSmall t → ending_in result.ending ≡ (commits s s.params.core_commit 0 t).ending }
+        ensures kept { (s : Setup) (t : Timing) → CoreStandsFor s t self.old → IsSmall t
+            → CoreStandsFor s (commits s s.params.core_commit 0 t).timing self.new }
+        ensures left { (s : Setup) (t : Timing) → CoreStandsFor s t self.old → IsSmall t
+            → result.left ≡ (commits s s.params.core_commit 0 t).left }
+        ensures ending { (s : Setup) (t : Timing) → CoreStandsFor s t self.old → IsSmall t
+            → ending_in result.ending ≡ (commits s s.params.core_commit 0 t).ending }
     {
         let most = self.params.core_commit;
         for left in 0..most {
@@ -162,8 +177,10 @@ impl TimingCore {
 
     /// The oldest slot does what it does in this phase.
     fn leave(&mut self) -> Leaving
-        ensures kept { (s : Setup) (t : Timing) → CoreStandsFor s t self.old → IsAlmostSmall t → CoreStandsFor s (behind_of t (leaving s t)) self.new }
-        ensures kind { (s : Setup) (t : Timing) → CoreStandsFor s t self.old → IsAlmostSmall t → result ≡ kind_of (leaving s t) }
+        ensures kept { (s : Setup) (t : Timing) → CoreStandsFor s t self.old → IsAlmostSmall t
+            → CoreStandsFor s (behind_of t (leaving s t)) self.new }
+        ensures kind { (s : Setup) (t : Timing) → CoreStandsFor s t self.old → IsAlmostSmall t
+            → result ≡ kind_of (leaving s t) }
     {
         match self.oldest_done() {
             Some(slot) => self.leave_done(&slot),
@@ -175,7 +192,8 @@ impl TimingCore {
     fn oldest_done(&self) -> Option<Slot>
         ensures oldest { IfSome result (λ slot. slice_get self.now.flight.slots 0 ≡ Some slot) }
         ensures done { IfSome result (λ slot. slot.state ≡ Done) }
-        ensures stays { IfNone result ((s : Setup) (t : Timing) → t.slots ≡ self.now.flight.slots → leaving s t ≡ stays) }
+        ensures stays { IfNone result ((s : Setup) (t : Timing) → t.slots ≡ self.now.flight.slots →
+            leaving s t ≡ stays) }
     {
         let Some(slot) = self.flight.oldest() else {
             return None;
@@ -208,16 +226,19 @@ impl TimingCore {
 
     /// Whether the output has no room for what the slot sends.
     fn has_no_room(&self, slot: &Slot) -> bool
-        ensures room { (s : Setup) (t : Timing) → CoreStandsFor s t self.now → result ≡ has_no_room s slot.now t }
+        ensures room { (s : Setup) (t : Timing) → CoreStandsFor s t self.now
+            → result ≡ has_no_room s slot.now t }
     {
         slot.sends && self.output >= u64::from(self.output_limit)
     }
 
     /// What the phase does behind a slot that retired.
     fn follow(&mut self, slot: &Slot) -> Leaving
-        ensures kept { (s : Setup) (t : Timing) → CoreStandsFor s t self.old → t.counts.squashed < 2 ^ 63 + 2 ^ 32 →
+        ensures kept { (s : Setup) (t : Timing) → CoreStandsFor s t self.old
+            → t.counts.squashed < 2 ^ 63 + 2 ^ 32 →
             CoreStandsFor s (behind_of t (leaving_by (is_fence_i (found_in slot.now)) slot.now.halt t)) self.new }
-        ensures kind { (s : Setup) (t : Timing) → CoreStandsFor s t self.old → t.counts.squashed < 2 ^ 63 + 2 ^ 32 →
+        ensures kind { (s : Setup) (t : Timing) → CoreStandsFor s t self.old
+            → t.counts.squashed < 2 ^ 63 + 2 ^ 32 →
             result ≡ kind_of (leaving_by (is_fence_i (found_in slot.now)) slot.now.halt t) }
     {
         if let Some(halt) = slot.halt {

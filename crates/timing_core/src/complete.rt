@@ -33,14 +33,16 @@ fn is_mispredicted(slot: &Slot) -> bool
     slot.cause.is_none() && slot.next != slot.predicted
 }
 
-/// Slots whose latency is over are done, the oldest first, up to the first mispredicted one, behind which the rest is to be
-/// flushed.
+/// Slots whose latency is over are done, the oldest first, up to the first mispredicted one, behind
+/// which the rest is to be flushed.
 fn finish_due(flight: &mut InFlight, cycle: u64) -> Option<Redirect>
     ensures room { flight.new.capacity ≡ flight.old.capacity }
     ensures count { length flight.new.slots ≡ length flight.old.slots }
-    ensures all { IfNone result (completes cycle flight.old.slots ≡ record { slots = flight.new.slots; redirect = None }) }
+    ensures all { IfNone result (completes cycle flight.old.slots ≡ record
+        { slots = flight.new.slots; redirect = None }) }
     ensures within { IfSome result (λ r. r.kept ≤ length flight.new.slots) }
-    ensures first { IfSome result (λ r. completes cycle flight.old.slots ≡ record { slots = take r.kept flight.new.slots; redirect = Some r.addr }) }
+    ensures first { IfSome result (λ r. completes cycle flight.old.slots ≡ record
+        { slots = take r.kept flight.new.slots; redirect = Some r.addr }) }
 {
     let len = flight.len();
     let mut from = 0;
@@ -73,11 +75,13 @@ impl TimingCore {
     ghost use Rattle.timing_core.specs.Orders.{orders_in};
     ghost use Rattle.timing_core.specs.CoreStandsFor.{CoreStandsFor};
 
-    /// The third phase of a cycle: slots whose latency is over are done, and the first mispredicted one flushes all
-    /// younger slots.
+    /// The third phase of a cycle: slots whose latency is over are done, and the first mispredicted
+    /// one flushes all younger slots.
     pub fn complete(&mut self) -> Orders
-        ensures kept { (s : Setup) (t : Timing) → CoreStandsFor s t self.old → IsSmall t → CoreStandsFor s (timing_complete t).timing self.new }
-        ensures orders { (s : Setup) (t : Timing) → CoreStandsFor s t self.old → IsSmall t → orders_in result ≡ (timing_complete t).orders }
+        ensures kept { (s : Setup) (t : Timing) → CoreStandsFor s t self.old → IsSmall t
+            → CoreStandsFor s (timing_complete t).timing self.new }
+        ensures orders { (s : Setup) (t : Timing) → CoreStandsFor s t self.old → IsSmall t
+            → orders_in result ≡ (timing_complete t).orders }
     {
         let Some(redirect) = finish_due(&mut self.flight, self.cycle) else {
             return Orders::none();

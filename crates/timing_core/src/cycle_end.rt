@@ -14,7 +14,8 @@ impl TimingCore {
 
     /// The end of a cycle. A run that has not ended ends at its limit of cycles.
     pub fn end_cycle(&mut self)
-        ensures kept { (s : Setup) (t : Timing) → CoreStandsFor s t self.old → IsSmall t → CoreStandsFor s (timing_end_of_cycle s t) self.new }
+        ensures kept { (s : Setup) (t : Timing) → CoreStandsFor s t self.old → IsSmall t
+            → CoreStandsFor s (timing_end_of_cycle s t) self.new }
     {
         self.cycle = self.cycle.saturating_add(1);
         self.end = end_after(self.end, self.cycle == self.cycle_limit);

@@ -61,19 +61,23 @@ fn slot_of(entry: &Entry, predicted: u32, cycle: u64) -> Slot
 }
 
 impl TimingCore {
-    ghost use Rattle.std.specs.Prelude.{ℕ, ◌+◌, ◌==◌, ◌<◌, ◌^◌, ◌∷◌, ◌&&◌, [], not, nat_le, nat_lt, true, length, IfSome, if◌then◌else◌};
+    ghost use Rattle.std.specs.Prelude.{ℕ, ◌+◌, ◌==◌, ◌<◌, ◌^◌, ◌∷◌, ◌&&◌, [], not, nat_le, nat_lt};
+    ghost use Rattle.std.specs.Prelude.{true, length, IfSome, if◌then◌else◌};
     ghost use Rattle.reorder_buffer.specs.Window.{youngest};
     ghost use Rattle.rollback_cmds.specs.declared.order.Order.TheVariants.{Set};
     ghost use Rattle.mono_model.specs.declared.setup.Setup.{Setup};
     ghost use Rattle.timing_side.specs.Timing.{Timing};
-    ghost use Rattle.timing_side.specs.Fetch.{may_fetch, cache_read, predicted_next, missed, appended, timing_try};
+    ghost use Rattle.timing_side.specs.Fetch.{may_fetch, cache_read, predicted_next, missed};
+    ghost use Rattle.timing_side.specs.Fetch.{appended, timing_try};
     ghost use Rattle.timing_core.specs.Small.{IsSmall};
     ghost use Rattle.timing_core.specs.Orders.{orders_in};
     ghost use Rattle.timing_core.specs.CoreStandsFor.{CoreStandsFor};
 
-    /// Whether the fifth phase of a cycle may try to fetch: it isn't waiting for a miss, and window and stations have room.
+    /// Whether the fifth phase of a cycle may try to fetch: it isn't waiting for a miss, and window
+    /// and stations have room.
     pub fn may_fetch(&self) -> bool
-        ensures may { (s : Setup) (t : Timing) → CoreStandsFor s t self.now → result ≡ may_fetch s t }
+        ensures may { (s : Setup) (t : Timing) → CoreStandsFor s t self.now
+            → result ≡ may_fetch s t }
         ensures room { result ≡ true → length self.now.flight.slots < self.now.flight.capacity }
     {
         self.is_ready() && self.flight.waiting() < self.params.core_stations
@@ -90,22 +94,28 @@ impl TimingCore {
 
     /// Whether the window has room.
     fn has_room(&self) -> bool
-        ensures window { (s : Setup) (t : Timing) → CoreStandsFor s t self.now → result ≡ nat_lt (length t.slots) s.params.core_window }
+        ensures window { (s : Setup) (t : Timing) → CoreStandsFor s t self.now
+            → result ≡ nat_lt (length t.slots) s.params.core_window }
         ensures room { result ≡ true → length self.now.flight.slots < self.now.flight.capacity }
     {
         !self.flight.is_full()
     }
 
-    /// One try of the fifth phase: the next instruction on the predicted path is appended, unless its fetch misses the
-    /// cache, which is waited for.
+    /// One try of the fifth phase: the next instruction on the predicted path is appended, unless
+    /// its fetch misses the cache, which is waited for.
     pub fn fetch(&mut self, entry: &Entry) -> Tried
         requires room { length self.old.flight.slots < self.old.flight.capacity }
-        requires next { IfSome (youngest self.old.flight.slots) (λ last. entry.now.number ≡ last.number + 1) }
-        ensures kept { (s : Setup) (t : Timing) → CoreStandsFor s t self.old → IsSmall t → CoreStandsFor s (timing_try s entry.now t).phase.timing self.new }
-        ensures orders { (s : Setup) (t : Timing) → CoreStandsFor s t self.old → IsSmall t → orders_in result.orders ≡ (timing_try s entry.now t).phase.orders }
+        requires next { IfSome (youngest self.old.flight.slots)
+            (λ last. entry.now.number ≡ last.number + 1) }
+        ensures kept { (s : Setup) (t : Timing) → CoreStandsFor s t self.old → IsSmall t
+            → CoreStandsFor s (timing_try s entry.now t).phase.timing self.new }
+        ensures orders { (s : Setup) (t : Timing) → CoreStandsFor s t self.old → IsSmall t
+            → orders_in result.orders ≡ (timing_try s entry.now t).phase.orders }
         ensures appended { (s : Setup) (t : Timing) → CoreStandsFor s t self.old → IsSmall t →
-            result.appended ≡ not ((timing_try s entry.now t).phase.timing.counts.fetched == t.counts.fetched) }
-        ensures goes_on { (s : Setup) (t : Timing) → CoreStandsFor s t self.old → IsSmall t → result.goes_on ≡ (timing_try s entry.now t).goes_on }
+            result.appended
+            ≡ not ((timing_try s entry.now t).phase.timing.counts.fetched == t.counts.fetched) }
+        ensures goes_on { (s : Setup) (t : Timing) → CoreStandsFor s t self.old → IsSmall t
+            → result.goes_on ≡ (timing_try s entry.now t).goes_on }
     {
         let predicted = self.predictor.predict(entry.addr);
         let cycles = self.read_cache(entry);
@@ -125,12 +135,14 @@ impl TimingCore {
         }
     }
 
-    /// The access of the instruction cache, unless the miss was waited for or there is nothing to fetch. The result is the
-    /// cycles that it adds.
+    /// The access of the instruction cache, unless the miss was waited for or there is nothing to
+    /// fetch. The result is the cycles that it adds.
     fn read_cache(&mut self, entry: &Entry) -> u32
         ensures flight { self.new.flight ≡ self.old.flight }
-        ensures cycles { (s : Setup) (t : Timing) → CoreStandsFor s t self.old → result ≡ (cache_read s entry.now t).cycles }
-        ensures kept { (s : Setup) (t : Timing) → CoreStandsFor s t self.old → CoreStandsFor s (record t { caches = (cache_read s entry.now t).state }) self.new }
+        ensures cycles { (s : Setup) (t : Timing) → CoreStandsFor s t self.old
+            → result ≡ (cache_read s entry.now t).cycles }
+        ensures kept { (s : Setup) (t : Timing) → CoreStandsFor s t self.old
+            → CoreStandsFor s (record t { caches = (cache_read s entry.now t).state }) self.new }
     {
         if !is_fetchable(entry) || self.paid {
             return 0;
@@ -140,7 +152,8 @@ impl TimingCore {
 
     /// A miss adds so many cycles, for which fetch waits.
     fn wait(&mut self, cycles: u32)
-        ensures kept { (s : Setup) (t : Timing) → CoreStandsFor s t self.old → t.cycle < 2 ^ 63 → CoreStandsFor s (missed cycles t.caches t) self.new }
+        ensures kept { (s : Setup) (t : Timing) → CoreStandsFor s t self.old → t.cycle < 2 ^ 63
+            → CoreStandsFor s (missed cycles t.caches t) self.new }
     {
         self.resume = self.cycle.saturating_add(u64::from(cycles));
         self.paid = true;
@@ -149,8 +162,10 @@ impl TimingCore {
     /// The instruction is appended to the window.
     fn append(&mut self, entry: &Entry, predicted: u32)
         requires room { length self.old.flight.slots < self.old.flight.capacity }
-        requires next { IfSome (youngest self.old.flight.slots) (λ last. entry.now.number ≡ last.number + 1) }
-        ensures kept { (s : Setup) (t : Timing) → CoreStandsFor s t self.old → t.counts.fetched < 2 ^ 63 → predicted ≡ predicted_next s entry.now t →
+        requires next { IfSome (youngest self.old.flight.slots)
+            (λ last. entry.now.number ≡ last.number + 1) }
+        ensures kept { (s : Setup) (t : Timing) → CoreStandsFor s t self.old
+            → t.counts.fetched < 2 ^ 63 → predicted ≡ predicted_next s entry.now t →
             CoreStandsFor s (appended s entry.now t.caches t) self.new }
     {
         self.flight.append(slot_of(entry, predicted, self.cycle));
@@ -160,8 +175,11 @@ impl TimingCore {
 
     /// The order to follow the prediction, where the youngest slot's instruction goes elsewhere.
     fn path_orders(&self, entry: &Entry, predicted: u32) -> Orders
-        ensures path { (s : Setup) (t : Timing) → CoreStandsFor s t self.now → t.to_commit < 2 ^ 63 →
-            orders_in result ≡ (if entry.now.next == predicted then [] else Set (t.to_commit + length t.slots) predicted ∷ []) }
+        ensures path { (s : Setup) (t : Timing) → CoreStandsFor s t self.now
+            → t.to_commit < 2 ^ 63 →
+            orders_in result
+            ≡ (if entry.now.next == predicted then [] else Set (t.to_commit + length t.slots)
+            predicted ∷ []) }
     {
         if entry.next == predicted {
             return Orders::none();

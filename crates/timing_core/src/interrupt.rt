@@ -11,10 +11,13 @@ impl TimingCore {
     ghost use Rattle.timing_core.specs.Orders.{orders_in};
     ghost use Rattle.timing_core.specs.CoreStandsFor.{CoreStandsFor};
 
-    /// The first phase of a cycle: the timer interrupt, taken before the next instruction to commit.
+    /// The first phase of a cycle: the timer interrupt, taken before the next instruction to
+    /// commit.
     pub fn interrupt(&mut self) -> Orders
-        ensures kept { (s : Setup) (t : Timing) → CoreStandsFor s t self.old → IsSmall t → CoreStandsFor s (timing_interrupt t).timing self.new }
-        ensures orders { (s : Setup) (t : Timing) → CoreStandsFor s t self.old → IsSmall t → orders_in result ≡ (timing_interrupt t).orders }
+        ensures kept { (s : Setup) (t : Timing) → CoreStandsFor s t self.old → IsSmall t
+            → CoreStandsFor s (timing_interrupt t).timing self.new }
+        ensures orders { (s : Setup) (t : Timing) → CoreStandsFor s t self.old → IsSmall t
+            → orders_in result ≡ (timing_interrupt t).orders }
     {
         if !self.irq.pending(self.cycle) {
             return Orders::none();

@@ -13,18 +13,22 @@ impl TimingCore {
     ghost use Rattle.reorder_buffer.specs.declared.slot.Slot.{Slot as HeldSlot};
     ghost use Rattle.mono_model.specs.declared.setup.Setup.{Setup};
     ghost use Rattle.timing_side.specs.Timing.{Timing};
-    ghost use Rattle.timing_side.specs.Issue.{is_past_front, class_allows, may_begin, turn_of, wants_time, issued, timing_issue};
+    ghost use Rattle.timing_side.specs.Issue.{is_past_front, class_allows, may_begin, turn_of};
+    ghost use Rattle.timing_side.specs.Issue.{wants_time, issued, timing_issue};
     ghost use Rattle.in_flight.specs.Flight.{older_at, may_start_at};
     ghost use Rattle.timing_core.specs.Small.{IsSmall};
     ghost use Rattle.timing_core.specs.Orders.{orders_in};
     ghost use Rattle.timing_core.specs.CoreStandsFor.{CoreStandsFor};
     ghost use Rattle.timing_core.specs.Units.{used_in, kind_count};
 
-    /// The fourth phase of a cycle: slots whose operands are there and that have a unit begin to execute, from the oldest
-    /// to the youngest. But where the oldest reads the time and was given none, it is sent back to fetch for it.
+    /// The fourth phase of a cycle: slots whose operands are there and that have a unit begin to
+    /// execute, from the oldest to the youngest. But where the oldest reads the time and was given
+    /// none, it is sent back to fetch for it.
     pub fn issue(&mut self) -> Orders
-        ensures kept { (s : Setup) (t : Timing) → CoreStandsFor s t self.old → IsSmall t → CoreStandsFor s (timing_issue s t).timing self.new }
-        ensures orders { (s : Setup) (t : Timing) → CoreStandsFor s t self.old → IsSmall t → orders_in result ≡ (timing_issue s t).orders }
+        ensures kept { (s : Setup) (t : Timing) → CoreStandsFor s t self.old → IsSmall t
+            → CoreStandsFor s (timing_issue s t).timing self.new }
+        ensures orders { (s : Setup) (t : Timing) → CoreStandsFor s t self.old → IsSmall t
+            → orders_in result ≡ (timing_issue s t).orders }
     {
         if self.wants_time() {
             self.flush(0);
@@ -40,7 +44,8 @@ impl TimingCore {
 
     /// Whether the oldest slot has passed the front, and reads the time and was given none.
     fn wants_time(&self) -> bool
-        ensures wanted { (s : Setup) (t : Timing) → CoreStandsFor s t self.now → result ≡ wants_time s t }
+        ensures wanted { (s : Setup) (t : Timing) → CoreStandsFor s t self.now
+            → result ≡ wants_time s t }
     {
         match self.flight.oldest() {
             Some(slot) => self.is_past_front(slot) && slot.unserved,
@@ -59,11 +64,12 @@ impl TimingCore {
         }
     }
 
-    /// Whether the class of the slot at a place allows it to begin: device loads and serial instructions only as the
-    /// oldest, other loads only when all older stores are done.
+    /// Whether the class of the slot at a place allows it to begin: device loads and serial
+    /// instructions only as the oldest, other loads only when all older stores are done.
     fn class_allows(&self, place: u32, slot: &Slot) -> bool
         requires within { place < length self.now.flight.slots }
-        ensures allowed { result ≡ class_allows slot.now.class slot.now.access (older_at self.now.flight.slots place) }
+        ensures allowed { result
+            ≡ class_allows slot.now.class slot.now.access (older_at self.now.flight.slots place) }
     {
         let from_device = matches!(
             slot.access,
@@ -83,7 +89,9 @@ impl TimingCore {
     fn may_begin(&self, place: u32, slot: &Slot, busy: u32, used: Used) -> bool
         requires there { slice_get self.now.flight.slots place ≡ Some slot.now }
         requires ready { may_start_at self.now.flight.slots place ≡ true }
-        ensures begins { result ≡ may_begin self.now.params self.now.cycle busy (older_at self.now.flight.slots place) slot.now (used_in used) }
+        ensures begins { result
+            ≡ may_begin self.now.params self.now.cycle busy (older_at self.now.flight.slots place)
+            slot.now (used_in used) }
         ensures countable { result ≡ true → kind_count slot.now.class used < 2 ^ 32 - 1 }
     {
         self.is_past_front(slot)
@@ -91,16 +99,20 @@ impl TimingCore {
             && used.has_unit(&self.params, busy, slot.class)
     }
 
-    /// The slot at a place, which waits and has its operands, begins where it may. The result is the units used then.
+    /// The slot at a place, which waits and has its operands, begins where it may. The result is
+    /// the units used then.
     fn turn(&mut self, place: u32, busy: u32, used: Used) -> Used
         requires ready { may_start_at self.old.flight.slots place ≡ true }
-        ensures kept { (s : Setup) (t : Timing) (slot : HeldSlot) → CoreStandsFor s t self.old → t.cycle < 2 ^ 63 →
+        ensures kept { (s : Setup) (t : Timing) (slot : HeldSlot) → CoreStandsFor s t self.old
+            → t.cycle < 2 ^ 63 →
             slice_get t.slots place ≡ Some slot →
             let turned = turn_of s t.cycle busy (older_at t.slots place) slot (used_in used) t.caches in
             CoreStandsFor s (record t { slots = slice_set t.slots place turned.turned; caches = turned.caches }) self.new }
-        ensures used { (s : Setup) (t : Timing) (slot : HeldSlot) → CoreStandsFor s t self.old → t.cycle < 2 ^ 63 →
+        ensures used { (s : Setup) (t : Timing) (slot : HeldSlot) → CoreStandsFor s t self.old
+            → t.cycle < 2 ^ 63 →
             slice_get t.slots place ≡ Some slot →
-            used_in result ≡ (turn_of s t.cycle busy (older_at t.slots place) slot (used_in used) t.caches).used }
+            used_in result
+            ≡ (turn_of s t.cycle busy (older_at t.slots place) slot (used_in used) t.caches).used }
         ensures size { length self.new.flight.slots ≡ length self.old.flight.slots }
     {
         let slot = *self.flight.at(place);
@@ -119,7 +131,8 @@ impl TimingCore {
 
     /// Slots begin, from the oldest to the youngest.
     fn issue_all(&mut self)
-        ensures kept { (s : Setup) (t : Timing) → CoreStandsFor s t self.old → IsSmall t → CoreStandsFor s (issued s t) self.new }
+        ensures kept { (s : Setup) (t : Timing) → CoreStandsFor s t self.old → IsSmall t
+            → CoreStandsFor s (issued s t) self.new }
     {
         let busy = self.flight.dividing();
         let len = self.flight.len();

@@ -2,7 +2,8 @@ ghost use Rattle.std.specs.Prelude.{◌≡◌};
 
 use rollback_cmds::Order;
 
-/// The orders that a phase makes: none, one or two. There is a second only where there is a first, which is told before it.
+/// The orders that a phase makes: none, one or two. There is a second only where there is a first,
+/// which is told before it.
 #[derive(Clone, Copy, Debug, PartialEq, Eq)]
 pub struct Orders {
     pub first: Option<Order>,

@@ -8,13 +8,26 @@ ghost use Rattle.mono_model.specs.Commit.{branch_count, caches_after};
 
 use crate::state::TimingCore;
 use cache_timing::Caches;
-use fsim_base::{Access, Flow, Spot};
+use fsim_base::{Access, Flow, Spot, bits};
 use reorder_buffer::Slot;
 use rv_decode::decode;
 use timer_irq::IrqView;
 
-/// What a predictor may learn from the instruction of a word. A word that is none is plain.
+/// What a predictor may learn from the instruction of a word. A word that is none is plain. Only
+/// words with the opcodes of branches, JALR, JAL and MRET are decoded for it.
+#[tactic(auto, using(crate::proofs::Opcodes::plain_flow))]
 fn flow_of(word: u32) -> Flow
+    ensures flow { result ≡ flow_in (found_word word (decode_of word)) }
+{
+    let opcode = bits(word, 6, 0);
+    if opcode != 0x63 && opcode != 0x67 && opcode != 0x6f && opcode != 0x73 {
+        return Flow::Plain;
+    }
+    decoded_flow(word)
+}
+
+/// The same, by decoding.
+fn decoded_flow(word: u32) -> Flow
     ensures flow { result ≡ flow_in (found_word word (decode_of word)) }
 {
     match decode(word) {
@@ -42,7 +55,8 @@ fn bytes_of(sends: bool) -> u64
 
 /// A store to RAM accesses the data cache.
 fn store(caches: &mut Caches, slot: &Slot)
-    ensures kept { (p : AllCaches) (c : CachesState) → CachesStandFor caches.old p c → CachesStandFor caches.new p (caches_after p slot.now.access c) }
+    ensures kept { (p : AllCaches) (c : CachesState) → CachesStandFor caches.old p c
+        → CachesStandFor caches.new p (caches_after p slot.now.access c) }
 {
     if let Access::Store {
         addr,
@@ -65,7 +79,8 @@ impl TimingCore {
     /// The oldest slot leaves by its trap.
     pub(crate) fn fault(&mut self, slot: &Slot)
         requires oldest { slice_get self.old.flight.slots 0 ≡ Some slot.now }
-        ensures kept { (s : Setup) (t : Timing) → CoreStandsFor s t self.old → IsAlmostSmall t → CoreStandsFor s (faulted slot.now (drop 1 t.slots) t) self.new }
+        ensures kept { (s : Setup) (t : Timing) → CoreStandsFor s t self.old → IsAlmostSmall t
+            → CoreStandsFor s (faulted slot.now (drop 1 t.slots) t) self.new }
     {
         self.flight.leave();
         self.flush(0);
@@ -76,7 +91,8 @@ impl TimingCore {
     /// The oldest slot, which has no cause, leaves.
     pub(crate) fn retire(&mut self, slot: &Slot)
         requires oldest { slice_get self.old.flight.slots 0 ≡ Some slot.now }
-        ensures kept { (s : Setup) (t : Timing) → CoreStandsFor s t self.old → IsAlmostSmall t → CoreStandsFor s (committed s slot.now (drop 1 t.slots) t) self.new }
+        ensures kept { (s : Setup) (t : Timing) → CoreStandsFor s t self.old → IsAlmostSmall t
+            → CoreStandsFor s (committed s slot.now (drop 1 t.slots) t) self.new }
     {
         self.flight.leave();
         let flow = flow_of(slot.word);
@@ -90,7 +106,8 @@ impl TimingCore {
 
     /// The number of the next instruction to commit, and the timer interrupt as that meets it.
     fn pass(&mut self, slot: &Slot)
-        ensures kept { (s : Setup) (t : Timing) → CoreStandsFor s t self.old → t.to_commit < 2 ^ 63 + 2 ^ 32 →
+        ensures kept { (s : Setup) (t : Timing) → CoreStandsFor s t self.old
+            → t.to_commit < 2 ^ 63 + 2 ^ 32 →
             CoreStandsFor s (record t { to_commit = t.to_commit + 1; irq_on = slot.now.irq_on; cmp = slot.now.cmp }) self.new }
     {
         self.to_commit = self.to_commit.saturating_add(1);

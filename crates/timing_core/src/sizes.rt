@@ -1,5 +1,6 @@
 ghost use Rattle.std.specs.Prelude.{◌≡◌};
-ghost use Rattle.mono_model.specs.Setup.{icache_params, dcache_params, l2_params, predictor_params, caches_params};
+ghost use Rattle.mono_model.specs.Setup.{icache_params, dcache_params, l2_params, predictor_params};
+ghost use Rattle.mono_model.specs.Setup.{caches_params};
 
 use branch_predictor::PredParams;
 use cache_timing::{AllCaches, CacheParams};

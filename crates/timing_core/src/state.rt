@@ -10,8 +10,9 @@ use mono_model::{End, Params, Setup, Stats};
 use std::alloc::Global;
 use timer_irq::IrqView;
 
-/// The state of the timing side: what it knows of the instructions in flight, the predictor, the caches and the counts
-/// (Chiou et al., FPGA-Accelerated Simulation Technologies, MICRO 2007, the timing model).
+/// The state of the timing side: what it knows of the instructions in flight, the predictor, the
+/// caches and the counts (Chiou et al., FPGA-Accelerated Simulation Technologies, MICRO 2007, the
+/// timing model).
 #[derive(Debug, Drop)]
 pub struct TimingCore {
     pub(crate) params: Params,
@@ -47,7 +48,8 @@ impl TimingCore {
     ghost use Rattle.timing_side.specs.Timing.{Timing, timing_start, cut_to, timing_stats};
     ghost use Rattle.timing_core.specs.CoreStandsFor.{CoreStandsFor};
 
-    /// The timing side before the first cycle of a run of this setup. It takes its memory here and none later.
+    /// The timing side before the first cycle of a run of this setup. It takes its memory here and
+    /// none later.
     pub fn new(alloc: Global, setup: &Setup) -> Result<TimingCore, NoMemory>
         requires sound { is_setup setup.now ≡ true }
         ensures opening { IfOk result (λ core. CoreStandsFor setup.now timing_start core) }
@@ -77,14 +79,16 @@ impl TimingCore {
 
     /// The number of the cycle, counted from 0.
     pub fn cycle(&self) -> u64
-        ensures cycle { (s : RunSetup) (t : Timing) → CoreStandsFor s t self.now → result ≡ t.cycle }
+        ensures cycle { (s : RunSetup) (t : Timing) → CoreStandsFor s t self.now
+            → result ≡ t.cycle }
     {
         self.cycle
     }
 
     /// The number of the next instruction to commit.
     pub fn to_commit(&self) -> u64
-        ensures number { (s : RunSetup) (t : Timing) → CoreStandsFor s t self.now → result ≡ t.to_commit }
+        ensures number { (s : RunSetup) (t : Timing) → CoreStandsFor s t self.now
+            → result ≡ t.to_commit }
     {
         self.to_commit
     }
@@ -100,7 +104,8 @@ impl TimingCore {
 
     /// How many bytes were sent.
     pub fn output(&self) -> u64
-        ensures output { (s : RunSetup) (t : Timing) → CoreStandsFor s t self.now → result ≡ t.output }
+        ensures output { (s : RunSetup) (t : Timing) → CoreStandsFor s t self.now
+            → result ≡ t.output }
     {
         self.output
     }
@@ -114,21 +119,24 @@ impl TimingCore {
 
     /// Whether the run has ended.
     pub fn has_ended(&self) -> bool
-        ensures ended { (s : RunSetup) (t : Timing) → CoreStandsFor s t self.now → result ≡ has_ended t.end }
+        ensures ended { (s : RunSetup) (t : Timing) → CoreStandsFor s t self.now
+            → result ≡ has_ended t.end }
     {
         self.end != End::Running
     }
 
     /// How many instructions may be fetched in a cycle.
     pub fn fetch_width(&self) -> u32
-        ensures width { (s : RunSetup) (t : Timing) → CoreStandsFor s t self.now → result ≡ s.params.core_fetch }
+        ensures width { (s : RunSetup) (t : Timing) → CoreStandsFor s t self.now
+            → result ≡ s.params.core_fetch }
     {
         self.params.core_fetch
     }
 
     /// The counts of the run so far.
     pub fn stats(&self) -> Stats
-        ensures stats { (s : RunSetup) (t : Timing) → CoreStandsFor s t self.now → result ≡ timing_stats s t }
+        ensures stats { (s : RunSetup) (t : Timing) → CoreStandsFor s t self.now
+            → result ≡ timing_stats s t }
     {
         let caches = self.caches.counts();
         Stats {
@@ -155,7 +163,8 @@ impl TimingCore {
 
     /// A flush: the slots from this place on are removed, and fetch waits for nothing.
     pub(crate) fn flush(&mut self, place: u32)
-        ensures kept { (s : RunSetup) (t : Timing) → CoreStandsFor s t self.old → t.counts.squashed < 2 ^ 63 + 2 ^ 32 →
+        ensures kept { (s : RunSetup) (t : Timing) → CoreStandsFor s t self.old
+            → t.counts.squashed < 2 ^ 63 + 2 ^ 32 →
             CoreStandsFor s (cut_to (take place t.slots) t) self.new }
     {
         let squashed = self.flight.cut_to(place);

@@ -1,12 +1,11 @@
-//! A run of some cycles, phase by phase, worked out by hand from the definition: a branch is predicted wrongly, and the
-//! instruction behind it on the wrong path is flushed.
+//! A run of some cycles, phase by phase, worked out by hand from the definition: a branch is
+//! predicted wrongly, and the instruction behind it on the wrong path is flushed.
 
 ghost use Rattle.std.specs.Prelude.{◌≡◌, ◌+◌, true, IfOk, IfSome, IsTrue};
 ghost use Rattle.reorder_buffer.specs.Window.{youngest};
 ghost use Rattle.mono_model.specs.Setup.{is_setup};
 
 use crate::{Orders, TimingCore};
-use branch_predictor::PredKind;
 use elf_image::{Image, Segment, Segments};
 use fsim_base::{Access, Bytes, Class};
 use mono_model::{Params, Setup};
@@ -18,44 +17,15 @@ use trace_entry::Entry;
 
 const BASE: u32 = 0x8000_0000;
 
-/// A machine that fetches and commits one instruction a cycle, with a window of four, one ALU and no caches. It predicts
-/// that no branch is taken.
-const PARAMS: Params = Params {
-    version: 1,
-    ram_base: BASE,
-    ram_size: 0x1000,
-    core_fetch: 1,
-    core_commit: 1,
-    core_front: 1,
-    core_window: 4,
-    core_stations: 4,
-    alu_count: 1,
-    alu_latency: 1,
-    mul_count: 1,
-    mul_latency: 1,
-    div_count: 1,
-    div_latency: 1,
-    mem_count: 1,
-    mem_latency: 1,
-    predictor_kind: PredKind::Static,
-    predictor_counters: 1,
-    predictor_history: 0,
-    predictor_targets: 0,
-    icache_line: 4,
-    icache_sets: 1,
-    icache_ways: 0,
-    icache_miss: 0,
-    dcache_line: 4,
-    dcache_sets: 1,
-    dcache_ways: 0,
-    dcache_miss: 0,
-    dcache_back: false,
-    l2_line: 4,
-    l2_sets: 1,
-    l2_ways: 0,
-    l2_hit: 0,
-    l2_miss: 0,
-};
+/// A machine that fetches and commits one instruction a cycle, with a window of four, one ALU and
+/// no caches. It predicts that no branch is taken.
+fn params() -> Params {
+    Params {
+        ram_size: 0x1000,
+        core_window: 4,
+        ..Params::plain()
+    }
+}
 
 /// A run of at most 100 cycles. The timing side doesn't read the program, which is one word.
 fn setup(rt: &impl Abort, alloc: Global) -> Result<Setup, Fail>
@@ -73,7 +43,7 @@ fn setup(rt: &impl Abort, alloc: Global) -> Result<Setup, Fail>
             entry: BASE,
             segments: Segments::new(vec![in alloc; text]?),
         },
-        params: PARAMS,
+        params: params(),
         input: Bytes::new(Vec::new(alloc)),
         cycles: 100,
         output: 0,
@@ -106,7 +76,8 @@ fn entry(number: u64, addr: u32, word: u32, next: u32) -> Entry
 
 /// Whether the number is the one behind the youngest slot's.
 fn follows(core: &TimingCore, number: u64) -> bool
-    ensures { IsTrue result → IfSome (youngest core.now.flight.slots) (λ last. number ≡ last.number + 1) }
+    ensures { IsTrue result
+        → IfSome (youngest core.now.flight.slots) (λ last. number ≡ last.number + 1) }
 {
     let len = core.flight.len();
     if len == 0 {
@@ -122,7 +93,8 @@ fn order(order: Order) -> Orders {
 #[test]
 fn a_wrongly_predicted_branch_flushes_the_wrong_path(rt: HostRuntime) -> Result<(), Fail> {
     let mut core = TimingCore::new(rt.alloc(), &setup(&rt, rt.alloc())?)?;
-    // addi x5, x0, 8; beq x5, x6, . + 8, which is taken; addi x7, x0, 1 on the wrong path; addi x8, x0, 2.
+    // addi x5, x0, 8; beq x5, x6, . + 8, which is taken; addi x7, x0, 1 on the wrong path; addi x8,
+    // x0, 2.
     let first = (0, BASE, 0x0080_0293, BASE + 4);
     let branch = (1, BASE + 4, 0x0062_8463, BASE + 12);
     let wrong = (2, BASE + 8, 0x0010_0393, BASE + 12);

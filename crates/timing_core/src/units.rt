@@ -32,7 +32,8 @@ impl Used {
         }
     }
 
-    /// Whether a unit is free for a class, where so many divisions were executing when the phase began.
+    /// Whether a unit is free for a class, where so many divisions were executing when the phase
+    /// began.
     pub(crate) fn has_unit(self, params: &Params, busy: u32, class: Class) -> bool
         ensures unit { result ≡ has_unit params.now (busy + self.div) (used_in self) class }
         ensures countable { result ≡ true → kind_count class self < 2 ^ 32 - 1 }

@@ -129,8 +129,8 @@ fn pass_row<'a>() -> Row<'a> {
     }
 }
 
-/// A program that ends the run, one that doesn't, and one that sends more than has room: LUI x5, 0x10000;
-/// ADDI x6, x0, 'a'; SB x6, 0(x5); ADDI x6, x6, 1; JAL x0, -8.
+/// A program that ends the run, one that doesn't, and one that sends more than has room: LUI x5,
+/// 0x10000; ADDI x6, x0, 'a'; SB x6, 0(x5); ADDI x6, x6, 1; JAL x0, -8.
 #[test]
 fn run_alone_ends(rt: HostRuntime) -> Result<(), Fail> {
     let pass = pass_row();
@@ -195,8 +195,8 @@ fn timer_row<'a>() -> Row<'a> {
     }
 }
 
-/// A load outside memory with its handler, which reads mcause and mtval; a word that is no instruction, without a handler;
-/// and a timer interrupt whose handler ends the run.
+/// A load outside memory with its handler, which reads mcause and mtval; a word that is no
+/// instruction, without a handler; and a timer interrupt whose handler ends the run.
 #[test]
 fn run_alone_traps(rt: HostRuntime) -> Result<(), Fail> {
     let fault = Row {

@@ -1,7 +1,6 @@
 ghost use Rattle.std.specs.Prelude.{◌≡◌, true, IfOk};
 ghost use Rattle.mono_model.specs.Setup.{is_setup};
 
-use branch_predictor::PredKind;
 use elf_image::{Image, Segment, Segments};
 use fsim_base::Bytes;
 use mono_model::{Params, Setup};
@@ -30,40 +29,10 @@ pub const AMPLE: Room = Room {
 /// A machine with two pages of RAM.
 fn params(window: u32) -> Params {
     Params {
-        version: 1,
-        ram_base: BASE,
         ram_size: 0x2000,
-        core_fetch: 1,
-        core_commit: 1,
-        core_front: 1,
         core_window: window,
         core_stations: 1,
-        alu_count: 1,
-        alu_latency: 1,
-        mul_count: 1,
-        mul_latency: 1,
-        div_count: 1,
-        div_latency: 1,
-        mem_count: 1,
-        mem_latency: 1,
-        predictor_kind: PredKind::Static,
-        predictor_counters: 1,
-        predictor_history: 0,
-        predictor_targets: 0,
-        icache_line: 4,
-        icache_sets: 1,
-        icache_ways: 0,
-        icache_miss: 0,
-        dcache_line: 4,
-        dcache_sets: 1,
-        dcache_ways: 0,
-        dcache_miss: 0,
-        dcache_back: false,
-        l2_line: 4,
-        l2_sets: 1,
-        l2_ways: 0,
-        l2_hit: 0,
-        l2_miss: 0,
+        ..Params::plain()
     }
 }
 

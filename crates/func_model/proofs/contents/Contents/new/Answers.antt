@@ -1,16 +1,16 @@
 use Rattle.std.proofs.Common.{arith, ℕ, length, ◌≤◌, ap, sym, ◌∙◌, subst}
 use Rattle.device_bus.specs.Bus.{opening_devices}
-use Rattle.mono_model.specs.Arch.{start}
+use Rattle.mono_model.specs.Arch.{start, compare_of}
 use Rattle.func_model.specs.Hart.{arch_of}
 use Rattle.mono_model.proofs.Sound.{setup_facts}
 use Rattle.func_model.proofs.Reported.{zeros_at}
 use Rattle.func_model.proofs.contents.Contents.new.Goals as goal
 
 pub start-requires : goal.start-requires
-start-requires g c = let P : _ → Type 0 = λ xs. length {A = ℕ} xs ≤ 16777216 in subst P (sym c.as_slice.ensures.same) (setup_facts c.args.setup.now c.requires.sound).input
+start-requires g c = record { input = let P : _ → Type 0 = λ xs. length {A = ℕ} xs ≤ 16777216 in subst P (sym c.as_slice.ensures.same) (setup_facts c.args.setup.now c.requires.sound).input }
 
 pub new-requires : goal.new-requires
-new-requires g c = (setup_facts c.args.setup.now c.requires.sound).image
+new-requires g c = record { sound = (setup_facts c.args.setup.now c.requires.sound).image }
 
 pub returns-clause-opened : goal.returns-clause-opened
 unfolding arch_of start
@@ -26,6 +26,7 @@ returns-clause-opened g c = record {
   };
   exec = c.in_ok-memory.ensures.exec;
   range = c.in_ok-memory.ensures.range;
+  compare = c.compare-cmp.ensures.compare ∙ ap compare_of (c.in_ok-start.ensures.started ∙ ap opening_devices c.as_slice.ensures.same);
 }
 
 pub overflow_add-room : goal.overflow_add-room

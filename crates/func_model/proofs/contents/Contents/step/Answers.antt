@@ -9,6 +9,7 @@ use Rattle.func_model.specs.Steps.{result_of}
 use Rattle.func_model.specs.Undo.{past_of, register_before, ended_in}
 use Rattle.func_model.specs.Contents.{ContentsStandFor}
 use Rattle.func_model.proofs.Advance.{met_found}
+use Rattle.func_model.proofs.Compared.{compare_kept, compare_in, compare_for}
 use Rattle.func_model.proofs.Undone.{fetched_exists}
 use Rattle.func_model.proofs.Stepping.{Executed, executed_at, executed_seq, entry_told, back_from}
 use Rattle.func_model.proofs.contents.Contents.step.Given as given
@@ -24,6 +25,13 @@ executed g c s a h =
     (met_found s (exec_of c.args.self.now.hart.memory) (found_in c.fetch-fetched.result) (arch_of c.args.self.now.hart c.args.self.now.bus) a h.exec h.arch c.fetch-fetched.ensures.found)
     c.execute-done.ensures.told c.execute-done.ensures.arch c.requires.room
 
+-- mtimecmp behind it
+compared : (g : given.Over) (c : goal.After-is_some g) (s : Setup) (a : Arch) → ContentsStandFor s a c.args.self.now → c.compare_behind-self.result ≡ compare_of c.execute-done.new.bus
+unfolding arch_of
+compared g c s a h =
+    compare_kept c.execute-done.result.change c.args.self.now.cmp c.compare_behind-self.result c.args.self.now.bus c.execute-done.new.bus c.execute-done.ensures.back.devices
+    (compare_in c.args.self.now.cmp (arch_of c.args.self.now.hart c.args.self.now.bus) a h.arch h.compare) c.compare_behind-self.ensures.compare
+
 -- the undo step, whole
 past_is : (g : given.Over) (c : goal.After-is_some g) →
     (record { number = c.args.number; addr = c.args.self.now.hart.pc; reg = c.before-reg.result; change = c.execute-done.result.change; out = c.is_some.result })
@@ -38,11 +46,15 @@ past_is g c = λ i. record {
 }
 
 pub returns-clause-stands : goal.returns-clause-stands
-returns-clause-stands g c = λ s a h. record {
-  arch = executed_seq s c.args.time c.args.self.now.hart.room a (found_in c.fetch-fetched.result) c.execute-done.result (arch_of c.execute-done.new.self c.execute-done.new.bus) (executed g c s a h);
-  exec = c.execute-done.ensures.exec ∙ h.exec;
-  range = c.execute-done.ensures.range ∙ h.range;
-}
+unfolding arch_of
+returns-clause-stands g c = λ s a h.
+    let made = executed_seq s c.args.time c.args.self.now.hart.room a (found_in c.fetch-fetched.result) c.execute-done.result (arch_of c.execute-done.new.self c.execute-done.new.bus) (executed g c s a h) in
+    record {
+      arch = made;
+      exec = c.execute-done.ensures.exec ∙ h.exec;
+      range = c.execute-done.ensures.range ∙ h.range;
+      compare = compare_for c.compare_behind-self.result (arch_of c.execute-done.new.self c.execute-done.new.bus) _ made (compared g c s a h);
+    }
 
 pub returns-clause-back : goal.returns-clause-back
 unfolding arch_of
@@ -83,7 +95,7 @@ returns-clause-entry g c = λ s a h.
       out = c.execute-done.result.sent;
       halt = c.halt_in.ensures.halt i;
       irq_on = c.takes_interrupts.ensures.on i;
-      cmp = c.compare.ensures.compare i;
+      cmp = compared g c s a h i;
     } in
     same ∙ entry_told s c.args.time c.args.self.now.hart.room c.args.number c.args.epoch a (found_in c.fetch-fetched.result) c.execute-done.result
     (arch_of c.execute-done.new.self c.execute-done.new.bus) (executed g c s a h)

@@ -12,4 +12,5 @@ returns-clause-stands g c = λ s a h. record {
       ∙ ap (synced s) h.arch;
   exec = c.sync.ensures.exec ∙ h.exec;
   range = c.sync.ensures.range ∙ h.range;
+  compare = h.compare;
 }

@@ -7,13 +7,13 @@ use Rattle.split_core.proofs.state.SplitState.play_step.Goals as goal
 pub obey-requires : goal.obey-requires
 obey-requires g c =
     let brought : IsStanding c.bring_entry.new.self = plays_standing c.args.self.now c.bring_entry.new.self c.requires.standing c.bring_entry.ensures.plays in
-    let end_of_cycle : IsStanding c.tick.new.self = after_event split.tick c.bring_entry.new.self c.tick.new.self brought c.tick.ensures.end_of_cycle in
-    record { standing = after_event split.send c.tick.new.self c.send.new.self end_of_cycle c.send.ensures.sent }
+    let stepped : IsStanding c.tick.new.self = after_event split.tick c.bring_entry.new.self c.tick.new.self brought c.tick.ensures.stepped in
+    record { standing = after_event split.send c.tick.new.self c.send.new.self stepped c.send.ensures.sent }
 
 pub returns : goal.returns
 returns g c = record {
   plays = plays_on c.args.self.now c.bring_entry.new.self c.obey.new.self c.bring_entry.ensures.plays
-      (plays_event split.tick c.bring_entry.new.self c.tick.new.self c.obey.new.self c.tick.ensures.end_of_cycle
+      (plays_event split.tick c.bring_entry.new.self c.tick.new.self c.obey.new.self c.tick.ensures.stepped
       (plays_event split.send c.tick.new.self c.send.new.self c.obey.new.self c.send.ensures.sent
       (plays_event split.obey c.send.new.self c.obey.new.self c.obey.new.self c.obey.ensures.obeyed (plays_none c.obey.new.self))));
 }

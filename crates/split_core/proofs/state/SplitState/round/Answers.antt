@@ -16,5 +16,5 @@ take-requires g c =
 pub returns : goal.returns
 returns g c = record {
   played = round_stands c.args.self.now c.obey.new.self c.compute.new.self c.push.new.self c.take.new.self c.tick_within_cycle.new.self c.send.new.self
-      c.obey.ensures.obeyed c.compute.ensures.computed c.push.ensures.pushed c.take.ensures.taken c.tick_within_cycle.ensures.end_of_cycle c.send.ensures.sent;
+      c.obey.ensures.obeyed c.compute.ensures.computed c.push.ensures.pushed c.take.ensures.taken c.tick_within_cycle.ensures.stepped c.send.ensures.sent;
 }

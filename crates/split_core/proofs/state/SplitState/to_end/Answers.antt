@@ -10,7 +10,7 @@ to_boundary-requires g c = record { standing = c.loop.invariant.standing }
 
 pub loop-preserved : goal.loop-preserved
 loop-preserved g c = going_on c.loop.counter c.args.self.now c.loop.self c.to_boundary.new.self c.loop.invariant c.to_boundary.ensures.stands c.tick.new.self
-    (sym c.stopped.ensures.stopped ∙ c.if-stopped.false) c.tick.ensures.end_of_cycle
+    (sym c.stopped.ensures.stopped ∙ c.if-stopped.false) c.tick.ensures.stepped
 
 pub returns-then-stopped : goal.returns-then-stopped
 returns-then-stopped g c = record {

@@ -1,5 +1,7 @@
-use Rattle.time_model.proofs.Sides.{stands_after}
+use Rattle.std.proofs.Common.{refl, subst}
+use Rattle.time_model.specs.declared.state.TimeState.{TimeState}
+use Rattle.time_model.specs.Running.{Steps}
 use Rattle.time_model.proofs.side.TimeSide.step.Goals as goal
 
-pub invariant_of-self : goal.invariant_of-self
-invariant_of-self c = stands_after c.self.inside.state c.step.new.self c.step.result c.self.invariant c.step.ensures.made
+pub returns : goal.returns
+returns c = record { made = subst (λ (from : TimeState). Steps from c.run.new.self c.run.result) c.self.view_is (c.run.ensures.single refl) }

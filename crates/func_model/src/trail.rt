@@ -1,0 +1,162 @@
+ghost use Rattle.std.specs.Prelude.{◌≡◌, ◌↔◌, ◌≤◌, ◌<◌, ◌+◌, ◌^◌, ℕ, Option, true, false, map};
+ghost use Rattle.std.specs.Prelude.{IfOk, IfNone, IfSome, IsTrue};
+ghost use Rattle.mono_model.specs.Final.{has_ended};
+ghost use Rattle.func_model.specs.History.{end_by};
+
+use crate::contents::{Contents, end_of};
+use crate::performed::PastStep;
+use circular_buffer::HeapCircularBuffer;
+use device_bus::Device;
+use fsim_base::{Halt, NoMemory};
+use mono_model::{End, Setup};
+use std::alloc::Global;
+
+/// Whether a run that stands so has ended.
+fn has_ended(end: End) -> bool
+    ensures ended { result ≡ has_ended end }
+{
+    !matches!(end, End::Running)
+}
+
+/// How a run alone stands behind a step: the program ended it, or the step was the last one, or it
+/// goes on.
+fn end_behind(halt: Option<Halt>, is_last: bool) -> End
+    ensures end { result ≡ end_by halt is_last }
+{
+    match halt {
+        Some(halt) => end_of(halt),
+        None if is_last => End::Limit,
+        None => End::Running,
+    }
+}
+
+/// A run alone that remembers its last steps: what the machine holds at a position, and what leads
+/// back from there.
+#[derive(Drop)]
+pub struct Trail<D: Device> {
+    pub contents: Contents<D>,
+    /// What leads back from `at` to `floor`, the oldest first.
+    pub steps: HeapCircularBuffer<PastStep>,
+    /// How many steps are made.
+    pub at: u64,
+    /// How many steps are made at the oldest position that can be gone back to.
+    pub floor: u64,
+    /// How the run stands.
+    pub end: End,
+    /// How many steps the run may make.
+    pub cycles: u64,
+    /// How many bytes of output have room.
+    pub limit: u32,
+}
+
+impl<D: Device> Trail<D> {
+    ghost use Rattle.std.specs.Prelude.{max, ◌-◌, [], ◌∷◌, ◌++◌};
+    ghost use Rattle.mono_model.specs.declared.setup.Setup.{Setup as RunSetup};
+    ghost use Rattle.device_bus.specs.Bus.{device_order};
+    ghost use Rattle.mono_model.specs.Setup.{is_setup};
+    ghost use Rattle.mono_model.specs.Arch.{Arch, synced};
+    ghost use Rattle.func_model.specs.Contents.{ContentsStandFor};
+    ghost use Rattle.circular_buffer.specs.Buffer.{buffer, keep_last};
+    ghost use Rattle.func_model.specs.Trail.{TrailStandsFor, IsOnTrail, IsTold, IsBack, IsOpening};
+
+    /// The trail at the start of a run, which remembers so many steps. All memory of the run is
+    /// taken here.
+    pub fn new(
+        alloc: Global,
+        setup: &Setup,
+        devices: Vec<D>,
+        history: u32,
+    ) -> Result<Trail<D>, NoMemory>
+        requires sound { is_setup setup.now ≡ true }
+        requires order { map D.kind devices.items ≡ device_order }
+        ensures stands { IfOk result (λ trail. TrailStandsFor setup.now trail) }
+        ensures opening { IfOk result (λ trail. IsOpening history trail) }
+    {
+        let Ok(steps) = HeapCircularBuffer::with_capacity(alloc, history as usize) else {
+            return Err(NoMemory);
+        };
+        let contents = Contents::new(alloc, setup, 1, devices)?;
+        Ok(Trail {
+            contents,
+            steps,
+            at: 0,
+            floor: 0,
+            end: End::Running,
+            cycles: setup.cycles,
+            limit: setup.output,
+        })
+    }
+
+    /// Makes a step, or tells how the run has ended, where there is none.
+    pub fn step(&mut self) -> Option<End>
+        requires standing { IsOnTrail self.old }
+        ensures told { (s : RunSetup) → TrailStandsFor s self.old
+            → IsTold s self.old self.new result }
+    {
+        if has_ended(self.end) {
+            return Some(self.end);
+        }
+        let is_full = self.contents.output().len() >= self.limit as usize;
+        let made = self.contents.make(self.at);
+        if is_full && made.has_sent {
+            self.contents.unmake(made.past);
+            return Some(End::OutputFull);
+        }
+        self.at += 1;
+        self.end = end_behind(made.halt, self.at == self.cycles);
+        if made.is_fence {
+            self.sync();
+            return None;
+        }
+        self.note(made.past);
+        None
+    }
+
+    /// Lets fetch see memory as it stands. What is behind can't be taken back any more.
+    fn sync(&mut self)
+        ensures contents { (s : RunSetup) (a : Arch) → ContentsStandFor s a self.old.contents
+            → ContentsStandFor s (synced s a) self.new.contents }
+        ensures room { self.new.contents.hart.room ≡ self.old.contents.hart.room }
+        ensures others { self.new
+            ≡ record self.old {
+              contents = self.new.contents;
+              steps = buffer []
+                  self.old.steps.capacity;
+              floor = self.old.at;
+            } }
+    {
+        self.contents.sync();
+        self.steps.clear();
+        self.floor = self.at;
+    }
+
+    /// Remembers the step that was made last.
+    fn note(&mut self, past: PastStep)
+        ensures noted { self.new
+            ≡ record self.old {
+              steps = buffer
+                  (keep_last self.old.steps.capacity (self.old.steps.items ++ past ∷ [])) self.old.steps.capacity;
+              floor = max self.old.floor (self.old.at - self.old.steps.capacity);
+            } }
+    {
+        self.floor = self
+            .floor
+            .max(self.at.saturating_sub(self.steps.capacity() as u64));
+        let _ = self.steps.push_back(past);
+    }
+
+    /// Takes the last step back; false exactly where it isn't remembered.
+    pub fn back(&mut self) -> bool
+        requires standing { IsOnTrail self.old }
+        ensures stands { (s : RunSetup) → TrailStandsFor s self.old → TrailStandsFor s self.new }
+        ensures moved { IsBack self.old self.new result }
+    {
+        let Some(past) = self.steps.pop_back() else {
+            return false;
+        };
+        self.contents.unmake(past);
+        self.at -= 1;
+        self.end = End::Running;
+        true
+    }
+}
