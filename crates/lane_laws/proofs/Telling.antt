@@ -1,0 +1,52 @@
+-- A step of the in-order machine tells one order at most.
+use Rattle.std.proofs.Common.{◌≡◌, ◌⊎◌, ℕ, zero, suc, ◌-◌, ◌≤◌, IfSome, Option, List, [], ◌∷◌, ◌++◌, length, refl, ap, sym, subst, arith, inr, length-append}
+use Rattle.rollback_cmds.specs.declared.order.Order.{Order}
+use Rattle.mono_model.specs.declared.setup.Setup.{Setup}
+use Rattle.mono_model.specs.Demand.{next, told}
+use Rattle.mono_model.specs.Split.{told_by}
+use Rattle.machine_laws.specs.Telling.{with_order, OpensAt}
+use Rattle.machine_laws.proofs.Telling.{TellsOne, FirstOpenAt, one_fewer, first_made, oldest_of, turn_tells, tells_told, tells_opens}
+use Rattle.lane_model.specs.Demand.{LaneRun, lane_turn_at, lane_turn, LanePlace, lane_step_by, lane_step, lane_place, seen_of, seen}
+use Rattle.lane_laws.proofs.Making.{turn_made}
+
+-- no more orders are owed than were made, and those that aren't told yet open an epoch at the number of the next record
+record IsOwing (r : LaneRun) (owed : ℕ) : Type 0 where
+  within : owed ≤ length r.demand.orders
+  opens : FirstOpenAt (next r.demand) owed r.demand.orders
+
+step_owing : (s : Setup) (owed : ℕ) (r : LaneRun) → IsOwing r owed → IsOwing (lane_step_by s owed r).run (lane_step_by s owed r).owed
+unfolding lane_turn
+step_owing s zero r is =
+    let behind = (lane_turn_at s r.at r.demand r.memory).demand in
+    let made = turn_made s r.at r.demand r.memory in
+    let owed : ℕ = length behind.orders - length r.demand.orders - 1 in
+    record {
+      within = omega arith;
+      opens = subst (λ (os : List Order). FirstOpenAt (next behind) owed os) (sym made.orders)
+          (first_made (next behind) owed made.made r.demand.orders made.opens (omega (arith, ap (λ (os : List Order). length os) made.orders, length-append made.made r.demand.orders)));
+    }
+step_owing s (suc owed) r is = record { within = omega (arith, is.within); opens = one_fewer (next r.demand) owed r.demand.orders is.opens }
+
+place_owing : (s : Setup) (k : ℕ) → IsOwing (lane_place s k).run (lane_place s k).owed
+unfolding lane_place lane_step
+place_owing s zero = record { within = omega arith; opens = tt }
+place_owing s (suc k) = step_owing s (lane_place s k).owed (lane_place s k).run (place_owing s k)
+
+step_tells : (s : Setup) (owed : ℕ) (r : LaneRun) → IsOwing r owed → TellsOne (seen_of (record { run = r; owed = owed })) (seen_of (lane_step_by s owed r))
+unfolding lane_turn
+step_tells s zero r is =
+    let behind = (lane_turn_at s r.at r.demand r.memory).demand in
+    let made = turn_made s r.at r.demand r.memory in
+    turn_tells (next behind) made.made r.demand.orders behind.orders made.opens made.orders (length behind.orders - length r.demand.orders - 1) refl
+step_tells s (suc owed) r is = inr (oldest_of (next r.demand) owed r.demand.orders is.opens is.within)
+
+place_tells : (s : Setup) (k : ℕ) → TellsOne (seen s k) (seen s (suc k))
+unfolding lane_place lane_step
+place_tells s k = step_tells s (lane_place s k).owed (lane_place s k).run (place_owing s k)
+
+-- a step tells what `told_by` says
+pub step_told : (s : Setup) (k : ℕ) → told (seen s (suc k)) ≡ with_order (told_by (seen s k) (seen s (suc k))) (told (seen s k))
+step_told s k = tells_told (seen s k) (seen s (suc k)) (place_tells s k)
+
+pub step_opens : (s : Setup) (k : ℕ) → IfSome (told_by (seen s k) (seen s (suc k))) (OpensAt (next (seen s (suc k)).run.demand))
+step_opens s k = tells_opens (seen s k) (seen s (suc k)) (place_tells s k)

@@ -1,0 +1,16 @@
+//! What is committed.
+#![tactic(auto)]
+
+ghost use Rattle.std.specs.Prelude.{◌≡◌, ℕ, ◌≤◌};
+ghost use Rattle.mono_model.specs.declared.setup.Setup.{Setup};
+ghost use Rattle.machine_laws.specs.Stays.{StaysBelow, StaysAt};
+ghost use Rattle.lane_model.specs.Demand.{seen};
+
+/// Orders told later leave the path below what is committed; and from a place with all orders told
+/// on, only interrupts change it at the next instruction to commit, each by its trap.
+#[tactic(auto, using(crate::proofs::Staying::stays_below, crate::proofs::Staying::stays_at))]
+pub fn committed_in_order_stays()
+    ensures below { (s : Setup) (k l : ℕ) → k ≤ l → StaysBelow s (seen s k) (seen s l) }
+    ensures at { (s : Setup) (k l : ℕ) → (seen s k).owed ≡ 0 → k ≤ l
+        → StaysAt s (seen s k) (seen s l) }
+{}

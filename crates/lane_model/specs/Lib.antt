@@ -1,0 +1,9 @@
+pub mod Lane
+pub mod Write
+pub mod Memory
+pub mod Execute
+pub mod Issue
+pub mod Fetch
+pub mod Cycle
+pub mod Demand
+pub mod Split
