@@ -1,0 +1,8 @@
+use Rattle.std.proofs.Common.{◌-◌}
+use Rattle.mono_model.specs.declared.setup.Setup.{Setup}
+use Rattle.func_model.specs.Trail.{TrailStandsFor}
+use Rattle.back_debug.proofs.Sessions.{Returning}
+use Rattle.back_debug.proofs.session.back.Given as goal
+
+abbrev pub invariant-loop : goal.invariant-loop
+invariant-loop g l = (s : Setup) → TrailStandsFor s l.fn.debugger → Returning l.fn.debugger l.debugger l.steps (l.steps - l.counter) s

@@ -1,0 +1,3 @@
+pub mod Debugger
+pub mod Script
+pub mod Session
