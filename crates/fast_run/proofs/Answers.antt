@@ -14,7 +14,7 @@ use Rattle.fast_run.specs.Call.{Reading, Writing, WroteTo}
 use Rattle.fast_run.specs.Files.{files_of}
 use Rattle.fast_run.specs.Gives.{Gives}
 use Rattle.fast_run.specs.Job.{job_of}
-use Rattle.fast_run.specs.Outcome.{MayEnd, job_end, job_text, status_for}
+use Rattle.fast_run.specs.Outcome.{MayEnd, job_status, job_text, status_for}
 use Rattle.fast_run.specs.Reading.{AreRead, StopsIn}
 
 -- an answer is want of memory, or it is another
@@ -39,7 +39,7 @@ memory_or (BadScript place) = inr (λ is. cc)
 memory_or (Sets machine) = inr (λ is. cc)
 
 -- the answer to a run that goes on is of no other end
-running-end : (e : End) → status_for e ≡ Running → e ≡ end.Running
+pub running-end : (e : End) → status_for e ≡ Running → e ≡ end.Running
 running-end end.Pass is = cc
 running-end (end.Fail code) is = cc
 running-end end.Limit is = cc
@@ -47,11 +47,11 @@ running-end end.OutputFull is = cc
 running-end end.Running is = refl
 
 -- a job that was reported whole
-pub ends-reported : (job : Job) (e : End) (text : List ℕ) (sink : Writing) (status : Status) → status ≡ status_for e → MayEnd job → job_end job ≡ e → job_text job ≡ text →
+pub ends-reported : (job : Job) (text : List ℕ) (sink : Writing) (status : Status) → status ≡ job_status job → MayEnd job → job_text job ≡ text →
     sink.after ≡ grown sink.before text → Ends job sink status
-ends-reported job e text sink status answer may ended same written = Reported (record {
-  answer = answer ∙ ap status_for (sym ended);
-  going = λ running. may (ended ∙ running-end e (sym answer ∙ running));
+ends-reported job text sink status answer may same written = Reported (record {
+  answer = answer;
+  going = λ running. may (sym answer ∙ running);
   written = written ∙ ap (grown sink.before) (sym same);
 })
 

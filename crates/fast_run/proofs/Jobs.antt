@@ -1,5 +1,6 @@
 -- From the stages of a job to the job, or to its first refusal.
-use Rattle.std.proofs.Common.{◌≡◌, ◌≢◌, ◌≤◌, ℕ, List, [], ◌∷◌, length, Option, Some, None, Result, Ok, Err, ap, sym, ◌∙◌, subst, arith}
+use Rattle.std.proofs.Common.{◌≡◌, ◌≢◌, ◌≤◌, ◌+◌, ℕ, List, [], ◌∷◌, ◌++◌, length, map, Option, Some, None, Result, Ok, Err, ap, sym, ◌∙◌, subst, arith}
+use Rattle.std.proofs.lemmas.List.{length-map}
 use Rattle.elf_image.specs.declared.image.Image.{Image as LoadedImage}
 use Rattle.mono_model.specs.declared.params.Params.{Params}
 use Rattle.mono_model.specs.declared.setup.Setup.{Setup}
@@ -141,6 +142,19 @@ pub input-behind_three : (a b c : NamedFile) (options : Options) (contents : Lis
     length (bytes_at contents 3) ≤ 16777216
 input-behind_three a b c options [] within = absurd within
 input-behind_three a b c options (x ∷ contents) within = input-behind_two b c options contents within.1
+
+pub input-behind : (files : List NamedFile) (options : Options) (contents : List (List ℕ)) → AreWithin (files ++ input_of options) contents
+    → length (bytes_at contents (length files)) ≤ 16777216
+input-behind [] options contents within = none-within options.input contents within
+input-behind (file ∷ files) options [] within = absurd within
+input-behind (file ∷ files) options (bytes ∷ contents) within = input-behind files options contents within.1
+
+-- the same behind an image and so many machine files
+pub input-behind_machines : (image : NamedFile) (machines : List (List ℕ)) (named : List ℕ → NamedFile) (options : Options) (contents : List (List ℕ))
+    → AreWithin (image ∷ map named machines ++ input_of options) contents → length (bytes_at contents (length machines + 1)) ≤ 16777216
+input-behind_machines image machines named options contents within =
+    let many : length (image ∷ map named machines) ≡ length machines + 1 = omega (arith, length-map machines named) in
+    subst (λ (n : ℕ). length (bytes_at contents n) ≤ 16777216) many (input-behind (image ∷ map named machines) options contents within)
 
 -- what is left where a stage was refused
 pub gives-through : {B : Type 0} (wanted result : Result B Status) (status : Status) → (y : Status) × (result ≡ Err y) × (y ≡ status) → (status ≢ Memory → wanted ≡ Err status) →

@@ -8,3 +8,4 @@ pub mod Answers
 pub mod Settling
 pub mod Words
 pub mod Refusals
+pub mod Sweeps

@@ -1,5 +1,5 @@
 -- A fault of an image or of a machine file is the refusal of it.
-use Rattle.std.proofs.Common.{◌≡◌, ◌≢◌, ℕ, List, Some, Err, refl, ap}
+use Rattle.std.proofs.Common.{◌≡◌, ◌≢◌, true, ℕ, List, Some, Err, refl, ap}
 use Rattle.std.specs.Prelude.{option_map}
 use Rattle.fsim_base.specs.declared.access.RamRange.{RamRange}
 use Rattle.elf_image.specs.declared.fault.ImageFault.{ImageFault}
@@ -9,6 +9,7 @@ use Rattle.machine_file.specs.declared.fault.MachineFault.{MachineFault}
 use Rattle.machine_file.specs.declared.fault.MachineFault.TheVariants as machine
 use Rattle.machine_file.specs.File.{machine_fault, params_of}
 use Rattle.report_text.specs.declared.status.Status.TheVariants.{Image, Machine, Memory}
+use Rattle.report_text.specs.SweepText.{is_sweep_refusal}
 use Rattle.fast_run.specs.Gives.{unless}
 use Rattle.fast_run.specs.Job.{image_in, machine_in}
 use Rattle.fast_run.specs.Refusal.{refused_image, refused_machine}
@@ -28,3 +29,12 @@ unfolding machine_in
 refused_machine-told bytes machine.Memory told other = absurd (other refl)
 refused_machine-told bytes fault told other =
     ap (λ f. unless (option_map Machine f) (params_of bytes)) (told (λ same. cc))
+
+-- a sweep has a line for it
+pub refused_image-line : (fault : ImageFault) → refused_image fault ≢ Memory → is_sweep_refusal (refused_image fault) ≡ true
+refused_image-line image.Memory other = absurd (other refl)
+refused_image-line fault other = refl
+
+pub refused_machine-line : (fault : MachineFault) → refused_machine fault ≢ Memory → is_sweep_refusal (refused_machine fault) ≡ true
+refused_machine-line machine.Memory other = absurd (other refl)
+refused_machine-line fault other = refl

@@ -1,5 +1,5 @@
 -- The files that a line names, and how long each may be.
-use Rattle.std.specs.Prelude.{ℕ, List, [], ◌∷◌, Option, Some, None}
+use Rattle.std.specs.Prelude.{ℕ, List, [], ◌∷◌, ◌++◌, map, Option, Some, None}
 use Rattle.report_text.specs.declared.status.Role.{Role}
 use Rattle.report_text.specs.declared.status.Role.TheVariants as role
 use Rattle.fast_cli.specs.declared.line.Line.{Line}
@@ -29,7 +29,8 @@ files_of (Sched image machine plan options) =
 files_of (Soak seed) = []
 files_of (Back image script history options) = []
 files_of (Inorder image machine plan options) = []
-files_of (Sweep image machines options) = []
+files_of (Sweep image machines options) =
+    file role.Image image ∷ map (file role.Machine) machines ++ input_of options
 
 -- how many bytes a file of a role may have
 abbrev pub limit_of : Role → ℕ

@@ -1,53 +1,25 @@
 -- What a line and the bytes of its files ask for: a job, or the first refusal.
-use Rattle.std.specs.Prelude.{ℕ, true, false, Bool, List, [], codes, slice_index_or, option_map}
+use Rattle.std.specs.Prelude.{◌≡◌, ◌≤◌, ℕ, true, false, Bool, List, [], codes, length}
 use Rattle.std.specs.Prelude.{Result, Ok, Err, ◌==◌, None}
-use Rattle.fsim_base.specs.declared.access.RamRange.{RamRange}
-use Rattle.elf_image.specs.declared.image.Image.{Image as LoadedImage}
-use Rattle.elf_image.specs.Image.{image_fault, image_of}
-use Rattle.mono_model.specs.declared.params.Params.{Params}
 use Rattle.mono_model.specs.declared.setup.Setup.{Setup}
-use Rattle.mono_model.specs.Setup.{ram_range}
-use Rattle.machine_file.specs.File.{machine_fault, params_of}
-use Rattle.split_core.specs.declared.event.Event.{Event}
+use Rattle.mono_model.specs.Setup.{is_setup, ram_range}
+use Rattle.mono_model.specs.Plain.{plain_params}
+use Rattle.machine_file.specs.File.{params_of}
 use Rattle.report_text.specs.declared.status.Status.{Status}
-use Rattle.report_text.specs.declared.status.Status.TheVariants.{Image, Machine, BadPlan, Later}
+use Rattle.report_text.specs.declared.status.Status.TheVariants.{Later}
 use Rattle.fast_cli.specs.declared.line.Line.{Line}
 use Rattle.fast_cli.specs.declared.line.Line.TheVariants as line
 use Rattle.fast_cli.specs.declared.line.Options.{Options}
+use Rattle.fast_cli.specs.Ranges.{HasRanges}
 use Rattle.gen_image.specs.Soak.{soak_image}
 use Rattle.gen_image.specs.Machine.{soak_machine}
 use Rattle.fast_run.specs.declared.job.Job.{Job}
-use Rattle.fast_run.specs.declared.job.Job.TheVariants.{Func, Run, Sched}
-use Rattle.fast_run.specs.Gives.{◌>>=◌, unless}
-use Rattle.mono_model.specs.Plain.{plain_params}
-use Rattle.fast_run.specs.Plan.{plan_events, first_bad}
-
--- the parameters that a machine file gives
-unfoldable pub machine_in : List ℕ → Result Params Status
-machine_in bytes = unless (option_map Machine (machine_fault bytes)) (params_of bytes)
-
--- the image of a file for this RAM
-unfoldable pub image_in : RamRange → List ℕ → Result LoadedImage Status
-image_in ram bytes = unless (option_map Image (image_fault bytes ram)) (image_of bytes)
-
--- the events of a plan
-unfoldable pub plan_in : List ℕ → Result (List Event) Status
-plan_in bytes = unless (option_map BadPlan (first_bad bytes)) (plan_events bytes)
-
--- the setup of an image: a machine, the limits that the options give, and what the console reads
-abbrev pub setup_for : Params → Options → LoadedImage → List ℕ → Setup
-setup_for params options image input = record {
-  image = image;
-  params = params;
-  input = input;
-  cycles = options.cycles;
-  output = options.output;
-  ring = options.ring;
-}
-
--- the bytes of the file at a place of the list; none where the line names no such file
-abbrev pub bytes_at : List (List ℕ) → ℕ → List ℕ
-bytes_at contents place = slice_index_or contents place []
+use Rattle.fast_run.specs.declared.job.Job.TheVariants.{Func, Run, Sched, Sweep}
+use Rattle.fast_run.specs.declared.sweep_files.SweepFiles.{SweepFiles}
+use Rattle.fast_run.specs.Gives.{◌>>=◌}
+pub use Rattle.fast_run.specs.Stages.{setup_for, bytes_at}
+unfoldable pub use Rattle.fast_run.specs.Stages.{machine_in, image_in, plan_in}
+use Rattle.fast_run.specs.SweepFiles.{swept}
 
 -- the plain machine runs an image without a machine file
 unfoldable pub func_job : Options → List (List ℕ) → Result Job Status
@@ -86,7 +58,9 @@ job_of (line.Sched image machine plan options) sets contents = sched_job options
 job_of (line.Soak seed) sets contents = Ok (Run (soak_setup seed))
 job_of (line.Back image script history options) sets contents = Err (Later (codes "back"))
 job_of (line.Inorder image machine plan options) sets contents = Err (Later (codes "inorder"))
-job_of (line.Sweep image machines options) sets contents = Err (Later (codes "sweep"))
+job_of (line.Sweep image machines options) sets contents = do
+  files ← swept machines options sets contents
+  Ok (Sweep files)
 
 -- the line is played on one thread, and the call that plays it returns
 abbrev pub is_still : Line → Bool
@@ -98,7 +72,29 @@ is_still (line.Back image script history options) = false
 is_still (line.Inorder image machine plan options) = false
 is_still (line.Sweep image machines options) = false
 
-abbrev pub setup_in : Job → Setup
-setup_in (Func s) = s
-setup_in (Run s) = s
-setup_in (Sched s plan) = s
+-- a sweep can open each of its machines: its limits are in their ranges, and the console can hold
+-- its input
+pub record CanSweep (files : SweepFiles) : Type 0 where
+  pub limits : HasRanges files.limits
+  pub input : length files.input ≤ 16777216
+
+-- the job can be begun: a run has a sound setup
+abbrev pub CanBegin : Job → Type 0
+CanBegin (Func s) = is_setup s ≡ true
+CanBegin (Run s) = is_setup s ≡ true
+CanBegin (Sched s plan) = is_setup s ≡ true
+CanBegin (Sweep files) = CanSweep files
+
+-- the job is a single run
+abbrev pub is_single : Job → Bool
+is_single (Func s) = true
+is_single (Run s) = true
+is_single (Sched s plan) = true
+is_single (Sweep files) = false
+
+-- how many sets of devices a job takes
+abbrev pub sets_for : Job → ℕ
+sets_for (Func s) = 1
+sets_for (Run s) = 1
+sets_for (Sched s plan) = 1
+sets_for (Sweep files) = length files.machines

@@ -11,10 +11,11 @@ use Rattle.split_core.specs.declared.event.Event.{Event}
 use Rattle.split_core.specs.Events.{event_in}
 use Rattle.report_text.specs.declared.status.Status.{Status}
 use Rattle.report_text.specs.declared.status.Status.TheVariants.{Pass, Fail, Limit, OutputFull}
-use Rattle.report_text.specs.declared.status.Status.TheVariants.{Running}
+use Rattle.report_text.specs.declared.status.Status.TheVariants.{Running, Shown}
 use Rattle.report_text.specs.FuncText.{func_text}
 use Rattle.fast_run.specs.declared.job.Job.{Job}
-use Rattle.fast_run.specs.declared.job.Job.TheVariants.{Func, Run, Sched}
+use Rattle.fast_run.specs.declared.job.Job.TheVariants.{Func, Run, Sched, Sweep}
+use Rattle.fast_run.specs.SweepFiles.{sweep_lines}
 
 -- the answer to an end
 abbrev pub status_for : End → Status
@@ -33,31 +34,35 @@ whole_run s = alone s s.cycles
 unfoldable pub planned_cycle : Setup → List Event → ℕ
 planned_cycle s plan = reach s (map event_in plan)
 
--- How a job ended. After as many cycles as its limit each run on the machine has ended, and it
--- stands still from its end on; the cycle that a plan leads to may come before.
-abbrev pub job_end : Job → End
-job_end (Func s) = (whole_run s).end
-job_end (Run s) = (mono s s.cycles).end
-job_end (Sched s plan) = (mono s (planned_cycle s plan)).end
+-- The answer to a job: how its run ended. After as many cycles as its limit each run on the machine
+-- has ended, and it stands still from its end on; the cycle that a plan leads to may come before. A
+-- sweep tells the ends of its runs in its lines.
+abbrev pub job_status : Job → Status
+job_status (Func s) = status_for (whole_run s).end
+job_status (Run s) = status_for (mono s s.cycles).end
+job_status (Sched s plan) = status_for (mono s (planned_cycle s plan)).end
+job_status (Sweep files) = Shown
 
--- what is written of it: its output and its report
+-- what is written of it: the output of its run and the report, or the lines of a sweep
 abbrev pub job_text : Job → List ℕ
 job_text (Func s) = func_text s
 job_text (Run s) = text s s.cycles
 job_text (Sched s plan) = text s (planned_cycle s plan)
+job_text (Sweep files) = sweep_lines files
 
 pub record Outcome : Type 0 where
   pub status : Status
   pub text : List ℕ
 
 abbrev pub outcome : Job → Outcome
-outcome job = record { status = status_for (job_end job); text = job_text job }
+outcome job = record { status = job_status job; text = job_text job }
 
 -- a plan, and nothing else, may lead to a cycle at which the run goes on
 abbrev pub may_go_on : Job → Bool
 may_go_on (Func s) = false
 may_go_on (Run s) = false
 may_go_on (Sched s plan) = true
+may_go_on (Sweep files) = false
 
 abbrev pub MayEnd : Job → Type 0
-MayEnd job = job_end job ≡ end.Running → may_go_on job ≡ true
+MayEnd job = job_status job ≡ Running → may_go_on job ≡ true

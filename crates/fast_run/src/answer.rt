@@ -1,5 +1,5 @@
-ghost use Rattle.std.specs.Prelude.{◌≡◌, ◌≤◌, true, map, Some};
-ghost use Rattle.device_bus.specs.Bus.{device_order};
+ghost use Rattle.std.specs.Prelude.{◌≡◌, ◌≤◌, ◌/◌, true, map, vec_len, Some};
+ghost use Rattle.device_bus.specs.Bus.{AreSets};
 ghost use Rattle.fast_cli.specs.Line.{line};
 ghost use Rattle.fast_cli.specs.Ranges.{IsInRange};
 ghost use Rattle.fast_run.specs.Answer.{IsAnswer};
@@ -9,7 +9,7 @@ ghost use Rattle.fast_run.specs.Settled.{IsComplete, IsSettled};
 
 use crate::open::open;
 use crate::refusal::Refusal;
-use crate::run::{run, run_in_threads};
+use crate::run::{first_set, run, run_in_threads};
 use device_bus::Device;
 use fast_cli::{Line, UsageFault, read_words};
 use fsim_ports::{Files, Gate, Sink};
@@ -18,8 +18,9 @@ use std::alloc::Global;
 use std::sync::Wait;
 use std::thread::Threads;
 
-/// The answer to the words, with the files, the sink and three devices: console, timer, finisher,
-/// in this order. A side that has a thread of its own calls its turn of the gate before each of its
+/// The answer to the words, with the files, the sink and 1 to 64 sets of devices: console,
+/// timer, finisher, in this order. A sweep takes a set for each of its machines, every other line
+/// the first. A side that has a thread of its own calls its turn of the gate before each of its
 /// turns.
 ///
 /// It writes output and report of what the words ask for, or the line of its answer. The words
@@ -34,16 +35,17 @@ pub fn fast_main<R: Threads + Wait + Sync, F: Files, K: Sink, G: Gate + Sync>(
     devices: Vec<Box<dyn Device + Send>>,
     gate: &G,
 ) -> Status
-    requires order { map (λ device. kind device) devices.items ≡ device_order }
+    requires sets { AreSets (vec_len devices / 3)
+        (map (λ device. kind device) devices.items) }
     ensures told { F.told files.new ≡ F.told files.old }
     ensures files { F.faults files.old ≤ F.faults files.new }
     ensures sink { K.faults sink.old ≤ K.faults sink.new }
-    ensures answer { IsAnswer (line (map (λ word. word.now) words.now)) 1
+    ensures answer { IsAnswer (line (map (λ word. word.now) words.now)) (vec_len devices / 3)
         (reading_of F.told F.faults files.old files.new)
         (writing_of K.written K.faults sink.old sink.new) result }
-    ensures settled { IsSettled (line (map (λ word. word.now) words.now)) 1
+    ensures settled { IsSettled (line (map (λ word. word.now) words.now)) (vec_len devices / 3)
         (reading_of F.told F.faults files.old files.new) result }
-    ensures complete { IsComplete (line (map (λ word. word.now) words.now)) 1
+    ensures complete { IsComplete (line (map (λ word. word.now) words.now)) (vec_len devices / 3)
         (reading_of F.told F.faults files.old files.new)
         (writing_of K.written K.faults sink.old sink.new) result }
 {
@@ -70,8 +72,8 @@ fn is_still(line: &Line) -> bool
     }
 }
 
-/// The answer to a line that is played on one thread, with the files, the sink and three devices,
-/// as [`fast_main`] gives it once the words were read.
+/// The answer to a line that is played on one thread, with the files, the sink and sets of
+/// devices, as [`fast_main`] gives it once the words were read.
 pub fn fast_still<F: Files, K: Sink>(
     alloc: Global,
     line: &Line,
@@ -81,16 +83,17 @@ pub fn fast_still<F: Files, K: Sink>(
 ) -> Status
     requires still { is_still line.now ≡ true }
     requires ranges { IsInRange line.now }
-    requires order { map (λ device. kind device) devices.items ≡ device_order }
+    requires sets { AreSets (vec_len devices / 3)
+        (map (λ device. kind device) devices.items) }
     ensures told { F.told files.new ≡ F.told files.old }
     ensures files { F.faults files.old ≤ F.faults files.new }
     ensures sink { K.faults sink.old ≤ K.faults sink.new }
-    ensures answer { IsAnswer (Some line.now) 1
+    ensures answer { IsAnswer (Some line.now) (vec_len devices / 3)
         (reading_of F.told F.faults files.old files.new)
         (writing_of K.written K.faults sink.old sink.new) result }
-    ensures settled { IsSettled (Some line.now) 1
+    ensures settled { IsSettled (Some line.now) (vec_len devices / 3)
         (reading_of F.told F.faults files.old files.new) result }
-    ensures complete { IsComplete (Some line.now) 1
+    ensures complete { IsComplete (Some line.now) (vec_len devices / 3)
         (reading_of F.told F.faults files.old files.new)
         (writing_of K.written K.faults sink.old sink.new) result }
 {
@@ -105,22 +108,23 @@ fn answer<F: Files, K: Sink, D: Device>(
     sink: &mut K,
     devices: Vec<D>,
 ) -> Status
+    requires still { is_still line.now ≡ true }
     requires ranges { IsInRange line.now }
-    requires order { map D.kind devices.items ≡ device_order }
+    requires sets { AreSets (vec_len devices / 3) (map D.kind devices.items) }
     ensures told { F.told files.new ≡ F.told files.old }
     ensures files { F.faults files.old ≤ F.faults files.new }
     ensures sink { K.faults sink.old ≤ K.faults sink.new }
-    ensures answer { IsAnswer (Some line.now) 1
+    ensures answer { IsAnswer (Some line.now) (vec_len devices / 3)
         (reading_of F.told F.faults files.old files.new)
         (writing_of K.written K.faults sink.old sink.new) result }
 {
-    match open(alloc, line, files) {
-        Ok(job) => run(alloc, &job, devices, sink),
+    match open(alloc, line, devices.len() / 3, files) {
+        Ok(job) => run(alloc, &job, first_set(devices), sink),
         Err(refusal) => refusal.tell(sink),
     }
 }
 
-/// The answer to a line that asks for two threads.
+/// The answer to a line that asks for more threads.
 fn answer_in_threads<R: Threads + Wait + Sync, F: Files, K: Sink, G: Gate + Sync, D: Device + Send>(
     rt: &R,
     alloc: Global,
@@ -131,15 +135,15 @@ fn answer_in_threads<R: Threads + Wait + Sync, F: Files, K: Sink, G: Gate + Sync
     gate: &G,
 ) -> Status
     requires ranges { IsInRange line.now }
-    requires order { map D.kind devices.items ≡ device_order }
+    requires sets { AreSets (vec_len devices / 3) (map D.kind devices.items) }
     ensures told { F.told files.new ≡ F.told files.old }
     ensures files { F.faults files.old ≤ F.faults files.new }
     ensures sink { K.faults sink.old ≤ K.faults sink.new }
-    ensures answer { IsAnswer (Some line.now) 1
+    ensures answer { IsAnswer (Some line.now) (vec_len devices / 3)
         (reading_of F.told F.faults files.old files.new)
         (writing_of K.written K.faults sink.old sink.new) result }
 {
-    match open(alloc, line, files) {
+    match open(alloc, line, devices.len() / 3, files) {
         Ok(job) => run_in_threads(rt, alloc, &job, devices, sink, gate),
         Err(refusal) => refusal.tell(sink),
     }

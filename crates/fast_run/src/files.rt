@@ -1,4 +1,5 @@
-ghost use Rattle.std.specs.Prelude.{◌≡◌, ◌++◌, ◌∷◌, [], IfOk, OnOk};
+ghost use Rattle.std.specs.Prelude.{◌≡◌, ◌++◌, ◌∷◌, [], map, IfOk, OnOk};
+ghost use Rattle.report_text.specs.declared.status.Role.TheVariants as role;
 ghost use Rattle.fast_run.specs.Files.{file, files_of, input_of};
 
 use fast_cli::{Line, Options};
@@ -44,7 +45,16 @@ pub fn files_of(alloc: Global, line: &Line) -> Result<Vec<NamedFile>, NoMemory>
             push(alloc, Role::Plan, plan, &mut files)?;
             push_input(alloc, options, &mut files)?;
         }
-        Line::Soak { .. } | Line::Back { .. } | Line::Inorder { .. } | Line::Sweep { .. } => {}
+        Line::Sweep {
+            image,
+            machines,
+            options,
+        } => {
+            push(alloc, Role::Image, image, &mut files)?;
+            push_machines(alloc, machines.as_slice(), &mut files)?;
+            push_input(alloc, options, &mut files)?;
+        }
+        Line::Soak { .. } | Line::Back { .. } | Line::Inorder { .. } => {}
     }
     Ok(files)
 }
@@ -59,6 +69,21 @@ fn push(alloc: Global, role: Role, name: &Text, files: &mut Vec<NamedFile>) -> R
     let name = Text::new(name);
     if files.push(NamedFile { role, name }).is_err() {
         return Err(NoMemory);
+    }
+    Ok(())
+}
+
+/// Adds the machine files of a sweep.
+fn push_machines(
+    alloc: Global,
+    machines: &[Text],
+    files: &mut Vec<NamedFile>,
+) -> Result<(), NoMemory>
+    ensures pushed { OnOk result
+        (files.new.items ≡ files.old.items ++ map (file role.Machine) machines.now) }
+{
+    for machine in machines {
+        push(alloc, Role::Machine, machine, files)?;
     }
     Ok(())
 }

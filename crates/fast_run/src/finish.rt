@@ -3,7 +3,7 @@ ghost use Rattle.mono_model.specs.Report.{closed_output, report_text, func_repor
 ghost use Rattle.fast_run.specs.declared.job.Job.{Job as AnyJob};
 ghost use Rattle.fast_run.specs.Answer.{Ends};
 ghost use Rattle.fast_run.specs.Call.{writing_of};
-ghost use Rattle.fast_run.specs.Outcome.{MayEnd, job_end, job_text, status_for};
+ghost use Rattle.fast_run.specs.Outcome.{MayEnd, job_status, job_text, status_for};
 
 use fsim_ports::Sink;
 use mono_model::{End, Final};
@@ -26,7 +26,7 @@ fn status_for(end: End) -> Status
 /// whichever job has this end and this text, it is the answer.
 pub fn finish_alone<K: Sink>(last: &Final, output: &[u8], sink: &mut K) -> Status
     ensures count { K.faults sink.old ≤ K.faults sink.new }
-    ensures ends { (job : AnyJob) → MayEnd job → job_end job ≡ last.now.end
+    ensures ends { (job : AnyJob) → MayEnd job → job_status job ≡ status_for last.now.end
         → job_text job ≡ closed_output output.now ++ func_report_text last.now
         → Ends job (writing_of K.written K.faults sink.old sink.new) result }
 {
@@ -39,7 +39,7 @@ pub fn finish_alone<K: Sink>(last: &Final, output: &[u8], sink: &mut K) -> Statu
 /// The same of a run on the machine.
 pub fn finish_timed<K: Sink>(last: &Final, output: &[u8], sink: &mut K) -> Status
     ensures count { K.faults sink.old ≤ K.faults sink.new }
-    ensures ends { (job : AnyJob) → MayEnd job → job_end job ≡ last.now.end
+    ensures ends { (job : AnyJob) → MayEnd job → job_status job ≡ status_for last.now.end
         → job_text job ≡ closed_output output.now ++ report_text last.now
         → Ends job (writing_of K.written K.faults sink.old sink.new) result }
 {

@@ -6,7 +6,7 @@ ghost use Rattle.fast_run.specs.Gives.{Gives};
 ghost use Rattle.fast_run.specs.declared.job.Job.{Job as AnyJob};
 ghost use Rattle.fast_run.specs.Job.{bytes_at, default_options, func_job, job_of, run_job};
 ghost use Rattle.fast_run.specs.Job.{sched_job};
-ghost use Rattle.fast_run.specs.Job.{setup_in, soak_setup};
+ghost use Rattle.fast_run.specs.Job.{CanBegin, is_single, is_still, sets_for, soak_setup};
 ghost use Rattle.fast_run.specs.Reading.{AreWithin};
 
 use crate::image::read_image;
@@ -14,6 +14,7 @@ use crate::machine::{ram_of, read_machine};
 use crate::plan::Plan;
 use crate::refusal::Refusal;
 use crate::setup::setup_for;
+use crate::sweep_files::{SweepFiles, sweep_files};
 use fast_cli::{Line, Options};
 use fsim_base::Bytes;
 use gen_image::{soak_image, soak_params};
@@ -30,15 +31,20 @@ pub enum Job {
     Run(Setup),
     /// The events of a plan, and the way to the next cycle boundary.
     Sched(Setup, Plan),
+    /// The run on each of many machines to its end.
+    Sweep(SweepFiles),
 }
 
-/// The job of a line with the bytes of its files, or the first refusal: of the machine file, then
-/// of the image, then of the plan.
-pub fn job_of(alloc: Global, line: &Line, contents: Vec<Bytes>) -> Result<Job, Refusal>
+/// The job of a line with the bytes of its files and so many sets of devices, or the first refusal:
+/// of the machine file, then of the image, then of the plan.
+pub fn job_of(alloc: Global, line: &Line, sets: usize, contents: Vec<Bytes>) -> Result<Job, Refusal>
+    requires sets { 1 ≤ sets }
     requires ranges { IsInRange line.now }
     requires within { AreWithin (files_of line.now) contents.items }
-    ensures job { Gives (job_of line.now 1 contents.items) result }
-    ensures sound { IfOk result (λ job. is_setup (setup_in job) ≡ true) }
+    ensures job { Gives (job_of line.now sets contents.items) result }
+    ensures can { IfOk result (λ job. CanBegin job) }
+    ensures room { IfOk result (λ job. sets_for job ≤ sets) }
+    ensures alone { IfOk result (λ job. is_still line.now ≡ true → is_single job ≡ true) }
 {
     match line {
         Line::Func { options, .. } => func_job(alloc, options, contents),
@@ -47,7 +53,11 @@ pub fn job_of(alloc: Global, line: &Line, contents: Vec<Bytes>) -> Result<Job, R
         Line::Soak { seed } => soak_job(alloc, *seed),
         Line::Back { .. } => Err(later(alloc, b"back")),
         Line::Inorder { .. } => Err(later(alloc, b"inorder")),
-        Line::Sweep { .. } => Err(later(alloc, b"sweep")),
+        Line::Sweep {
+            machines,
+            options,
+            ..
+        } => Ok(Job::Sweep(sweep_files(alloc, machines, options, sets, contents)?)),
     }
 }
 
@@ -56,7 +66,8 @@ fn func_job(alloc: Global, options: &Options, contents: Vec<Bytes>) -> Result<Jo
     requires ranges { HasRanges options.now }
     requires input { length (bytes_at contents.items 1) ≤ 16777216 }
     ensures job { Gives (func_job options.now contents.items) result }
-    ensures sound { IfOk result (λ job. is_setup (setup_in job) ≡ true) }
+    ensures can { IfOk result (λ job. CanBegin job) }
+    ensures alone { IfOk result (λ job. is_single job ≡ true) }
 {
     let params = Params::plain();
     let image = read_image(alloc, bytes_at(contents.as_slice(), 0), ram_of(&params))?;
@@ -69,7 +80,8 @@ fn run_job(alloc: Global, options: &Options, contents: Vec<Bytes>) -> Result<Job
     requires ranges { HasRanges options.now }
     requires input { length (bytes_at contents.items 2) ≤ 16777216 }
     ensures job { Gives (run_job options.now contents.items) result }
-    ensures sound { IfOk result (λ job. is_setup (setup_in job) ≡ true) }
+    ensures can { IfOk result (λ job. CanBegin job) }
+    ensures alone { IfOk result (λ job. is_single job ≡ true) }
 {
     let params = read_machine(alloc, bytes_at(contents.as_slice(), 1))?;
     let image = read_image(alloc, bytes_at(contents.as_slice(), 0), ram_of(&params))?;
@@ -82,7 +94,8 @@ fn sched_job(alloc: Global, options: &Options, contents: Vec<Bytes>) -> Result<J
     requires ranges { HasRanges options.now }
     requires input { length (bytes_at contents.items 3) ≤ 16777216 }
     ensures job { Gives (sched_job options.now contents.items) result }
-    ensures sound { IfOk result (λ job. is_setup (setup_in job) ≡ true) }
+    ensures can { IfOk result (λ job. CanBegin job) }
+    ensures alone { IfOk result (λ job. is_single job ≡ true) }
 {
     let params = read_machine(alloc, bytes_at(contents.as_slice(), 1))?;
     let image = read_image(alloc, bytes_at(contents.as_slice(), 0), ram_of(&params))?;
@@ -97,7 +110,8 @@ const SOAK_BLOCKS: u32 = 16_384;
 /// The run of the soak program of a seed on its machine. It is made here, and no file is read.
 fn soak_job(alloc: Global, seed: u64) -> Result<Job, Refusal>
     ensures job { Gives (Ok (AnyJob.Run (soak_setup seed))) result }
-    ensures sound { IfOk result (λ job. is_setup (setup_in job) ≡ true) }
+    ensures can { IfOk result (λ job. CanBegin job) }
+    ensures alone { IfOk result (λ job. is_single job ≡ true) }
 {
     let image = soak_image(alloc, seed, SOAK_BLOCKS)?;
     let input = Bytes::new(Vec::new(alloc));

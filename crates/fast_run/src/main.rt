@@ -10,12 +10,15 @@ mod job;
 mod load;
 mod machine;
 mod open;
+mod opened;
 mod plan;
 mod program;
 mod read;
 mod refusal;
 mod run;
 mod setup;
+mod sweep;
+mod sweep_files;
 #[cfg(test)]
 mod tests;
 

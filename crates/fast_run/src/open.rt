@@ -1,9 +1,8 @@
 ghost use Rattle.std.specs.Prelude.{◌≡◌, ◌≤◌, true, Ok, IfOk, IfErr};
-ghost use Rattle.mono_model.specs.Setup.{is_setup};
 ghost use Rattle.fast_cli.specs.Ranges.{IsInRange};
 ghost use Rattle.fast_run.specs.Answer.{Asks, Closes};
 ghost use Rattle.fast_run.specs.Call.{reading_of};
-ghost use Rattle.fast_run.specs.Job.{setup_in};
+ghost use Rattle.fast_run.specs.Job.{CanBegin, is_single, is_still, sets_for};
 
 use crate::files::files_of;
 use crate::job::{Job, job_of};
@@ -13,17 +12,26 @@ use fast_cli::Line;
 use fsim_ports::Files;
 use std::alloc::Global;
 
-/// The job that a line asks for: its files are read, and then what they hold is tested.
-pub fn open<F: Files>(alloc: Global, line: &Line, files: &mut F) -> Result<Job, Refusal>
+/// The job that a line asks for with so many sets of devices: its files are read, and then what
+/// they hold is tested.
+pub fn open<F: Files>(
+    alloc: Global,
+    line: &Line,
+    sets: usize,
+    files: &mut F,
+) -> Result<Job, Refusal>
+    requires sets { 1 ≤ sets }
     requires ranges { IsInRange line.now }
     ensures told { F.told files.new ≡ F.told files.old }
     ensures count { F.faults files.old ≤ F.faults files.new }
-    ensures asks { IfOk result (λ job. Asks line.now 1 (F.told files.old) (Ok job)) }
-    ensures sound { IfOk result (λ job. is_setup (setup_in job) ≡ true) }
+    ensures asks { IfOk result (λ job. Asks line.now sets (F.told files.old) (Ok job)) }
+    ensures can { IfOk result (λ job. CanBegin job) }
+    ensures room { IfOk result (λ job. sets_for job ≤ sets) }
+    ensures alone { IfOk result (λ job. is_still line.now ≡ true → is_single job ≡ true) }
     ensures closes { IfErr result
-        (Closes line.now 1 (reading_of F.told F.faults files.old files.new)) }
+        (Closes line.now sets (reading_of F.told F.faults files.old files.new)) }
 {
     let named = files_of(alloc, line)?;
     let contents = read_files(alloc, named.as_slice(), files)?;
-    job_of(alloc, line, contents)
+    job_of(alloc, line, sets, contents)
 }

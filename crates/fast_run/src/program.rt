@@ -9,7 +9,7 @@ ghost use Rattle.fast_run.specs.Program.{IsNoText, line_in, status_of_error};
 
 use crate::answer::fast_main;
 use crate::refusal::Refusal;
-use device_bus::{Console, Device, Finisher, Timer, in_order};
+use device_bus::{Console, Device, Finisher, Timer, sets_in_order};
 use fsim_ports::{Files, HostFiles, HostSink, QuietGate, Sink};
 use report_text::Status;
 use std::alloc::{AllocError, Global};
@@ -54,7 +54,7 @@ fn answer_arguments<R: Threads + Wait + Sync, F: Files, K: Sink>(
     ensures told { F.told files.new ≡ F.told files.old }
     ensures files { F.faults files.old ≤ F.faults files.new }
     ensures sink { K.faults sink.old ≤ K.faults sink.new }
-    ensures answer { IsAnswer (line_in arguments) 1
+    ensures answer { IsAnswer (line_in arguments) 64
         (reading_of F.told F.faults files.old files.new)
         (writing_of K.written K.faults sink.old sink.new) result }
     ensures no_text { IsNoText arguments result }
@@ -98,7 +98,7 @@ fn answer_texts<R: Threads + Wait + Sync, F: Files, K: Sink>(
     ensures told { F.told files.new ≡ F.told files.old }
     ensures files { F.faults files.old ≤ F.faults files.new }
     ensures sink { K.faults sink.old ≤ K.faults sink.new }
-    ensures answer { IfOk result (IsAnswer (line (map string_bytes texts.now)) 1
+    ensures answer { IfOk result (IsAnswer (line (map string_bytes texts.now)) 64
         (reading_of F.told F.faults files.old files.new)
         (writing_of K.written K.faults sink.old sink.new)) }
     ensures untouched { OnErr result ((files.new ≡ files.old) × (sink.new ≡ sink.old)) }
@@ -109,6 +109,9 @@ fn answer_texts<R: Threads + Wait + Sync, F: Files, K: Sink>(
     }
     answer_words(rt, alloc, words.as_slice(), files, sink)
 }
+
+/// How many sets of devices there are: as many as a sweep can name machines.
+const SETS: usize = 64;
 
 /// The answer to the words, with devices of its own. Where no memory is found for these, files and
 /// sink are as they were.
@@ -122,19 +125,21 @@ pub fn answer_words<R: Threads + Wait + Sync, F: Files, K: Sink>(
     ensures told { F.told files.new ≡ F.told files.old }
     ensures files { F.faults files.old ≤ F.faults files.new }
     ensures sink { K.faults sink.old ≤ K.faults sink.new }
-    ensures answer { IfOk result (IsAnswer (line (map (λ word. word.now) words.now)) 1
+    ensures answer { IfOk result (IsAnswer (line (map (λ word. word.now) words.now)) 64
         (reading_of F.told F.faults files.old files.new)
         (writing_of K.written K.faults sink.old sink.new)) }
     ensures untouched { OnErr result ((files.new ≡ files.old) × (sink.new ≡ sink.old)) }
 {
-    let Ok(console) = Console::new(alloc) else {
-        return Err(AllocError);
-    };
     let mut devices: Vec<Box<dyn Device + Send>> = Vec::new(alloc);
-    devices.push(Box::new(alloc, console)?)?;
-    devices.push(Box::new(alloc, Timer::new())?)?;
-    devices.push(Box::new(alloc, Finisher::new())?)?;
-    if !in_order(devices.as_slice()) {
+    for _ in 0..SETS {
+        let Ok(console) = Console::new(alloc) else {
+            return Err(AllocError);
+        };
+        devices.push(Box::new(alloc, console)?)?;
+        devices.push(Box::new(alloc, Timer::new())?)?;
+        devices.push(Box::new(alloc, Finisher::new())?)?;
+    }
+    if devices.len() != 3 * SETS || !sets_in_order(devices.as_slice()) {
         return Err(AllocError);
     }
     Ok(fast_main(rt, alloc, words, files, sink, devices, &QuietGate))

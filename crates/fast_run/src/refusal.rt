@@ -9,8 +9,8 @@ use report_text::{Status, fault_line};
 use std::alloc::AllocFailed;
 use std::marker::Model;
 
-/// Why there is no job, or none could begin: an answer that has a line, and so none to a run.
-/// Contracts see it as that answer.
+/// Why there is no job, or why it could not begin: an answer that has a line, as no end of a run
+/// has. Contracts see it as that answer.
 #[derive(Debug, Drop)]
 pub struct Refusal {
     status: Status,
@@ -29,7 +29,7 @@ impl Model for Refusal {
 }
 
 impl Refusal {
-    ghost use Rattle.std.specs.Prelude.{◌≡◌, ◌≤◌, true};
+    ghost use Rattle.std.specs.Prelude.{◌≡◌, ◌≢◌, ◌≤◌, true, IfOk};
     ghost use Rattle.report_text.specs.FaultText.{fault_text, has_line};
     ghost use Rattle.fast_run.specs.Call.{WroteTo, writing_of};
 
@@ -39,6 +39,25 @@ impl Refusal {
         ensures same { result ≡ status }
     {
         Refusal { status }
+    }
+
+    /// The answer.
+    pub fn status(&self) -> &Status
+        ensures same { result.now ≡ self.now }
+        ensures line { has_line result.now ≡ true }
+    {
+        &self.status
+    }
+
+    /// The refusal, if it isn't want of memory.
+    pub fn unless_memory(self) -> Result<Refusal, NoMemory>
+        ensures same { IfOk result (λ refusal. refusal ≡ self) }
+        ensures other { IfOk result (λ refusal. refusal ≢ NoMemoryLeft) }
+    {
+        match self.status {
+            Status::Memory => Err(NoMemory),
+            _ => Ok(self),
+        }
     }
 
     /// Writes the line of the answer, and gives the answer, whether or not the sink took the line.

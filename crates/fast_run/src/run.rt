@@ -1,14 +1,15 @@
-ghost use Rattle.std.specs.Prelude.{◌≡◌, ◌≤◌, true, map};
-ghost use Rattle.device_bus.specs.Bus.{device_order};
+ghost use Rattle.std.specs.Prelude.{◌≡◌, ◌≤◌, ◌/◌, true, map, vec_len};
+ghost use Rattle.device_bus.specs.Bus.{AreSets, device_order};
 ghost use Rattle.mono_model.specs.Setup.{is_setup};
 ghost use Rattle.fast_run.specs.Answer.{Ends};
 ghost use Rattle.fast_run.specs.Call.{writing_of};
-ghost use Rattle.fast_run.specs.Job.{setup_in};
+ghost use Rattle.fast_run.specs.Job.{CanBegin, is_single, sets_for};
 
 use crate::finish::{finish_alone, finish_timed};
 use crate::job::Job;
 use crate::plan::Plan;
 use crate::refusal::Refusal;
+use crate::sweep::run_sweep;
 use device_bus::Device;
 use fast_threads::Session;
 use fsim_base::NoMemory;
@@ -22,9 +23,11 @@ use std::alloc::Global;
 use std::sync::Wait;
 use std::thread::Threads;
 
-/// Does a job on one thread, writes its output and report, and gives the answer.
+/// Does a job that is a single run, on one thread, writes its output and report, and gives the
+/// answer.
 pub fn run<K: Sink, D: Device>(alloc: Global, job: &Job, devices: Vec<D>, sink: &mut K) -> Status
-    requires sound { is_setup (setup_in job.now) ≡ true }
+    requires can { CanBegin job.now }
+    requires alone { is_single job.now ≡ true }
     requires order { map D.kind devices.items ≡ device_order }
     ensures count { K.faults sink.old ≤ K.faults sink.new }
     ensures ends { Ends job.now (writing_of K.written K.faults sink.old sink.new) result }
@@ -33,10 +36,12 @@ pub fn run<K: Sink, D: Device>(alloc: Global, job: &Job, devices: Vec<D>, sink: 
         Job::Func(setup) => run_alone(alloc, setup, devices, sink),
         Job::Run(setup) => run_to_end(alloc, setup, devices, sink),
         Job::Sched(setup, plan) => run_plan(alloc, setup, plan, devices, sink),
+        Job::Sweep(_) => unreachable!(),
     }
 }
 
-/// Does a job, a run on the machine on two threads.
+/// Does a job, a run on the machine on two threads, and each run of a sweep on one of its own where
+/// one can be made.
 pub fn run_in_threads<R: Threads + Wait + Sync, K: Sink, G: Gate + Sync, D: Device + Send>(
     rt: &R,
     alloc: Global,
@@ -45,15 +50,27 @@ pub fn run_in_threads<R: Threads + Wait + Sync, K: Sink, G: Gate + Sync, D: Devi
     sink: &mut K,
     gate: &G,
 ) -> Status
-    requires sound { is_setup (setup_in job.now) ≡ true }
-    requires order { map D.kind devices.items ≡ device_order }
+    requires can { CanBegin job.now }
+    requires sets { AreSets (vec_len devices / 3) (map D.kind devices.items) }
+    requires room { sets_for job.now ≤ vec_len devices / 3 }
     ensures count { K.faults sink.old ≤ K.faults sink.new }
     ensures ends { Ends job.now (writing_of K.written K.faults sink.old sink.new) result }
 {
     match job {
-        Job::Run(setup) => run_session(rt, alloc, setup, devices, sink, gate),
-        Job::Func(_) | Job::Sched(_, _) => run(alloc, job, devices, sink),
+        Job::Run(setup) => run_session(rt, alloc, setup, first_set(devices), sink, gate),
+        Job::Func(_) | Job::Sched(_, _) => run(alloc, job, first_set(devices), sink),
+        Job::Sweep(files) => run_sweep(rt, alloc, files, devices, sink),
     }
+}
+
+/// The first of the sets of devices; the others are dropped.
+pub fn first_set<D: Device>(devices: Vec<D>) -> Vec<D>
+    requires sets { AreSets (vec_len devices / 3) (map D.kind devices.items) }
+    ensures order { map D.kind result.items ≡ device_order }
+{
+    let mut devices = devices;
+    devices.truncate(3);
+    devices
 }
 
 /// The run on the machine, on two threads.

@@ -3,8 +3,10 @@
 mod counting;
 mod faults;
 mod gates;
+mod hostile;
 mod programs;
 mod reports;
+mod sweeps;
 mod words;
 
 use crate::open::open;
@@ -63,7 +65,7 @@ fn check<R: Threads + Wait + Sync + Abort>(
 /// Whether the words ask for a job with these files.
 fn opens(alloc: Global, words: &[&str], files: &mut MemoryFiles) -> bool {
     match read_words(alloc, words) {
-        Ok(line) => open(alloc, &line, files).is_ok(),
+        Ok(line) => open(alloc, &line, 1, files).is_ok(),
         Err(_) => false,
     }
 }

@@ -46,7 +46,7 @@ ends_open_at [] some = absurd (omega arith)
 ends_open_at (byte ∷ rest) some = let last : length (byte ∷ rest) - 1 ≡ length rest = omega arith in rw last (ends_open-last byte rest)
 
 -- the report in its parts
-pub func_report_text-parts : (f : Final) → func_report_text f ≡ counts_text f ++ (registers_text f ++ csrs_text f)
+pub func_report_text-parts : (f : Final) → func_report_text f ≡ counts_text f ++ (registers_text f.regs ++ csrs_text f.csrs f.cmp)
 unfolding func_lines counts_text registers_text csrs_text
 func_report_text-parts f =
     let counts = line (codes "status: ") (status_text f.end) ∷ retired_lines f ++ output_line f.stats.output ∷ pc_line f.pc ∷ [] in
@@ -57,7 +57,7 @@ report_lines-parts : (f : Final) → report_lines f ≡ (line (codes "status: ")
 unfolding report_lines
 report_lines-parts f = append_assoc (line (codes "status: ") (status_text f.end) ∷ count_line (codes "cycles: ") f.stats.cycles ∷ retired_lines f ++ pipeline_lines f ++ first_level_lines f) (second_level_lines f) (state_lines f)
 
-pub report_text-parts : (f : Final) → report_text f ≡ progress_text f ++ (costs_text f ++ (second_level_text f ++ (place_text f ++ (registers_text f ++ csrs_text f))))
+pub report_text-parts : (f : Final) → report_text f ≡ progress_text f ++ (costs_text f ++ (second_level_text f ++ (place_text f ++ (registers_text f.regs ++ csrs_text f.csrs f.cmp))))
 unfolding progress_text costs_text second_level_text place_text registers_text csrs_text
 report_text-parts f =
     let progress = line (codes "status: ") (status_text f.end) ∷ count_line (codes "cycles: ") f.stats.cycles ∷ retired_lines f ++ (count_line (codes "replays: ") f.stats.replays ∷ count_line (codes "fetched: ") f.stats.fetched ∷ count_line (codes "squashed: ") f.stats.squashed ∷ []) in
@@ -81,3 +81,15 @@ pub second_level_text-with : (f : Final) → (f.stats.version == 2) ≡ true →
 unfolding second_level_text
 second_level_text-with f two =
     sym (ap (λ b. joined (if b then misses_line (codes "l2: ") f.stats.l2_accesses f.stats.l2_misses ∷ count_line (codes "writebacks: ") f.stats.writebacks ∷ [] else [])) two)
+
+-- a line of a key, or of a key and its value, whose beginning is in two parts
+pub keyed_line-parts : (head words begun key : List ℕ) → begun ≡ head ++ words → begun ++ key ++ line_feed ≡ line head (words ++ key)
+keyed_line-parts head words begun key same =
+    let regrouped : (head ++ words) ++ key ++ line_feed ≡ line head (words ++ key) = simp append_assoc in
+    ap (λ t. t ++ key ++ line_feed) same ∙ regrouped
+
+pub valued_line-parts : (head words begun key blank value : List ℕ) → begun ≡ head ++ words
+    → begun ++ key ++ blank ++ value ++ line_feed ≡ line head (words ++ key ++ blank ++ value)
+valued_line-parts head words begun key blank value same =
+    let regrouped : (head ++ words) ++ key ++ blank ++ value ++ line_feed ≡ line head (words ++ key ++ blank ++ value) = simp append_assoc in
+    ap (λ t. t ++ key ++ blank ++ value ++ line_feed) same ∙ regrouped

@@ -1,3 +1,5 @@
 pub mod Lines
 pub mod FaultText
 pub mod FuncText
+pub mod SweepText
+pub mod DebugText

@@ -4,7 +4,7 @@ use Rattle.machine_csr.specs.Csr.{mstatus_of, mie_of}
 use Rattle.machine_csr.specs.declared.csrs.Csrs.{Csrs}
 use Rattle.mono_model.specs.declared.final_state.Final.{Final}
 use Rattle.mono_model.specs.Report.{line, status_text, count_line, misses_line, retired_lines}
-use Rattle.mono_model.specs.Report.{second_level_lines, register_lines, csr_lines, joined, hex}
+use Rattle.mono_model.specs.Report.{second_level_lines, register_lines, joined, hex}
 
 abbrev pub output_line : ℕ → List ℕ
 output_line bytes = line (codes "output: ") (decimal bytes ++ codes " bytes")
@@ -31,11 +31,14 @@ counts_text f =
     joined (line (codes "status: ") (status_text f.end) ∷ retired_lines f
     ++ output_line f.stats.output ∷ pc_line f.pc ∷ [])
 
-unfoldable pub registers_text : Final → List ℕ
-registers_text f = joined (register_lines f.regs)
+unfoldable pub registers_text : List ℕ → List ℕ
+registers_text regs = joined (register_lines regs)
 
-unfoldable pub csrs_text : Final → List ℕ
-csrs_text f = joined (csr_lines f)
+unfoldable pub csrs_text : Csrs → ℕ → List ℕ
+csrs_text csrs cmp = joined (interrupt_csrs_line csrs ∷ trap_csrs_line csrs cmp ∷ [])
+
+abbrev pub values_text : List ℕ → Csrs → ℕ → List ℕ
+values_text regs csrs cmp = registers_text regs ++ csrs_text csrs cmp
 
 -- the parts of the report of a run under a machine file, in order: progress, predictions and
 -- caches, the second level, output and place, and then registers and CSRs as above

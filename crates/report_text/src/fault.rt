@@ -53,14 +53,13 @@ fn too_long_line(role: Role, limit: u64) -> Line
     line
 }
 
-/// What is wrong with an image, behind the beginning of its line.
-fn image_head(fault: ImageFault) -> Line
+/// What is wrong with an image.
+fn image_words(fault: ImageFault) -> Line
     requires told { has_image_line fault ≡ true }
-    ensures text { result ≡ codes "fast: image: " ++ image_fault_text fault }
+    ensures text { result ≡ image_fault_text fault }
     ensures len { length result ≤ 100 }
 {
     let mut line = Line::new();
-    line.bytes(b"fast: image: ");
     match fault {
         ImageFault::Short => line.bytes(b"short"),
         ImageFault::Magic => line.bytes(b"magic"),
@@ -94,11 +93,15 @@ fn numbered(line: &mut Line, words: &[u8], number: u32)
     line.number(u64::from(number));
 }
 
-fn image_line(fault: ImageFault) -> Line
+/// The line of what is wrong with an image, behind its beginning.
+pub fn image_line(head: &[u8], fault: ImageFault) -> Line
+    requires head { length head.now ≤ 40 }
     requires told { has_image_line fault ≡ true }
-    ensures text { result ≡ line (codes "fast: image: ") (image_fault_text fault) }
+    ensures text { result ≡ line head.now (image_fault_text fault) }
 {
-    let mut line = image_head(fault);
+    let mut line = Line::new();
+    line.bytes(head);
+    line.bytes(image_words(fault).as_slice());
     line.byte(b'\n');
     line
 }
@@ -147,24 +150,63 @@ fn put_value<K: Sink>(head: &[u8], key: &[u8], value: &i64, sink: &mut K) -> Res
     put_key(head, key, tail.as_slice(), sink)
 }
 
-/// Writes what is wrong with a machine file.
-fn machine_line<K: Sink>(fault: &MachineFault, sink: &mut K) -> Result<(), WriteFault>
+/// The beginning of a line, with words behind it.
+fn longer_head(head: &[u8], words: &[u8]) -> Line
+    requires head { length head.now ≤ 40 }
+    requires words { length words.now ≤ 40 }
+    ensures text { result ≡ head.now ++ words.now }
+{
+    let mut line = Line::new();
+    line.bytes(head);
+    line.bytes(words);
+    line
+}
+
+/// Writes what is wrong with a machine file, behind the beginning of its line.
+pub fn machine_line<K: Sink>(
+    head: &[u8],
+    fault: &MachineFault,
+    sink: &mut K,
+) -> Result<(), WriteFault>
+    requires head { length head.now ≤ 40 }
     requires told { has_machine_line fault.now ≡ true }
     ensures count { K.faults sink.old ≤ K.faults sink.new }
-    ensures written { Puts (line (codes "fast: machine: ") (machine_fault_text fault.now))
-        (K.faults sink.old) (K.faults sink.new) (K.written sink.old) (K.written sink.new) result }
+    ensures written { Puts (line head.now (machine_fault_text fault.now)) (K.faults sink.old)
+        (K.faults sink.new) (K.written sink.old) (K.written sink.new) result }
 {
     match fault {
-        MachineFault::NotToml => put_piece(b"fast: machine: not toml\n", sink),
+        MachineFault::NotToml => put_piece(longer_head(head, b"not toml\n").as_slice(), sink),
         MachineFault::Unknown(key) => {
-            put_key(b"fast: machine: unknown ", key.as_slice(), b"\n", sink)
+            put_key(
+                longer_head(head, b"unknown ").as_slice(),
+                key.as_slice(),
+                b"\n",
+                sink,
+            )
         }
-        MachineFault::Kind(key) => put_key(b"fast: machine: kind ", key.as_slice(), b"\n", sink),
+        MachineFault::Kind(key) => {
+            put_key(
+                longer_head(head, b"kind ").as_slice(),
+                key.as_slice(),
+                b"\n",
+                sink,
+            )
+        }
         MachineFault::Range(key, value) => {
-            put_value(b"fast: machine: range ", key.as_slice(), value, sink)
+            put_value(
+                longer_head(head, b"range ").as_slice(),
+                key.as_slice(),
+                value,
+                sink,
+            )
         }
         MachineFault::Power(key, value) => {
-            put_value(b"fast: machine: power ", key.as_slice(), value, sink)
+            put_value(
+                longer_head(head, b"power ").as_slice(),
+                key.as_slice(),
+                value,
+                sink,
+            )
         }
         MachineFault::Memory => unreachable!(),
     }
@@ -198,8 +240,8 @@ pub fn fault_line<K: Sink>(status: &Status, sink: &mut K) -> Result<(), WriteFau
 {
     match status {
         Status::Usage => usage_line(sink),
-        Status::Image(fault) => put_piece(image_line(*fault).as_slice(), sink),
-        Status::Machine(fault) => machine_line(fault, sink),
+        Status::Image(fault) => { put_piece(image_line(b"fast: image: ", *fault).as_slice(), sink) }
+        Status::Machine(fault) => machine_line(b"fast: machine: ", fault, sink),
         Status::Missing(role) => put_piece(role_line(b"fast: missing: ", *role).as_slice(), sink),
         Status::ReadFault(role) => {
             put_piece(role_line(b"fast: read fault: ", *role).as_slice(), sink)

@@ -2,19 +2,23 @@
 //! takes memory.
 #![tactic(auto)]
 
+mod debugging;
 mod fault;
 mod keyed;
 mod line;
 mod put;
 mod report_lines;
 mod status;
+mod sweep;
 #[cfg(test)]
 mod tests;
 mod timed;
 mod untimed;
 
+pub use debugging::{Arrival, machine_lines, position_line};
 pub use fault::fault_line;
 pub use put::WriteFault;
 pub use status::{Role, Status};
+pub use sweep::{sweep_line, sweep_refusal};
 pub use timed::report;
 pub use untimed::func_report;

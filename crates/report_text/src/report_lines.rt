@@ -9,12 +9,12 @@ use crate::line::Line;
 use machine_csr::Csrs;
 use mono_model::{End, Final};
 
-/// `status: pass`, and so on.
-pub fn status_line(end: End) -> Line
-    ensures text { result ≡ line (codes "status: ") (status_text end) }
+/// Appends how a run ended.
+pub fn end_words(line: &mut Line, end: End)
+    requires room { length line.old ≤ 40 }
+    ensures text { line.new ≡ line.old ++ status_text end }
+    ensures len { length line.new ≤ length line.old + 25 }
 {
-    let mut line = Line::new();
-    line.bytes(b"status: ");
     match end {
         End::Pass => line.bytes(b"pass"),
         End::Fail(code) => {
@@ -25,6 +25,15 @@ pub fn status_line(end: End) -> Line
         End::OutputFull => line.bytes(b"output full"),
         End::Running => line.bytes(b"running"),
     }
+}
+
+/// `status: pass`, and so on.
+pub fn status_line(end: End) -> Line
+    ensures text { result ≡ line (codes "status: ") (status_text end) }
+{
+    let mut line = Line::new();
+    line.bytes(b"status: ");
+    end_words(&mut line, end);
     line.byte(b'\n');
     line
 }

@@ -1,8 +1,12 @@
 // What no clause says: the texts as their readers see them, and that calls succeed.
 ghost use Rattle.std.specs.Prelude.{◌≡◌, true};
 ghost use Rattle.report_text.specs.FaultText.{has_line};
+ghost use Rattle.report_text.specs.SweepText.{is_sweep_refusal};
 
-use crate::{Role, Status, fault_line, func_report, report};
+use crate::{
+    Arrival, Role, Status, fault_line, func_report, machine_lines, position_line, report,
+    sweep_line, sweep_refusal,
+};
 use elf_image::ImageFault;
 use fsim_base::Bytes;
 use fsim_ports::MemorySink;
@@ -74,9 +78,9 @@ const COUNTS: &str = concat!(
 
 const SECOND_LEVEL: &str = "l2: 22 accesses, 12 misses\nwritebacks: 13\n";
 
-const STATE: &str = concat!(
-    "output: 18446744073709551615 bytes\n",
-    "pc: 80000010\n",
+const STATE: &str = concat!("output: 18446744073709551615 bytes\n", "pc: 80000010\n",);
+
+const VALUES: &str = concat!(
     "x0=00000000 x1=80000010 x2=00000000 x3=00000000\n",
     "x4=00000000 x5=00000000 x6=00000000 x7=00000000\n",
     "x8=00000000 x9=abcdef09 x10=00000000 x11=00000000\n",
@@ -103,7 +107,10 @@ fn report_of_each_version(rt: HostRuntime) -> Result<(), Fail> {
     let alloc = rt.alloc();
     let cases: [(u32, &str); 3] = [(0, ""), (1, ""), (2, SECOND_LEVEL)];
     for (version, second_level) in cases {
-        let wanted = joined(alloc, &["status: pass\n", COUNTS, second_level, STATE])?;
+        let wanted = joined(
+            alloc,
+            &["status: pass\n", COUNTS, second_level, STATE, VALUES],
+        )?;
         let mut sink = MemorySink::new(alloc, 4096)?;
         assert!(rt; report(&some_final(version, End::Pass), b"", &mut sink).is_ok());
         assert_eq!(rt; sink.bytes(), wanted.as_bytes(), "version {version}");
@@ -122,12 +129,12 @@ fn output_is_closed_and_ends_are_named(rt: HostRuntime) -> Result<(), Fail> {
         (b"\nx", "\nx\n", End::Pass, "status: pass\n"),
     ];
     for (output, shown, end, status) in cases {
-        let wanted = joined(alloc, &[shown, status, COUNTS, STATE])?;
+        let wanted = joined(alloc, &[shown, status, COUNTS, STATE, VALUES])?;
         let mut sink = MemorySink::new(alloc, 4096)?;
         assert!(rt; report(&some_final(1, end), output, &mut sink).is_ok());
         assert_eq!(rt; sink.bytes(), wanted.as_bytes(), "{output:?}");
         let retired = "instructions: 4\nexceptions: 3\ninterrupts: 2\n";
-        let wanted = joined(alloc, &[shown, status, retired, STATE])?;
+        let wanted = joined(alloc, &[shown, status, retired, STATE, VALUES])?;
         let mut sink = MemorySink::new(alloc, 4096)?;
         assert!(rt; func_report(&some_final(0, end), output, &mut sink).is_ok());
         assert_eq!(rt; sink.bytes(), wanted.as_bytes(), "{output:?}");
@@ -138,7 +145,10 @@ fn output_is_closed_and_ends_are_named(rt: HostRuntime) -> Result<(), Fail> {
 #[test]
 fn report_breaks_off_at_each_put(rt: HostRuntime) -> Result<(), Fail> {
     let alloc = rt.alloc();
-    let wanted = joined(alloc, &["Hi\nstatus: pass\n", COUNTS, SECOND_LEVEL, STATE])?;
+    let wanted = joined(
+        alloc,
+        &["Hi\nstatus: pass\n", COUNTS, SECOND_LEVEL, STATE, VALUES],
+    )?;
     // Output, its line feed, and 26 lines.
     for put in 1..29u64 {
         let mut sink = MemorySink::new(alloc, 4096)?;
@@ -281,4 +291,71 @@ fn answers_without_a_line_have_numbers(rt: HostRuntime) {
     for (status, number) in cases {
         assert_eq!(rt; status.number(), number);
     }
+}
+
+/// Writes the line of a refused machine, and compares it.
+fn check_refusal(rt: &impl Abort, alloc: Global, status: Status, wanted: &[u8]) -> Result<(), Fail>
+    requires refusal { is_sweep_refusal status ≡ true }
+{
+    let mut sink = MemorySink::new(alloc, 4096)?;
+    assert!(rt; sweep_refusal(b"bad", &status, &mut sink).is_ok());
+    assert_eq!(rt; sink.bytes(), wanted);
+    Ok(())
+}
+
+#[test]
+fn lines_of_a_sweep(rt: HostRuntime) -> Result<(), Fail> {
+    let alloc = rt.alloc();
+    let mut sink = MemorySink::new(alloc, 4096)?;
+    let last = some_final(1, End::OutputFull);
+    assert!(rt; sweep_line(b"m0", &last, &mut sink).is_ok());
+    assert!(rt; sweep_line(b"a/m1.toml", &some_final(2, End::Fail(7)), &mut sink).is_ok());
+    let wanted = b"m0: output full cycles 7 instructions 4 mispredicted 9 icache 10 dcache 11\n\
+          a/m1.toml: fail 7 cycles 7 instructions 4 mispredicted 9 icache 10 dcache 11\n";
+    assert_eq!(rt; sink.bytes(), wanted.as_slice());
+    let key = bytes_of(alloc, b"core.window")?;
+    let machine = Status::Machine(MachineFault::Range(key, 0));
+    check_refusal(&rt, alloc, machine, b"bad: machine: range core.window 0\n")?;
+    let machine = Status::Machine(MachineFault::NotToml);
+    check_refusal(&rt, alloc, machine, b"bad: machine: not toml\n")?;
+    let image = Status::Image(ImageFault::OutsideRam(3));
+    check_refusal(&rt, alloc, image, b"bad: image: outside ram 3\n")
+}
+
+#[test]
+fn line_of_a_sweep_breaks_off_at_each_put(rt: HostRuntime) -> Result<(), Fail> {
+    let alloc = rt.alloc();
+    let last = some_final(1, End::Pass);
+    let wanted = b"m0: pass cycles 7 instructions 4 mispredicted 9 icache 10 dcache 11\n";
+    for put in 1..4u64 {
+        let mut sink = MemorySink::new(alloc, 4096)?;
+        sink.fail_at(put)?;
+        assert!(rt; sweep_line(b"m0", &last, &mut sink).is_err(), "put {put}");
+        assert!(rt; sink.bytes().len() < wanted.len(), "put {put}");
+        assert!(rt; wanted.starts_with(sink.bytes()), "put {put}");
+    }
+    Ok(())
+}
+
+#[test]
+fn lines_of_a_debugger(rt: HostRuntime) -> Result<(), Fail> {
+    let alloc = rt.alloc();
+    let mut sink = MemorySink::new(alloc, 4096)?;
+    let cases = [
+        (4, 0x8000_0014, Arrival::Moved),
+        (0, 0x8000_0000, Arrival::Oldest),
+        (1_099_511_627_776, 0xffff_fffc, Arrival::Reached),
+        (7, 0, Arrival::Ended(End::Fail(65_535))),
+        (8, 0, Arrival::Ended(End::OutputFull)),
+    ];
+    for (at, pc, arrival) in cases {
+        assert!(rt; position_line(at, pc, arrival, &mut sink).is_ok());
+    }
+    let last = some_final(0, End::Running);
+    assert!(rt; machine_lines(5, &last.regs, &last.csrs, last.cmp, &mut sink).is_ok());
+    let positions = "4 80000014 moved\n0 80000000 oldest\n1099511627776 fffffffc reached\n\
+          7 00000000 fail 65535\n8 00000000 output full\n";
+    let wanted = joined(alloc, &[positions, "output: 5 bytes\n", VALUES])?;
+    assert_eq!(rt; sink.bytes(), wanted.as_bytes());
+    Ok(())
 }

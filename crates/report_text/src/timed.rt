@@ -2,7 +2,7 @@ ghost use Rattle.std.specs.Prelude.{◌≡◌, ◌≤◌, ◌++◌};
 ghost use Rattle.fsim_ports.specs.Sink.{Puts};
 ghost use Rattle.mono_model.specs.Report.{closed_output, report_text};
 ghost use Rattle.report_text.specs.Lines.{progress_text, costs_text, second_level_text, place_text};
-ghost use Rattle.report_text.specs.Lines.{registers_text, csrs_text};
+ghost use Rattle.report_text.specs.Lines.{values_text};
 
 use crate::put::{WriteFault, put_lines, put_piece};
 use crate::report_lines::{count_line, misses_line, output_line, pc_line, status_line};
@@ -73,18 +73,18 @@ fn put_place<K: Sink>(f: &Final, sink: &mut K) -> Result<(), WriteFault>
 /// The report from the size of the output on.
 fn put_state<K: Sink>(f: &Final, sink: &mut K) -> Result<(), WriteFault>
     ensures count { K.faults sink.old ≤ K.faults sink.new }
-    ensures written { Puts (place_text f.now ++ (registers_text f.now ++ csrs_text f.now))
+    ensures written { Puts (place_text f.now ++ values_text f.now.regs f.now.csrs f.now.cmp)
         (K.faults sink.old) (K.faults sink.new) (K.written sink.old) (K.written sink.new) result }
 {
     put_place(f, sink)?;
-    put_values(f, sink)
+    put_values(&f.regs, &f.csrs, f.cmp, sink)
 }
 
 /// The report from the second level on.
 fn put_levels<K: Sink>(f: &Final, sink: &mut K) -> Result<(), WriteFault>
     ensures count { K.faults sink.old ≤ K.faults sink.new }
     ensures written { Puts (second_level_text f.now
-        ++ (place_text f.now ++ (registers_text f.now ++ csrs_text f.now))) (K.faults sink.old)
+        ++ (place_text f.now ++ values_text f.now.regs f.now.csrs f.now.cmp)) (K.faults sink.old)
         (K.faults sink.new) (K.written sink.old) (K.written sink.new) result }
 {
     put_second_level(f, sink)?;
@@ -96,7 +96,7 @@ fn put_rest<K: Sink>(f: &Final, sink: &mut K) -> Result<(), WriteFault>
     ensures count { K.faults sink.old ≤ K.faults sink.new }
     ensures written { Puts (costs_text f.now
         ++ (second_level_text f.now ++ (place_text f.now
-        ++ (registers_text f.now ++ csrs_text f.now)))) (K.faults sink.old) (K.faults sink.new)
+        ++ values_text f.now.regs f.now.csrs f.now.cmp))) (K.faults sink.old) (K.faults sink.new)
         (K.written sink.old) (K.written sink.new) result }
 {
     put_costs(f, sink)?;

@@ -1,7 +1,7 @@
 ghost use Rattle.std.specs.Prelude.{◌≡◌, ◌≤◌, ◌++◌};
 ghost use Rattle.fsim_ports.specs.Sink.{Puts};
 ghost use Rattle.mono_model.specs.Report.{ends_open, closed_output, func_report_text};
-ghost use Rattle.report_text.specs.Lines.{counts_text, registers_text, csrs_text};
+ghost use Rattle.report_text.specs.Lines.{counts_text, registers_text, csrs_text, values_text};
 
 use crate::put::{WriteFault, put_lines, put_piece, put_two};
 use crate::report_lines::{
@@ -9,6 +9,7 @@ use crate::report_lines::{
     trap_csrs_line,
 };
 use fsim_ports::Sink;
+use machine_csr::Csrs;
 use mono_model::Final;
 
 /// Whether the output isn't empty and doesn't end in a line feed.
@@ -49,42 +50,47 @@ fn put_counts<K: Sink>(f: &Final, sink: &mut K) -> Result<(), WriteFault>
 }
 
 /// The registers.
-fn put_registers<K: Sink>(f: &Final, sink: &mut K) -> Result<(), WriteFault>
+fn put_registers<K: Sink>(regs: &[u32; 32], sink: &mut K) -> Result<(), WriteFault>
     ensures count { K.faults sink.old ≤ K.faults sink.new }
-    ensures written { Puts (registers_text f.now) (K.faults sink.old) (K.faults sink.new)
+    ensures written { Puts (registers_text regs.now) (K.faults sink.old) (K.faults sink.new)
         (K.written sink.old) (K.written sink.new) result }
 {
     let lines = [
-        register_line(&f.regs, 0),
-        register_line(&f.regs, 4),
-        register_line(&f.regs, 8),
-        register_line(&f.regs, 12),
-        register_line(&f.regs, 16),
-        register_line(&f.regs, 20),
-        register_line(&f.regs, 24),
-        register_line(&f.regs, 28),
+        register_line(regs, 0),
+        register_line(regs, 4),
+        register_line(regs, 8),
+        register_line(regs, 12),
+        register_line(regs, 16),
+        register_line(regs, 20),
+        register_line(regs, 24),
+        register_line(regs, 28),
     ];
     put_lines(&lines, sink)
 }
 
 /// The CSRs.
-fn put_csrs<K: Sink>(f: &Final, sink: &mut K) -> Result<(), WriteFault>
+fn put_csrs<K: Sink>(csrs: &Csrs, cmp: u64, sink: &mut K) -> Result<(), WriteFault>
     ensures count { K.faults sink.old ≤ K.faults sink.new }
-    ensures written { Puts (csrs_text f.now) (K.faults sink.old) (K.faults sink.new)
+    ensures written { Puts (csrs_text csrs.now cmp) (K.faults sink.old) (K.faults sink.new)
         (K.written sink.old) (K.written sink.new) result }
 {
-    let lines = [interrupt_csrs_line(&f.csrs), trap_csrs_line(&f.csrs, f.cmp)];
+    let lines = [interrupt_csrs_line(csrs), trap_csrs_line(csrs, cmp)];
     put_lines(&lines, sink)
 }
 
 /// Registers and CSRs.
-pub fn put_values<K: Sink>(f: &Final, sink: &mut K) -> Result<(), WriteFault>
+pub fn put_values<K: Sink>(
+    regs: &[u32; 32],
+    csrs: &Csrs,
+    cmp: u64,
+    sink: &mut K,
+) -> Result<(), WriteFault>
     ensures count { K.faults sink.old ≤ K.faults sink.new }
-    ensures written { Puts (registers_text f.now ++ csrs_text f.now) (K.faults sink.old)
+    ensures written { Puts (values_text regs.now csrs.now cmp) (K.faults sink.old)
         (K.faults sink.new) (K.written sink.old) (K.written sink.new) result }
 {
-    put_registers(f, sink)?;
-    put_csrs(f, sink)
+    put_registers(regs, sink)?;
+    put_csrs(csrs, cmp, sink)
 }
 
 /// The report without the output.
@@ -94,7 +100,7 @@ fn put_report<K: Sink>(f: &Final, sink: &mut K) -> Result<(), WriteFault>
         (K.written sink.old) (K.written sink.new) result }
 {
     put_counts(f, sink)?;
-    put_values(f, sink)
+    put_values(&f.regs, &f.csrs, f.cmp, sink)
 }
 
 /// Writes the output and the report of a run without a machine file, each line by itself.

@@ -2,7 +2,7 @@
 // and take it back.
 use super::programs::files_of_runs;
 use crate::answer::fast_main;
-use device_bus::{Console, DevUndo, Device, DeviceKind, Finisher, Note, Timer, in_order};
+use device_bus::{Console, DevUndo, Device, DeviceKind, Finisher, Note, Timer, sets_in_order};
 use fsim_base::{NoMemory, Width};
 use fsim_ports::{MemoryFiles, MemorySink, QuietGate};
 use std::alloc::Global;
@@ -91,7 +91,7 @@ fn count<R: Threads + Wait + Sync + Abort>(
     devices.push(Box::new(alloc, console)?)?;
     devices.push(Box::new(alloc, Timer::new())?)?;
     devices.push(Box::new(alloc, Finisher::new())?)?;
-    assert!(rt; in_order(devices.as_slice()));
+    assert!(rt; sets_in_order(devices.as_slice()));
     let status = fast_main(
         rt,
         alloc,

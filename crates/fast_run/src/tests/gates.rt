@@ -3,7 +3,7 @@
 use super::programs::files_of_runs;
 use crate::answer::fast_main;
 use crossbeam_utils::CachePadded;
-use device_bus::{Console, Device, Finisher, Timer, in_order};
+use device_bus::{Console, Device, Finisher, Timer, sets_in_order};
 use fsim_ports::{Gate, MemorySink};
 use std::process::Abort;
 use std::sync::atomic::{AtomicBool, Ordering};
@@ -59,7 +59,7 @@ fn run_has_both_sides_at_work(rt: HostRuntime) -> Result<(), Fail> {
     devices.push(Box::new(alloc, Console::new(alloc)?)?)?;
     devices.push(Box::new(alloc, Timer::new())?)?;
     devices.push(Box::new(alloc, Finisher::new())?)?;
-    assert!(rt; in_order(devices.as_slice()));
+    assert!(rt; sets_in_order(devices.as_slice()));
     let gate = MeetingGate::new();
     let mut files = files_of_runs(alloc)?;
     let mut sink = MemorySink::new(alloc, 4096)?;

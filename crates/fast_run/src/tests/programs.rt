@@ -328,7 +328,7 @@ fn ahead(alloc: Global) -> Result<Vec<u8>, Fail> {
 }
 
 /// These events so many times.
-fn repeated(alloc: Global, events: &[u8], times: u32) -> Result<Vec<u8>, Fail> {
+pub fn repeated(alloc: Global, events: &[u8], times: u32) -> Result<Vec<u8>, Fail> {
     let mut plan = Vec::new(alloc);
     for _ in 0..times {
         plan.extend_from_slice(events)?;

@@ -533,7 +533,7 @@ const REPORTS: [(&str, u8, &str); 56] = [
 ];
 
 /// Answers the words, and compares status and lines.
-fn check_report<R: Threads + Wait + Sync + Abort>(
+pub fn check_report<R: Threads + Wait + Sync + Abort>(
     rt: &R,
     alloc: Global,
     text: &str,

@@ -42,12 +42,10 @@ const REFUSED: [&str; 30] = [
 ];
 
 /// Lines of commands that aren't run yet, and the answer.
-const LATER: [(&str, &str); 5] = [
+const LATER: [(&str, &str); 3] = [
     ("back a s", "fast: later: back\n"),
     ("back a s --history 2", "fast: later: back\n"),
     ("inorder a m p", "fast: later: inorder\n"),
-    ("sweep a m n", "fast: later: sweep\n"),
-    ("sweep a m --ring 8 n", "fast: later: sweep\n"),
 ];
 
 /// Lines of commands that are run, by the file that they lack.

@@ -1,14 +1,14 @@
-use Rattle.std.proofs.Common.{Some}
+use Rattle.std.proofs.Common.{vec_len, ◌/◌, Some}
 use Rattle.fast_run.specs.Call.{reading_of, writing_of}
 use Rattle.fast_run.proofs.Settling.{answer-complete, answer-settled}
 use Rattle.fast_run.proofs.answer.fast_still.Goals as goal
 
 pub returns-clause-settled : goal.returns-clause-settled
 returns-clause-settled g c =
-    answer-settled (Some c.args.line.now) 1 (reading_of g.F.Files.told g.F.Files.faults c.args.files.now c.answer.new.files)
+    answer-settled (Some c.args.line.now) (vec_len c.args.devices / 3) (reading_of g.F.Files.told g.F.Files.faults c.args.files.now c.answer.new.files)
     (writing_of g.K.Sink.written g.K.Sink.faults c.args.sink.now c.answer.new.sink) c.answer.result c.answer.ensures.answer
 
 pub returns-clause-complete : goal.returns-clause-complete
 returns-clause-complete g c =
-    answer-complete (Some c.args.line.now) 1 (reading_of g.F.Files.told g.F.Files.faults c.args.files.now c.answer.new.files)
+    answer-complete (Some c.args.line.now) (vec_len c.args.devices / 3) (reading_of g.F.Files.told g.F.Files.faults c.args.files.now c.answer.new.files)
     (writing_of g.K.Sink.written g.K.Sink.faults c.args.sink.now c.answer.new.sink) c.answer.result c.answer.ensures.answer

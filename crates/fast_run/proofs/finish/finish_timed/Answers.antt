@@ -1,4 +1,4 @@
-use Rattle.std.proofs.Common.{ℕ, List, ◌++◌}
+use Rattle.std.proofs.Common.{ℕ, List, ◌++◌, sym, ◌∙◌}
 use Rattle.mono_model.specs.Report.{closed_output, report_text}
 use Rattle.fast_run.specs.Call.{writing_of}
 use Rattle.fast_run.proofs.Answers.{ends-reported, ends-broken}
@@ -7,8 +7,8 @@ use Rattle.fast_run.proofs.finish.finish_timed.Goals as goal
 pub returns-in-Ok-clause-ends : goal.returns-in-Ok-clause-ends
 returns-in-Ok-clause-ends g c = λ job may ended same.
     let text : List ℕ = closed_output c.args.output.now ++ report_text c.args.last.now in
-    ends-reported job c.args.last.now.end text (writing_of g.K.Sink.written g.K.Sink.faults c.args.sink.now c.report.new.sink) c.status_for.result
-    c.status_for.ensures.status may ended same c.in-Ok.ensures.written
+    ends-reported job text (writing_of g.K.Sink.written g.K.Sink.faults c.args.sink.now c.report.new.sink) c.status_for.result
+    (c.status_for.ensures.status ∙ sym ended) may same c.in-Ok.ensures.written
 
 pub returns-in-Err-clause-ends : goal.returns-in-Err-clause-ends
 returns-in-Err-clause-ends g c = λ job may ended same.

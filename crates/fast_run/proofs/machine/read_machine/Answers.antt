@@ -1,8 +1,12 @@
+use Rattle.std.proofs.Common.{◌≡◌, ◌≢◌, true}
 use Rattle.std.proofs.lemmas.Result.{err_from_is_err_and}
+use Rattle.report_text.specs.declared.status.Status.TheVariants.{Memory}
+use Rattle.report_text.specs.SweepText.{is_sweep_refusal}
 use Rattle.fast_run.specs.Job.{machine_in}
 use Rattle.fast_run.specs.Refusal.{refused_machine}
 use Rattle.fast_run.proofs.Jobs.{gives-through}
-use Rattle.fast_run.proofs.Refusals.{refused_machine-told}
+use Rattle.fast_run.proofs.Readings.{if-err-through}
+use Rattle.fast_run.proofs.Refusals.{refused_machine-line, refused_machine-told}
 use Rattle.fast_run.proofs.machine.read_machine.Goals as goal
 
 pub returns-in_err-read-clause-params : goal.returns-in_err-read-clause-params
@@ -11,3 +15,10 @@ returns-in_err-read-clause-params c =
     gives-through (machine_in c.args.bytes.now) c.from_residual.result (refused_machine fault)
     (err_from_is_err_and c.from_residual.result c.from_residual.ensures.1)
     (refused_machine-told c.args.bytes.now fault c.in_err-read.ensures.fault)
+
+pub returns-in_err-read-clause-line : goal.returns-in_err-read-clause-line
+returns-in_err-read-clause-line c =
+    let fault = c.in_err-read.field-0.0 in
+    if-err-through (λ status. status ≢ Memory → is_sweep_refusal status ≡ true) c.from_residual.result (refused_machine fault)
+    (err_from_is_err_and c.from_residual.result c.from_residual.ensures.1)
+    (refused_machine-line fault)

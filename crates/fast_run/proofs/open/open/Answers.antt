@@ -13,7 +13,7 @@ use Rattle.fast_run.proofs.open.open.Goals as goal
 pub returns-in_err-named-clause-closes : goal.returns-in_err-named-clause-closes
 returns-in_err-named-clause-closes g c =
     let reading = reading_of g.F.Files.told g.F.Files.faults c.args.files.now c.args.files.now in
-    if-err-through (Closes c.args.line.now 1 reading) c.from_residual.result Memory
+    if-err-through (Closes c.args.line.now c.args.sets reading) c.from_residual.result Memory
     (err_from_is_err_and c.from_residual.result c.from_residual.ensures.1) (Starved refl)
 
 pub returns-in_err-contents-clause-closes : goal.returns-in_err-contents-clause-closes
@@ -23,8 +23,8 @@ returns-in_err-contents-clause-closes g c =
     let reading = reading_of g.F.Files.told g.F.Files.faults c.args.files.now c.read_files.new.files in
     let files : c.as_slice.result.now ≡ files_of line = c.as_slice.ensures.value ∙ c.in_ok-named.ensures.files in
     let P : List NamedFile → Type 0 = λ named. status ≢ Memory → StopsIn reading named status in
-    if-err-through (Closes line 1 reading) c.from_residual-in_err-contents.result status (err_from_is_err_and c.from_residual-in_err-contents.result c.from_residual-in_err-contents.ensures.1)
-    (closes-stopped line 1 reading status (subst P files c.in_err-contents.ensures.stopped))
+    if-err-through (Closes line c.args.sets reading) c.from_residual-in_err-contents.result status (err_from_is_err_and c.from_residual-in_err-contents.result c.from_residual-in_err-contents.ensures.1)
+    (closes-stopped line c.args.sets reading status (subst P files c.in_err-contents.ensures.stopped))
 
 pub job_of-requires-clause-within : goal.job_of-requires-clause-within
 job_of-requires-clause-within g c =
@@ -40,7 +40,7 @@ returns-clause-closes g c =
     let contents = c.in_ok-contents.contents.items in
     let files : c.as_slice.result.now ≡ files_of line = c.as_slice.ensures.value ∙ c.in_ok-named.ensures.files in
     let P : List NamedFile → Type 0 = λ named. AreRead told named contents in
-    job-closes line 1 (reading_of g.F.Files.told g.F.Files.faults c.args.files.now c.read_files.new.files) contents c.job_of.result (subst P files c.in_ok-contents.ensures.read)
+    job-closes line c.args.sets (reading_of g.F.Files.told g.F.Files.faults c.args.files.now c.read_files.new.files) contents c.job_of.result (subst P files c.in_ok-contents.ensures.read)
     (λ none. c.in_ok-contents.ensures.unread (files ∙ none)) c.job_of.ensures.job
 
 pub returns-clause-asks : goal.returns-clause-asks
@@ -50,4 +50,4 @@ returns-clause-asks g c =
     let contents = c.in_ok-contents.contents.items in
     let files : c.as_slice.result.now ≡ files_of line = c.as_slice.ensures.value ∙ c.in_ok-named.ensures.files in
     let P : List NamedFile → Type 0 = λ named. AreRead told named contents in
-    job-asks line 1 told contents c.job_of.result (subst P files c.in_ok-contents.ensures.read) c.job_of.ensures.job
+    job-asks line c.args.sets told contents c.job_of.result (subst P files c.in_ok-contents.ensures.read) c.job_of.ensures.job

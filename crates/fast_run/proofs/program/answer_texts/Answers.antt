@@ -21,7 +21,7 @@ returns-clause-answer g c =
     let words : map (λ word. word.now) c.as_slice.result.now ≡ map string_bytes texts =
     ap (λ (ws : List (Bor (List ℕ))). map (λ word. word.now) ws) c.as_slice.ensures.value ∙ c.loop-text.invariant.words
     ∙ ap (λ (ts : List (String Global)). map string_bytes ts) (take_all c.loop-text.text-index texts c.loop-text-test.false) in
-    let P : List (List ℕ) → Type 0 = λ ws. IfOk c.answer_words.result (IsAnswer (line ws) 1
+    let P : List (List ℕ) → Type 0 = λ ws. IfOk c.answer_words.result (IsAnswer (line ws) 64
     (reading_of g.F.Files.told g.F.Files.faults c.args.files.now c.answer_words.new.files)
     (writing_of g.K.Sink.written g.K.Sink.faults c.args.sink.now c.answer_words.new.sink)) in
     subst P words c.answer_words.ensures.answer

@@ -1,4 +1,4 @@
-use Rattle.std.proofs.Common.{map, List, refl, ◌∙◌, subst}
+use Rattle.std.proofs.Common.{map, List, refl, ap, ◌∙◌, subst}
 use Rattle.mono_model.specs.Cycle.{mono}
 use Rattle.mono_model.specs.Split.{split_start, run, to_boundary, reach}
 use Rattle.machine_laws.proofs.SplitReached.{start_reached}
@@ -7,7 +7,7 @@ use Rattle.split_core.specs.declared.event.Event.{Event}
 use Rattle.split_core.specs.Events.{event_in}
 use Rattle.split_core.specs.Standing.{SplitStandsFor}
 use Rattle.fast_run.specs.declared.job.Job.TheVariants.{Sched}
-use Rattle.fast_run.specs.Outcome.{planned_cycle}
+use Rattle.fast_run.specs.Outcome.{planned_cycle, status_for}
 use Rattle.fast_run.proofs.Ending.{IsAt, at-end, at-text, at_planned, planned-reached, boundary-reached, boundary-comes}
 use Rattle.fast_run.proofs.run.run_plan.Goals as goal
 
@@ -31,5 +31,5 @@ returns-clause-ends g c =
     } in
     let planned : IsAt s (planned_cycle s plan) c.output.result.now c.committed-last.result = at_planned s plan c.output.result.now c.committed-last.result at in
     c.finish_timed.ensures.ends (Sched s plan) (λ on. refl)
-    (at-end s (planned_cycle s plan) c.output.result.now c.committed-last.result planned)
+    (ap status_for (at-end s (planned_cycle s plan) c.output.result.now c.committed-last.result planned))
     (at-text s (planned_cycle s plan) c.output.result.now c.committed-last.result planned)

@@ -5,6 +5,8 @@ use Rattle.mono_model.specs.Machine.{Machine}
 use Rattle.mono_model.specs.Cycle.{mono, final}
 use Rattle.fast_run.specs.declared.job.Job.TheVariants.{Run}
 use Rattle.mono_model.proofs.Sound.{setup_facts}
+use Rattle.fast_run.specs.Outcome.{status_for}
+use Rattle.fast_run.proofs.Answers.{running-end}
 use Rattle.fast_run.proofs.Ending.{IsAt, at-end, at-text, not_running}
 use Rattle.fast_run.proofs.run.run_session.Goals as goal
 
@@ -20,6 +22,6 @@ returns-clause-ends g c =
     let ended : has_ended (mono s s.cycles).end ≡ true =
     ap (λ (m : Machine). has_ended m.end) (once.still s.cycles once.within) ∙ once.first.ended in
     c.finish_timed.ensures.ends (Run s)
-    (λ on. absurd (not_running (mono s s.cycles).end ended on))
-    (at-end s s.cycles c.output.result.now c.result-last.result at)
+    (λ on. absurd (not_running (mono s s.cycles).end ended (running-end (mono s s.cycles).end on)))
+    (ap status_for (at-end s s.cycles c.output.result.now c.result-last.result at))
     (at-text s s.cycles c.output.result.now c.result-last.result at)

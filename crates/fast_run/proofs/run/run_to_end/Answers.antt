@@ -1,6 +1,8 @@
-use Rattle.std.proofs.Common.{◌∙◌}
+use Rattle.std.proofs.Common.{ap, ◌∙◌}
 use Rattle.mono_model.specs.Cycle.{mono}
 use Rattle.mono_model.specs.Split.{split_start}
+use Rattle.fast_run.specs.Outcome.{status_for}
+use Rattle.fast_run.proofs.Answers.{running-end}
 use Rattle.machine_laws.proofs.SplitReached.{start_reached}
 use Rattle.func_model.proofs.Walking.{stands_output}
 use Rattle.fast_run.specs.declared.job.Job.TheVariants.{Run}
@@ -19,6 +21,6 @@ returns-clause-ends g c =
     } in
     let limit : IsAt s s.cycles c.output.result.now c.committed-last.result = at_limit s ended.split c.output.result.now c.committed-last.result ended.reached ended.boundary ended.machine at in
     c.finish_timed.ensures.ends (Run s)
-    (λ on. absurd (not_running (mono s s.cycles).end (has_ended-limit s ended.split sound ended.reached ended.boundary ended.place ended.machine) on))
-    (at-end s s.cycles c.output.result.now c.committed-last.result limit)
+    (λ on. absurd (not_running (mono s s.cycles).end (has_ended-limit s ended.split sound ended.reached ended.boundary ended.place ended.machine) (running-end (mono s s.cycles).end on)))
+    (ap status_for (at-end s s.cycles c.output.result.now c.committed-last.result limit))
     (at-text s s.cycles c.output.result.now c.committed-last.result limit)

@@ -6,9 +6,9 @@ use Rattle.report_text.proofs.timed.put_state.Goals as goal
 
 pub returns-clause-written : goal.returns-clause-written
 returns-clause-written g c =
-    puts_second (place_text c.args.f.now) (registers_text c.args.f.now ++ csrs_text c.args.f.now) (g.K.Sink.faults c.put_values.new.sink) (g.K.Sink.written c.args.sink.now) (g.K.Sink.written c.put_values.new.sink) c.put_values.result c.in_ok-put_place.ensures.written c.in_ok-put_place.ensures.count c.put_values.ensures.written
+    puts_second (place_text c.args.f.now) (registers_text c.args.f.now.regs ++ csrs_text c.args.f.now.csrs c.args.f.now.cmp) (g.K.Sink.faults c.put_values.new.sink) (g.K.Sink.written c.args.sink.now) (g.K.Sink.written c.put_values.new.sink) c.put_values.result c.in_ok-put_place.ensures.written c.in_ok-put_place.ensures.count c.put_values.ensures.written
 
 pub returns-in_err-put_place-clause-written : goal.returns-in_err-put_place-clause-written
 returns-in_err-put_place-clause-written g c =
     let left = err_from_is_err_and c.from_residual.result c.from_residual.ensures.1 in
-    rw (left.1) (breaks_first (registers_text c.args.f.now ++ csrs_text c.args.f.now) (omega arith) c.in_err-put_place.ensures.written)
+    rw (left.1) (breaks_first (registers_text c.args.f.now.regs ++ csrs_text c.args.f.now.csrs c.args.f.now.cmp) (omega arith) c.in_err-put_place.ensures.written)

@@ -1,0 +1,13 @@
+use Rattle.std.proofs.Common.{List, ap, subst}
+use Rattle.report_text.specs.declared.status.Role.TheVariants as role
+use Rattle.fast_cli.specs.declared.line.Line.{Line}
+use Rattle.fast_run.specs.Files.{file, files_of}
+use Rattle.fast_run.specs.Reading.{AreWithin}
+use Rattle.fast_run.proofs.Jobs.{input-behind_machines}
+use Rattle.fast_run.proofs.job.job_of.Goals as goal
+
+pub sweep_files-requires-clause-input : goal.sweep_files-requires-clause-input
+sweep_files-requires-clause-input c =
+    let contents = c.args.contents.items in
+    let within = subst (λ (line : Line). AreWithin (files_of line) contents) c.in-Sweep.is c.requires.within in
+    input-behind_machines (file role.Image c.in-Sweep.image) c.in-Sweep.machines (file role.Machine) c.in-Sweep.options contents within

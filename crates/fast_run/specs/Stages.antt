@@ -1,0 +1,41 @@
+-- What the bytes of one file give, or what refuses them, and the setup that they make.
+use Rattle.std.specs.Prelude.{ℕ, List, [], slice_index_or, option_map, Result}
+use Rattle.fsim_base.specs.declared.access.RamRange.{RamRange}
+use Rattle.elf_image.specs.declared.image.Image.{Image as LoadedImage}
+use Rattle.elf_image.specs.Image.{image_fault, image_of}
+use Rattle.mono_model.specs.declared.params.Params.{Params}
+use Rattle.mono_model.specs.declared.setup.Setup.{Setup}
+use Rattle.machine_file.specs.File.{machine_fault, params_of}
+use Rattle.split_core.specs.declared.event.Event.{Event}
+use Rattle.report_text.specs.declared.status.Status.{Status}
+use Rattle.report_text.specs.declared.status.Status.TheVariants.{Image, Machine, BadPlan}
+use Rattle.fast_cli.specs.declared.line.Options.{Options}
+use Rattle.fast_run.specs.Gives.{unless}
+use Rattle.fast_run.specs.Plan.{plan_events, first_bad}
+
+-- the parameters that a machine file gives
+unfoldable pub machine_in : List ℕ → Result Params Status
+machine_in bytes = unless (option_map Machine (machine_fault bytes)) (params_of bytes)
+
+-- the image of a file for this RAM
+unfoldable pub image_in : RamRange → List ℕ → Result LoadedImage Status
+image_in ram bytes = unless (option_map Image (image_fault bytes ram)) (image_of bytes)
+
+-- the events of a plan
+unfoldable pub plan_in : List ℕ → Result (List Event) Status
+plan_in bytes = unless (option_map BadPlan (first_bad bytes)) (plan_events bytes)
+
+-- the setup of an image: a machine, the limits that the options give, and what the console reads
+abbrev pub setup_for : Params → Options → LoadedImage → List ℕ → Setup
+setup_for params options image input = record {
+  image = image;
+  params = params;
+  input = input;
+  cycles = options.cycles;
+  output = options.output;
+  ring = options.ring;
+}
+
+-- the bytes of the file at a place of the list; none where the line names no such file
+abbrev pub bytes_at : List (List ℕ) → ℕ → List ℕ
+bytes_at contents place = slice_index_or contents place []

@@ -1,0 +1,29 @@
+ghost use Rattle.std.specs.Prelude.{◌≡◌, true, map, IfOk};
+ghost use Rattle.device_bus.specs.Bus.{device_order};
+ghost use Rattle.mono_model.specs.Setup.{is_setup};
+ghost use Rattle.sweep_runs.specs.Sweep.{last_of};
+
+use device_bus::Device;
+use fsim_base::NoMemory;
+use mono_model::{Final, Setup};
+use split_core::SplitCore;
+use std::alloc::Global;
+
+/// A run of a sweep: its setup, and three devices of its own.
+#[derive(Drop)]
+pub struct Job<D: Device> {
+    pub setup: Setup,
+    pub devices: Vec<D>,
+}
+
+/// Opens a job, plays it to its end, and gives up all that it took.
+pub fn play<D: Device>(alloc: Global, job: Job<D>) -> Result<Final, NoMemory>
+    requires sound { is_setup job.setup ≡ true }
+    requires order { map D.kind job.devices.items ≡ device_order }
+    ensures last { IfOk result (λ last. last ≡ last_of job.setup) }
+{
+    let Job { setup, devices } = job;
+    let mut core = SplitCore::new(alloc, &setup, devices)?;
+    core.to_end();
+    Ok(core.committed())
+}
