@@ -1,0 +1,328 @@
+"""The pictures, by matplotlib: each as PNG and as SVG."""
+
+import sys
+from collections.abc import Callable, Iterator, Sequence
+from pathlib import Path
+from statistics import fmean
+
+from .faults import Fault
+from .front import knee_of
+from .keys import Value
+from .space import Axis, Picture, Space
+from .table import Entry, in_front
+
+try:
+    import matplotlib
+
+    matplotlib.use("Agg")
+    from matplotlib import pyplot
+    from matplotlib.patches import Rectangle
+    from matplotlib.ticker import FuncFormatter, LogLocator, NullLocator
+except ImportError:
+    matplotlib = None
+
+COLOURS = ["#0072B2", "#D55E00", "#009E73", "#CC79A7", "#E69F00", "#56B4E9", "#000000", "#999999"]
+MARKERS = "osD^vP*X"
+STYLE = {
+    "font.size": 9,
+    "axes.titlesize": 10,
+    "axes.spines.top": False,
+    "axes.spines.right": False,
+    "legend.frameon": False,
+    "legend.fontsize": 8,
+    "legend.title_fontsize": 8,
+    "lines.markersize": 4.5,
+    "svg.hashsalt": "explore",
+}
+RATE = "instructions per cycle"
+MOST_TICKS = 12
+MOST_CELLS = 200
+WIDE = 8
+SUM: dict[str, Callable[[list[float]], float]] = {"best": max, "mean": fmean, "worst": min}
+
+Place = Value | float
+
+
+def draw(space: Space, entries: Sequence[Entry], folder: Path) -> Iterator[Path]:
+    """Draws all pictures of an input, and gives their files."""
+    if matplotlib is None:
+        raise Fault(
+            f"no pictures: {sys.executable} has no matplotlib (Debian: apt-get install "
+            "python3-matplotlib, for /usr/bin/python3); the table is written"
+        )
+    with matplotlib.rc_context(STYLE):
+        for picture in space.pictures:
+            chosen = [entry for entry in entries if is_chosen(picture, entry)]
+            shown = [entry for entry in chosen if entry.row.rate is not None]
+            if not any(entry.is_whole or picture.kind != "front" for entry in shown):
+                what = "came to the program's end" if picture.kind == "front" else "ran"
+                raise Fault(f"no picture {picture.name}: none of its machines {what}")
+            figure = KINDS[picture.kind](space, picture, shown)
+            yield from save(figure, folder / picture.name)
+
+
+def is_chosen(picture: Picture, entry: Entry) -> bool:
+    """Whether a picture shows a machine."""
+    return all(entry.values[name] == value for name, value in picture.at.items())
+
+
+def save(figure, path: Path) -> Iterator[Path]:
+    """Writes a picture in both forms."""
+    about = {".png": {"Software": None}, ".svg": {"Date": None}}
+    for ending, metadata in about.items():
+        figure.savefig(path.with_suffix(ending), dpi=200, bbox_inches="tight", metadata=metadata)
+        yield path.with_suffix(ending)
+    pyplot.close(figure)
+
+
+def places(axis: Axis, entries: Sequence[Entry]) -> list[Place]:
+    """The places on an axis: numbers by size, texts in the order of the input."""
+    found = list(dict.fromkeys(axis.place(entry.values) for entry in entries))
+    if any(isinstance(place, str) for place in found):
+        return found
+    return sorted(found)
+
+
+def shared_points(x: Axis, y: Axis, entries: Sequence[Entry]) -> dict[tuple, list[float]]:
+    """The rates of the machines at each pair of places."""
+    rates: dict[tuple, list[float]] = {}
+    for entry in entries:
+        pair = (x.place(entry.values), y.place(entry.values))
+        rates.setdefault(pair, []).append(entry.row.rate or 0.0)
+    return rates
+
+
+def written(place: Place) -> str:
+    """A place as it is written in a picture."""
+    return place if isinstance(place, str) else f"{place:,.6g}" if place < 1e6 else f"{place:,.0f}"
+
+
+def scale(places_: Sequence[Place]) -> list[float]:
+    """Where the places of an axis stand: texts side by side."""
+    if any(isinstance(place, str) for place in places_):
+        return [float(number) for number in range(len(places_))]
+    return [float(place) for place in places_]
+
+
+def begin(picture: Picture, notes: Sequence[str], size: tuple[float, float]):
+    """A figure with its title, and what has to be known to read it below the title."""
+    figure, axes = pyplot.subplots(figsize=size)
+    notes = [note for note in notes if note]
+    axes.set_title(picture.title, loc="left", weight="bold", pad=8 + 11 * len(notes))
+    axes.annotate(
+        "\n".join(notes),
+        (0, 1),
+        xytext=(0, 6),
+        xycoords="axes fraction",
+        textcoords="offset points",
+        fontsize=8,
+        color="#444444",
+        va="bottom",
+    )
+    return figure, axes
+
+
+def chosen_note(picture: Picture, shared: dict[tuple, list[float]] | None = None) -> str:
+    """Which machines a picture shows, and how those that share a point were summed up."""
+    parts = [f"{name} = {value}" for name, value in picture.at.items()]
+    counts = {len(rates) for rates in (shared or {}).values()}
+    if max(counts, default=1) > 1:
+        low, high = min(counts), max(counts)
+        parts += [f"{picture.of} of {high if low == high else f'{low} to {high}'} machines a point"]
+    return "; ".join(parts)
+
+
+def x_axis(axes, label: str, places_: Sequence[Place]) -> None:
+    """An axis whose ticks are the places, on a scale of doublings where they go far apart."""
+    at = scale(places_)
+    if not isinstance(places_[0], str) and at[0] > 0 and at[-1] >= WIDE * at[0]:
+        axes.set_xscale("log", base=2)
+    step = -(-len(at) // MOST_TICKS)
+    axes.set_xticks(at[::step], [written(place) for place in places_[::step]])
+    axes.xaxis.set_minor_locator(NullLocator())
+    axes.set_xlabel(label)
+
+
+def draw_lines(space: Space, picture: Picture, entries: Sequence[Entry]):
+    """A key against instructions per cycle, with a line for each value of a second."""
+    x, lines = picture.axes["x"], picture.axes["lines"]
+    shared = shared_points(x, lines, entries)
+    rates = {pair: SUM[picture.of](part) for pair, part in shared.items()}
+    note = f"ring: the first point within {picture.knee:g} percent of its line's highest"
+    figure, axes = begin(picture, [chosen_note(picture, shared), note], (4.6, 3.4))
+    all_x, all_lines = places(x, entries), places(lines, entries)
+    at = dict(zip(all_x, scale(all_x), strict=True))
+    for number, line in enumerate(all_lines):
+        there = [place for place in all_x if (place, line) in rates]
+        heights = [rates[place, line] for place in there]
+        draw_line(axes, number, written(line), [at[place] for place in there], heights)
+        knee = knee_of(heights, picture.knee)
+        ring = {"mfc": "none", "ms": 13, "mew": 0.9, "clip_on": False}
+        axes.plot(at[there[knee]], heights[knee], "o", color=colour_of(number), **ring)
+    x_axis(axes, x.label, all_x)
+    axes.set_ylim(bottom=0)
+    axes.set_ylabel(RATE)
+    axes.grid(axis="y", color="#dddddd", linewidth=0.6)
+    axes.set_axisbelow(True)
+    put_legend(axes, lines)
+    return figure
+
+
+def draw_line(axes, number: int, name: str, across: list[float], heights: list[float]) -> None:
+    """One line; later ones are slimmer, so that lines that coincide are all seen."""
+    slim = max(1.0 - 0.14 * (number % len(COLOURS)), 0.45)
+    axes.plot(
+        across,
+        heights,
+        "-" if number < len(COLOURS) else "--",
+        label=name,
+        color=colour_of(number),
+        marker=MARKERS[number % len(MARKERS)],
+        linewidth=2.4 * slim,
+        markersize=7.0 * slim,
+    )
+
+
+def colour_of(number: int) -> str:
+    """The colour of a line or a group."""
+    return COLOURS[number % len(COLOURS)]
+
+
+def put_legend(axes, axis: Axis | None) -> None:
+    """The legend, beside the picture."""
+    title = axis.label.replace(", ", ",\n") if axis else None
+    axes.legend(title=title, loc="upper left", bbox_to_anchor=(1.01, 1), alignment="left")
+
+
+def draw_map(space: Space, picture: Picture, entries: Sequence[Entry]):
+    """A heat map of two keys."""
+    x, y = picture.axes["x"], picture.axes["y"]
+    shared = shared_points(x, y, entries)
+    rates = {pair: SUM[picture.of](part) for pair, part in shared.items()}
+    note = f"framed: within {picture.knee:g} percent of the highest"
+    across, up = places(x, entries), places(y, entries)
+    size = (2.2 + 0.55 * max(len(across), 4), 1.3 + 0.38 * max(len(up), 4))
+    figure, axes = begin(picture, [chosen_note(picture, shared), note], size)
+    cells = [[rates.get((column, row), float("nan")) for column in across] for row in up]
+    colours = matplotlib.colormaps["cividis"].with_extremes(bad="#e5e5e5")
+    image = axes.imshow(cells, cmap=colours, origin="lower", aspect="auto")
+    axes.set_xticks(range(len(across)), [written(place) for place in across])
+    axes.set_yticks(range(len(up)), [written(place) for place in up])
+    axes.set_xlabel(x.label)
+    axes.set_ylabel(y.label)
+    axes.spines[:].set_visible(False)
+    axes.tick_params(length=0)
+    write_cells(axes, cells, picture.knee)
+    bar = figure.colorbar(image, ax=axes, pad=0.03)
+    bar.set_label(RATE)
+    bar.outline.set_visible(False)
+    return figure
+
+
+def write_cells(axes, cells: Sequence[Sequence[float]], percent: float) -> None:
+    """Writes the rates into a heat map, and frames the highest."""
+    rates = [rate for row in cells for rate in row if rate == rate]
+    low, high = min(rates), max(rates)
+    for up, row in enumerate(cells):
+        for across, rate in enumerate(row):
+            if len(rates) <= MOST_CELLS:
+                is_dark = rate < low + 0.55 * (high - low)
+                text = f"{rate:.2f}" if rate == rate else "–"
+                colour = "white" if is_dark and rate == rate else "black"
+                axes.text(across, up, text, ha="center", va="center", fontsize=7.5, color=colour)
+            if rate >= high * (1 - percent / 100):
+                corner = (across - 0.46, up - 0.46)
+                frame = Rectangle(corner, 0.92, 0.92, fill=False, color="#D55E00", linewidth=1.6)
+                axes.add_patch(frame)
+
+
+def draw_front(space: Space, picture: Picture, entries: Sequence[Entry]):
+    """Cost against cycles, with the best front."""
+    whole = [entry for entry in entries if entry.is_whole]
+    front = in_front(whole)
+    left_out = len(entries) - len(whole)
+    notes = [
+        chosen_note(picture),
+        f"left out: {left_out} machines that didn't come to the program's end" if left_out else "",
+        *knee_notes(space, picture, front),
+    ]
+    figure, axes = begin(picture, notes, (5.2, 3.8))
+    for number, (label, part) in enumerate(groups(picture, whole)):
+        costs, cycles = costs_and_cycles(part)
+        axes.scatter(
+            costs,
+            cycles,
+            s=12,
+            alpha=0.65,
+            linewidths=0,
+            label=label,
+            color=colour_of(number),
+            marker=MARKERS[number % len(MARKERS)],
+        )
+    costs, cycles = costs_and_cycles(front)
+    axes.step(costs, cycles, where="post", color="black", linewidth=0.9)
+    axes.plot(costs, cycles, "o", mfc="none", color="black", ms=5.5, label="best front")
+    if front:
+        knee = front_knee(picture, front)
+        axes.plot(knee.cost, knee.row.cycles, "o", mfc="none", color="black", ms=12, label="knee")
+    costs, cycles = costs_and_cycles(whole)
+    number_axis(axes, axes.xaxis, costs)
+    number_axis(axes, axes.yaxis, cycles)
+    axes.set_xlabel(space.cost.axis if space.cost else "")
+    axes.set_ylabel("cycles")
+    axes.grid(color="#e5e5e5", linewidth=0.6)
+    axes.set_axisbelow(True)
+    put_legend(axes, picture.axes.get("lines"))
+    return figure
+
+
+def groups(picture: Picture, entries: Sequence[Entry]) -> list[tuple[str, list[Entry]]]:
+    """The machines of a scatter by their colours."""
+    axis = picture.axes.get("lines")
+    if axis is None:
+        return [("machines", list(entries))]
+    return [
+        (written(place), [entry for entry in entries if axis.place(entry.values) == place])
+        for place in places(axis, entries)
+    ]
+
+
+def costs_and_cycles(entries: Sequence[Entry]) -> tuple[list[float], list[int]]:
+    """What a scatter shows."""
+    return [entry.cost or 0.0 for entry in entries], cycle_list(entries)
+
+
+def cycle_list(entries: Sequence[Entry]) -> list[int]:
+    """The cycles of machines that ran."""
+    return [entry.row.cycles or 0 for entry in entries]
+
+
+def front_knee(picture: Picture, front: Sequence[Entry]) -> Entry:
+    """The cheapest machine within some percent of the fewest cycles."""
+    most = min(cycle_list(front)) * (1 + picture.knee / 100)
+    return next(entry for entry in front if (entry.row.cycles or 0) <= most)
+
+
+def knee_notes(space: Space, picture: Picture, front: Sequence[Entry]) -> list[str]:
+    """What the knee is, and which machine."""
+    if not front:
+        return []
+    knee = front_knee(picture, front)
+    values = [f"{name} {value}" for name, value in knee.machine.varied.items()]
+    lines = [f"knee: the cheapest within {picture.knee:g} percent of the fewest cycles, machine"]
+    lines[0] += f" {knee.machine.number}:"
+    for first in range(0, len(values), 4):
+        lines += [", ".join(values[first : first + 4])]
+    return lines
+
+
+def number_axis(axes, axis, values: Sequence[float]) -> None:
+    """An axis of numbers, on a logarithmic scale where they go far apart."""
+    if values and min(values) > 0 and max(values) >= WIDE * min(values):
+        (axes.set_xscale if axis is axes.xaxis else axes.set_yscale)("log")
+        axis.set_major_locator(LogLocator(subs=(1, 2, 5)))
+    axis.set_major_formatter(FuncFormatter(lambda value, _: f"{value:,.12g}"))
+    axis.set_minor_locator(NullLocator())
+
+
+KINDS = {"lines": draw_lines, "map": draw_map, "front": draw_front}
