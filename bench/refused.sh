@@ -78,6 +78,7 @@ image 0x00100293 0x10000437 0x00029463 0x00044483 0x00044503 0x00100337 0x000053
 image 0x00a00293 0xfff28293 0xfe029ee3 0x00100337 0x000053b7 0x55538393 0x00732023 >"$work/loop"
 printf 'AB' >"$work/input"
 printf 'core.window = 8\n' >"$work/eight"
+printf 'core.window = 0\n' >"$work/bad"
 printf 'core.window = 8\npredictor.kind = "bimodal"\npredictor.targets = 16\n' >"$work/targets"
 {
     printf 'CP%.0s' 1 2 3 4 5 6 7 8 9 10 11 12 13
@@ -120,6 +121,7 @@ refuse func pass
 refuse run echo eight --input input --threads 1
 refuse run echo eight --input input
 refuse sched loop targets ahead --ring 16
+refuse sweep loop targets eight bad
 refuse soak 7
 refuse func absent
 refuse func --cycles 0
