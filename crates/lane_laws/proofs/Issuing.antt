@@ -20,6 +20,7 @@ use Rattle.lane_laws.proofs.Found.{ready_in_order, allows_in_order}
 
 -- the conditions of issue, one by one
 pub record Issues (s : Setup) (l : Lane) (older : List Record) (rec : Record) : Type 0 where
+  pub past : is_past_fetch l.machine.cycle rec ≡ true
   pub waits : is_waiting rec ≡ true
   pub free : is_none (in_execute older) ≡ true
   pub operands : has_operands l.machine.arch (found_in_order l.memory older) rec ≡ true
@@ -34,7 +35,7 @@ issues_all s l older rec may =
     let last = and_parts (past && free && has) allows may in
     let two = and_parts (past && free) has last.0 in
     let one = and_parts past free two.0 in
-    record { waits = (and_parts (is_waiting rec) (nat_lt rec.since l.machine.cycle) one.0).0; free = one.1; operands = two.1; allows = last.1 }
+    record { past = one.0; waits = (and_parts (is_waiting rec) (nat_lt rec.since l.machine.cycle) one.0).0; free = one.1; operands = two.1; allows = last.1 }
 
 module _ (s : Setup) (times : ℕ → Option ℕ) (p : ℕ → Arch) (l : Lane) where
   -- a record in its turn

@@ -4,11 +4,24 @@ mod Moving
 mod Issuing
 mod Staging
 mod Stages
-mod Numbering
+pub mod Numbering
 mod Making
-mod Telling
+pub mod Telling
 pub mod Stepping
-mod Staying
-mod OutputRoom
+pub mod Staying
+pub mod OutputRoom
+pub mod Counting
+pub mod Bounds
+mod Serving
+pub mod Owing
+pub mod Halting
+mod FirstEnd
+pub mod Laws
+pub mod SplitRun
+mod SplitRising
+pub mod Left
+pub mod Arriving
+pub mod Stopping
+pub mod SplitRanges
 pub mod Places
 pub mod Leading

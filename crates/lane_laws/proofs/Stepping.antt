@@ -1,8 +1,7 @@
 -- What each step of the in-order machine makes of the orders told, of the number of the record to fetch and of the count of
 -- records fetched: what the steps of the monolithic machine make.
-use Rattle.std.proofs.Common.{◌≡◌, ℕ, zero, suc, ◌+◌, ◌-◌, ◌≤◌, if◌then◌else◌, Bool, true, false, Option, Some, None, List, [], ◌∷◌, length, refl, ap, sym, ◌∙◌, subst, arith}
+use Rattle.std.proofs.Common.{◌≡◌, ℕ, zero, suc, ◌+◌, if◌then◌else◌, Bool, false, Option, Some, None, List, [], ◌∷◌, length, refl, ap, sym, ◌∙◌, subst, arith}
 use Rattle.std.proofs.lemmas.Bool.{cond_both, cond-false}
-use Rattle.rollback_cmds.specs.declared.order.Order.{Order}
 use Rattle.rollback_cmds.specs.declared.order.Order.TheVariants.{Time, Stop}
 use Rattle.mono_model.specs.declared.setup.Setup.{Setup}
 use Rattle.mono_model.specs.Final.{has_ended}
@@ -14,17 +13,17 @@ use Rattle.mono_model.specs.Issue.{replayed}
 use Rattle.mono_model.specs.Fetch.{Try, misses, appends, turns, fetch_try}
 use Rattle.mono_model.specs.Cycle.{end_of_cycle}
 use Rattle.mono_model.specs.Demand as run
-use Rattle.mono_model.specs.Demand.{Demand, Run, run_at, next, demand_committed, demand_try, tried_turn, Place}
+use Rattle.mono_model.specs.Demand.{Demand, Run, run_at, next, demand_committed, demand_try, tried_turn}
 use Rattle.mono_model.specs.Split.{is_halted}
 use Rattle.machine_laws.proofs.Phases.{commits_from, by_window}
-use Rattle.machine_laws.proofs.SplitTurns.{commits_all, still, interrupt_turned, commit_made, IsSame, completes_same, by_fetched, redirect_made, by_try, try_all, TriesAll, cycle_end_window, cycle_end_fetched, MadeBy, quiet, opens_at, stops_at, Turned}
-use Rattle.machine_laws.proofs.SplitSteps.{Owes, owes_none, Stepped, by_turn, by_owed}
+use Rattle.machine_laws.proofs.SplitTurns.{commits_all, still, interrupt_turned, commit_made, IsSame, completes_same, by_fetched, redirect_made, by_try, try_all, cycle_end_window, cycle_end_fetched, MadeBy, quiet, opens_at, stops_at, Turned}
+use Rattle.machine_laws.proofs.SplitSteps.{Owes, Stepped, by_turn, by_owed}
 use Rattle.lane_model.specs.Lane.{Lane, Executing, in_execute}
 use Rattle.lane_model.specs.Write.{write_width, lane_commit}
 use Rattle.lane_model.specs.Execute.{Moved, unmoved, moved, may_move, moving_by, moving}
 use Rattle.lane_model.specs.Issue.{lane_wants_time, issued, issue_machine}
 use Rattle.lane_model.specs.Fetch.{lane_may_fetch}
-use Rattle.lane_model.specs.Demand.{LaneAt, interrupting, writing, accessing, executing, issuing, trying, ending, stopping, halted, lane_in, demand_moved, demand_lane_issue, LaneRun, lane_turn_at, lane_turn, LanePlace, lane_step_by, lane_step, lane_place, seen_at, seen_of, seen}
+use Rattle.lane_model.specs.Demand.{LaneAt, interrupting, writing, accessing, executing, issuing, trying, ending, stopping, halted, lane_in, demand_moved, demand_lane_issue, LaneRun, lane_turn_at, lane_turn, LanePlace, lane_step_by, lane_step, seen_at, seen_of}
 use Rattle.lane_laws.proofs.Issuing.{issue_length}
 use Rattle.lane_laws.proofs.Leading.{moved_fewer}
 use Rattle.lane_laws.proofs.Making.{replay_empties}

@@ -1,12 +1,12 @@
 -- A step of the in-order machine tells one order at most.
-use Rattle.std.proofs.Common.{◌≡◌, ◌⊎◌, ℕ, zero, suc, ◌-◌, ◌≤◌, IfSome, Option, List, [], ◌∷◌, ◌++◌, length, refl, ap, sym, subst, arith, inr, length-append}
+use Rattle.std.proofs.Common.{◌≡◌, ℕ, zero, suc, ◌-◌, ◌≤◌, IfSome, List, length, refl, ap, sym, subst, arith, inr, length-append}
 use Rattle.rollback_cmds.specs.declared.order.Order.{Order}
 use Rattle.mono_model.specs.declared.setup.Setup.{Setup}
 use Rattle.mono_model.specs.Demand.{next, told}
 use Rattle.mono_model.specs.Split.{told_by}
 use Rattle.machine_laws.specs.Telling.{with_order, OpensAt}
 use Rattle.machine_laws.proofs.Telling.{TellsOne, FirstOpenAt, one_fewer, first_made, oldest_of, turn_tells, tells_told, tells_opens}
-use Rattle.lane_model.specs.Demand.{LaneRun, lane_turn_at, lane_turn, LanePlace, lane_step_by, lane_step, lane_place, seen_of, seen}
+use Rattle.lane_model.specs.Demand.{LaneRun, lane_turn_at, lane_turn, lane_step_by, lane_step, lane_place, seen_of, seen}
 use Rattle.lane_laws.proofs.Making.{turn_made}
 
 -- no more orders are owed than were made, and those that aren't told yet open an epoch at the number of the next record

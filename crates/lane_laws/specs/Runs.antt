@@ -1,9 +1,9 @@
 -- The demand run of the in-order machine beside its run by cycles.
-use Rattle.std.specs.Prelude.{◌≡◌, Bool, true, false}
+use Rattle.std.specs.Prelude.{◌≡◌, ℕ, ◌≤◌, Bool, true, false}
 use Rattle.mono_model.specs.declared.setup.Setup.{Setup}
 use Rattle.mono_model.specs.Final.{has_ended}
 use Rattle.lane_model.specs.Cycle.{lane}
-use Rattle.lane_model.specs.Demand.{LaneAt, interrupting, writing, accessing, executing, issuing, trying, ending, stopping, halted, LanePlace, lane_in}
+use Rattle.lane_model.specs.Demand.{LaneAt, interrupting, writing, accessing, executing, issuing, trying, ending, stopping, halted, LanePlace, lane_in, lane_place, lane_step_bound}
 
 -- a cycle starts with this turn, or the run has ended
 abbrev pub starts_cycle : LaneAt → Bool
@@ -33,3 +33,10 @@ is_lane_over halted = true
 pub record IsLane (s : Setup) (p : LanePlace) : Type 0 where
   pub state : lane_in p.run.demand p.run.memory ≡ lane s p.run.demand.machine.cycle
   pub over : has_ended (lane s p.run.demand.machine.cycle).machine.end ≡ is_lane_over p.run.at
+
+-- Within its bound of steps the run has told its last order, and it stands still from there on.
+pub record LaneHalts (s : Setup) : Type 0 where
+  pub at : (lane_place s (lane_step_bound s)).run.at ≡ halted
+  pub told : (lane_place s (lane_step_bound s)).owed ≡ 0
+  pub state : lane_in (lane_place s (lane_step_bound s)).run.demand (lane_place s (lane_step_bound s)).run.memory ≡ lane s s.cycles
+  pub still : (k : ℕ) → lane_step_bound s ≤ k → lane_place s k ≡ lane_place s (lane_step_bound s)

@@ -4,18 +4,31 @@
 //! Each function does nothing: its clauses are the laws.
 #![tactic(auto)]
 
+mod counts;
+mod end;
 mod numbers;
 mod on_path;
 mod orders;
 mod pipeline;
 mod runs;
+mod split_run;
 mod stays;
 
+pub use counts::counts_in_order_agree;
+pub use end::run_in_order_ends_once;
 pub use numbers::{
-    orders_in_order_are_numbered_within_the_window, output_in_order_stays_within_its_limit,
+    numbers_of_a_run_in_order_are_bounded, orders_in_order_are_numbered_within_the_window,
+    output_in_order_stays_within_its_limit,
 };
-pub use on_path::in_order_machine_is_on_the_path;
+pub use on_path::{in_order_machine_is_on_the_path, time_reads_in_order_are_served};
 pub use orders::step_in_order_tells_one_order_at_most;
 pub use pipeline::each_stage_has_at_most_one_record;
-pub use runs::states_of_the_demand_run_are_those_of_the_cycles;
-pub use stays::committed_in_order_stays;
+pub use runs::{
+    demand_run_in_order_halts, states_of_the_demand_run_are_those_of_the_cycles,
+    stop_in_order_is_told_last,
+};
+pub use split_run::{
+    boundaries_in_order_are_reached, committed_number_in_order_never_falls,
+    split_core_runs_as_the_in_order_machine, split_states_in_order_are_reached,
+};
+pub use stays::{committed_in_order_stays, what_orders_in_order_commit_has_room};

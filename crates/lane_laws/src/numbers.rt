@@ -6,6 +6,7 @@ ghost use Rattle.mono_model.specs.declared.setup.Setup.{Setup};
 ghost use Rattle.mono_model.specs.Demand.{told};
 ghost use Rattle.machine_laws.specs.Numbers.{AreNumbered, AreAtCommit, last_commit};
 ghost use Rattle.lane_model.specs.Demand.{lane_place, seen};
+ghost use Rattle.lane_laws.specs.Numbers.{IsLaneBounded};
 
 /// Where the window has room for a record in each stage, the number of each order lies from that of
 /// the last Commit before it to that plus the window.
@@ -24,4 +25,11 @@ pub fn orders_in_order_are_numbered_within_the_window()
 pub fn output_in_order_stays_within_its_limit()
     ensures within { (s : Setup) (k : ℕ)
         → length (lane_place s k).run.demand.machine.arch.output ≤ s.output }
+{}
+
+/// How far cycle number, instruction numbers and the list of orders go.
+#[tactic(auto, using(crate::proofs::Bounds::run_bounded))]
+pub fn numbers_of_a_run_in_order_are_bounded()
+    ensures bounded { (s : Setup) (k : ℕ) → 1 ≤ s.cycles → 4 ≤ s.params.core_window
+        → IsLaneBounded s k (lane_place s k) }
 {}

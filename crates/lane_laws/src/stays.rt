@@ -3,6 +3,8 @@
 
 ghost use Rattle.std.specs.Prelude.{◌≡◌, ℕ, ◌≤◌};
 ghost use Rattle.mono_model.specs.declared.setup.Setup.{Setup};
+ghost use Rattle.mono_model.specs.Demand.{told};
+ghost use Rattle.machine_laws.specs.Output.{AreInRoom};
 ghost use Rattle.machine_laws.specs.Stays.{StaysBelow, StaysAt};
 ghost use Rattle.lane_model.specs.Demand.{seen};
 
@@ -13,4 +15,12 @@ pub fn committed_in_order_stays()
     ensures below { (s : Setup) (k l : ℕ) → k ≤ l → StaysBelow s (seen s k) (seen s l) }
     ensures at { (s : Setup) (k l : ℕ) → (seen s k).owed ≡ 0 → k ≤ l
         → StaysAt s (seen s k) (seen s l) }
+{}
+
+/// What each order commits has room in the output: the path before its number has at most the
+/// limit's bytes.
+#[tactic(auto, using(crate::proofs::SplitRun::lane_orders_have_room))]
+pub fn what_orders_in_order_commit_has_room()
+    ensures room { (s : Setup) (k : ℕ) → 4 ≤ s.params.core_window
+        → AreInRoom s (told (seen s k)) }
 {}

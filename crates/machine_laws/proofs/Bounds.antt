@@ -4,7 +4,7 @@ use Rattle.rollback_cmds.specs.declared.order.Order.{Order}
 use Rattle.mono_model.specs.declared.setup.Setup.{Setup}
 use Rattle.mono_model.specs.Final.{has_ended}
 use Rattle.mono_model.specs.Machine.{Machine, machine_start}
-use Rattle.mono_model.specs.Commit.{Leaving, stays, full, leaves, faults, syncs, ends, leaving, commit_phase}
+use Rattle.mono_model.specs.Commit.{Leaving, stays, full, leaves, faults, syncs, ends, leaving, commits, commit_phase}
 use Rattle.mono_model.specs.Fetch.{Try, misses, appends, turns, may_fetch, fetch_try}
 use Rattle.mono_model.specs.Cycle.{end_of_cycle}
 use Rattle.mono_model.specs.Split.{told_by}
@@ -30,12 +30,14 @@ goes_on_most most more left m (faults behind) within = omega arith
 goes_on_most most more left m (syncs behind) within = omega arith
 goes_on_most most more left m (ends behind) within = omega arith
 
-commit_most : (s : Setup) (m : Machine) → (commit_phase s m).left ≤ s.params.core_commit
-unfolding commit_phase
-commit_most s m =
-    let most = s.params.core_commit in
+pub commits_most : (s : Setup) (most : ℕ) (m : Machine) → (commits s most 0 m).left ≤ most
+commits_most s most m =
     every_commit s (λ more left m. left + more ≤ most) (λ c. c.left ≤ most) (λ left m within. omega arith)
     (λ more left m within. goes_on_most most more left m (leaving s m) within) most 0 m (omega arith)
+
+commit_most : (s : Setup) (m : Machine) → (commit_phase s m).left ≤ s.params.core_commit
+unfolding commit_phase
+commit_most s m = commits_most s s.params.core_commit m
 
 -- whether the turn stands in a cycle, and behind its commit
 abbrev in_cycle : At → ℕ
@@ -180,7 +182,7 @@ commit_grows s (Time m v) os is = omega arith
 commit_grows s (Stop m) os is = omega arith
 commit_grows s (Sync m) os is = omega arith
 
-all_at_most : (s : Setup) (n : ℕ) (os : List Order) → AreNumbered s os → last_commit os ≤ n → AreAtMost (n + s.params.core_window) os
+pub all_at_most : (s : Setup) (n : ℕ) (os : List Order) → AreNumbered s os → last_commit os ≤ n → AreAtMost (n + s.params.core_window) os
 all_at_most s n [] are within = tt
 all_at_most s n (o ∷ os) are within =
     let less : last_commit os ≤ n = omega (arith, commit_grows s o os are.0) in
@@ -190,7 +192,7 @@ nothing_told : (s : Setup) → length (told (place s 0)) ≤ 0
 unfolding place
 nothing_told s = omega arith
 
-length_added : (o : Option Order) (os : List Order) → length (with_order o os) ≤ length os + 1
+pub length_added : (o : Option Order) (os : List Order) → length (with_order o os) ≤ length os + 1
 length_added None os = omega arith
 length_added (Some o) os = omega arith
 

@@ -14,7 +14,7 @@ use Rattle.mono_model.specs.Result.{Result}
 use Rattle.mono_model.specs.Window.{Record}
 use Rattle.mono_model.specs.Machine.{Counts, Machine, machine_start, flushed}
 use Rattle.mono_model.specs.Interrupt.{is_interrupted, take_interrupt, interrupt_phase}
-use Rattle.mono_model.specs.Commit.{branch_count, committed, faulted, fenced, leaving, commit_phase}
+use Rattle.mono_model.specs.Commit.{branch_count, committed, faulted, fenced, leaving, commits, commit_phase}
 use Rattle.mono_model.specs.Complete.{completes, completed_by, complete_phase}
 use Rattle.mono_model.specs.Issue.{none_passed, wants_time, replayed, issued, issue_phase}
 use Rattle.mono_model.specs.Fetch.{Try, misses, appends, turns, cache_read, missed, appended, new_record, predicted_next, tried, fetch_try}
@@ -26,14 +26,14 @@ use Rattle.machine_laws.proofs.Always.{at_each_turn}
 use Rattle.machine_laws.proofs.Phases.{completes_from, walk_length}
 
 -- From a machine to another one, with so many records gone and so many steps made.
-record CountsOn (m : Machine) (left steps : ℕ) (behind : Machine) : Type 0 where
-  records : behind.counts.fetched + m.counts.squashed + length m.window ≡ m.counts.fetched + left + behind.counts.squashed + length behind.window
-  fetched : behind.counts.fetched ≤ m.counts.fetched + steps
-  interrupts : behind.counts.interrupts ≤ m.counts.interrupts + steps
-  replays : behind.counts.replays ≤ m.counts.replays + steps
-  mispredicted : behind.counts.mispredicted ≤ m.counts.mispredicted + steps
-  exceptions : behind.counts.exceptions ≤ m.counts.exceptions + left
-  branches : behind.counts.branches ≤ m.counts.branches + left
+pub record CountsOn (m : Machine) (left steps : ℕ) (behind : Machine) : Type 0 where
+  pub records : behind.counts.fetched + m.counts.squashed + length m.window ≡ m.counts.fetched + left + behind.counts.squashed + length behind.window
+  pub fetched : behind.counts.fetched ≤ m.counts.fetched + steps
+  pub interrupts : behind.counts.interrupts ≤ m.counts.interrupts + steps
+  pub replays : behind.counts.replays ≤ m.counts.replays + steps
+  pub mispredicted : behind.counts.mispredicted ≤ m.counts.mispredicted + steps
+  pub exceptions : behind.counts.exceptions ≤ m.counts.exceptions + left
+  pub branches : behind.counts.branches ≤ m.counts.branches + left
 
 counts_then : (m between behind : Machine) (left more steps : ℕ) → CountsOn m left 0 between → CountsOn between more steps behind → CountsOn m (left + more) steps behind
 counts_then m between behind left more steps first then_ = record {
@@ -47,7 +47,7 @@ counts_then m between behind left more steps first then_ = record {
 }
 
 -- nothing counted
-same_counts : (m behind : Machine) (steps : ℕ) → behind.counts ≡ m.counts → length behind.window ≡ length m.window → CountsOn m 0 steps behind
+pub same_counts : (m behind : Machine) (steps : ℕ) → behind.counts ≡ m.counts → length behind.window ≡ length m.window → CountsOn m 0 steps behind
 same_counts m behind steps same window =
     let fetched : behind.counts.fetched ≡ m.counts.fetched = ap (λ (c : Counts). c.fetched) same in
     let squashed : behind.counts.squashed ≡ m.counts.squashed = ap (λ (c : Counts). c.squashed) same in
@@ -61,7 +61,7 @@ same_counts m behind steps same window =
       branches = omega (arith, ap (λ (c : Counts). c.branches) same);
     }
 
-interrupt_counts : (m : Machine) → CountsOn m 0 1 (interrupt_phase m)
+pub interrupt_counts : (m : Machine) → CountsOn m 0 1 (interrupt_phase m)
 unfolding interrupt_phase flushed
 interrupt_counts m =
     cond_both (is_interrupted m) (take_interrupt m) m (CountsOn m 0 1)
@@ -132,14 +132,18 @@ one_counts s m between left on =
       if_leaves = λ passes fence. more;
     })
 
+-- where at most so many records leave
+pub commits_counts : (s : Setup) (most : ℕ) (m : Machine) → CountsOn m (commits s most 0 m).left 0 (commits s most 0 m).machine
+commits_counts s most m =
+    every_commit s (λ more left behind. CountsOn m left 0 behind) (λ c. CountsOn m c.left 0 c.machine) (λ left behind on. on)
+    (λ more left between on. one_counts s m between left on) most 0 m (same_counts m m 0 refl refl)
+
 commit_counts : (s : Setup) (m : Machine) → CountsOn m (commit_phase s m).left 0 (commit_phase s m).machine
 unfolding commit_phase
-commit_counts s m =
-    every_commit s (λ more left behind. CountsOn m left 0 behind) (λ c. CountsOn m c.left 0 c.machine) (λ left behind on. on)
-    (λ more left between on. one_counts s m between left on) s.params.core_commit 0 m (same_counts m m 0 refl refl)
+commit_counts s m = commits_counts s s.params.core_commit m
 
 -- complete, issue and fetch
-by_complete : (redirect : Option ℕ) (records : List Record) (m : Machine) → length records ≤ length m.window → (redirect ≡ None → length records ≡ length m.window) → CountsOn m 0 1 (completed_by redirect records m)
+pub by_complete : (redirect : Option ℕ) (records : List Record) (m : Machine) → length records ≤ length m.window → (redirect ≡ None → length records ≡ length m.window) → CountsOn m 0 1 (completed_by redirect records m)
 unfolding flushed
 by_complete None records m fewer all = record { records = omega (arith, all refl); fetched = omega arith; interrupts = omega arith; replays = omega arith; mispredicted = omega arith; exceptions = omega arith; branches = omega arith }
 by_complete (Some addr) records m fewer all = record { records = omega arith; fetched = omega arith; interrupts = omega arith; replays = omega arith; mispredicted = omega arith; exceptions = omega arith; branches = omega arith }
@@ -158,7 +162,7 @@ issue_counts s m =
     (λ e. record { records = omega arith; fetched = omega arith; interrupts = omega arith; replays = omega arith; mispredicted = omega arith; exceptions = omega arith; branches = omega arith })
     (λ e. same_counts m (issued s m) 1 refl (walk_length s m (none_passed m) m.window))
 
-abbrev TryCounts : Machine → Try → Type 0
+abbrev pub TryCounts : Machine → Try → Type 0
 TryCounts m (misses behind) = CountsOn m 0 1 behind
 TryCounts m (appends behind) = CountsOn m 0 1 behind
 TryCounts m (turns behind) = CountsOn m 0 1 behind
@@ -174,16 +178,16 @@ tried_counts s d m =
     more : CountsOn m 0 1 (appended s d.state m)
     more = record { records = omega (arith, length-append m.window (new_record s m ∷ [])); fetched = omega arith; interrupts = omega arith; replays = omega arith; mispredicted = omega arith; exceptions = omega arith; branches = omega arith }
 
-try_counts : (s : Setup) (m : Machine) → TryCounts m (fetch_try s m)
+pub try_counts : (s : Setup) (m : Machine) → TryCounts m (fetch_try s m)
 unfolding fetch_try
 try_counts s m = tried_counts s (cache_read s m) m
 
-cycle_end_counts : (s : Setup) (m : Machine) → CountsOn m 0 1 (end_of_cycle s m)
+pub cycle_end_counts : (s : Setup) (m : Machine) → CountsOn m 0 1 (end_of_cycle s m)
 unfolding end_of_cycle
 cycle_end_counts s m = same_counts m (end_of_cycle s m) 1 refl refl
 
 -- one turn
-counted_on : (k left : ℕ) (d behind : Demand) → behind.to_commit ≡ d.to_commit + left → CountsOn d.machine left 1 behind.machine → AreCounted k d → AreCounted (suc k) behind
+pub counted_on : (k left : ℕ) (d behind : Demand) → behind.to_commit ≡ d.to_commit + left → CountsOn d.machine left 1 behind.machine → AreCounted k d → AreCounted (suc k) behind
 counted_on k left d behind same on are = record {
   records = omega (arith, on.records, are.records);
   fetched = omega (arith, on.fetched, are.fetched);
@@ -194,7 +198,7 @@ counted_on k left d behind same on are = record {
   branches = omega (arith, on.branches, are.branches);
 }
 
-one_step : (m behind : Machine) (left : ℕ) → CountsOn m left 0 behind → CountsOn m left 1 behind
+pub one_step : (m behind : Machine) (left : ℕ) → CountsOn m left 0 behind → CountsOn m left 1 behind
 one_step m behind left on = record {
   records = on.records;
   fetched = omega (arith, on.fetched);

@@ -15,7 +15,7 @@ use Rattle.mono_model.specs.Demand.{step_bound}
 use Rattle.mono_model.specs.Split.{is_cycle_start}
 use Rattle.mono_model.proofs.Next.{mono-suc}
 use Rattle.machine_laws.specs.Runs.{is_over}
-use Rattle.machine_laws.specs.FirstEnd.{IsFirstEnd, EndsOnce}
+use Rattle.machine_laws.specs.FirstEnd.{IsFirst, EndsOnce}
 use Rattle.machine_laws.proofs.Phases.{interrupt_cycle, commit_from, complete_kept, issue_kept, Tries, try_tries}
 use Rattle.machine_laws.proofs.DemandRun.{is_mono}
 use Rattle.machine_laws.proofs.Reaching.{ended_stays, cycle_end_cycle}
@@ -59,37 +59,81 @@ first_counts : (s : Setup) → (mono s zero).cycle ≡ 0
 unfolding mono machine_start
 first_counts s = refl
 
--- so while it runs it has counted them all, and never more
-counts_all : (s : Setup) (c : ℕ) → ((k : ℕ) → k < c → has_ended (mono s k).end ≡ false)
-    → (mono s c).cycle ≡ c
-counts_all s zero on = first_counts s
-counts_all s (suc c) on =
-    let before = counts_all s c (λ k below. on k (omega arith)) in
-    omega (arith, next_counts s c (on c (omega arith)), before)
+-- So while it runs it has counted them all, and never more. In any run by cycles that does, and that stands still once it
+-- has ended:
+pub record RunsOnce {M : Type 0} (at : ℕ → M) (machine : M → Machine) (limit c : ℕ) : Type 0 where
+  pub first : IsFirst (λ k. has_ended (machine (at k)).end) c
+  pub only : (k : ℕ) → IsFirst (λ k. has_ended (machine (at k)).end) k → k ≡ c
+  pub within : c ≤ limit
+  pub counted : (k : ℕ) → k ≤ c → (machine (at k)).cycle ≡ k
+  pub still : (k : ℕ) → c ≤ k → at k ≡ at c
+  pub last : at limit ≡ at c
 
-counts_at_most : (s : Setup) (c : ℕ) → (mono s c).cycle ≤ c
-counts_at_most s zero = omega (arith, first_counts s)
-counts_at_most s (suc c) = by_test (has_ended (mono s c).end) refl (counts_at_most s c)
-  where
-    by_test : (b : Bool) → has_ended (mono s c).end ≡ b → (mono s c).cycle ≤ c
-        → (mono s (suc c)).cycle ≤ suc c
-    by_test true ended most =
-        subst (λ (m : Machine). m.cycle ≤ suc c) (sym (ended_stays s c ended)) (omega arith)
-    by_test false on most = omega (arith, next_counts s c on)
+module _ {M : Type 0} (at : ℕ → M) (machine : M → Machine) (none : (machine (at zero)).cycle ≡ 0)
+    (counts : (c : ℕ) → has_ended (machine (at c)).end ≡ false → (machine (at (suc c))).cycle ≡ (machine (at c)).cycle + 1)
+    (stays : (c : ℕ) → has_ended (machine (at c)).end ≡ true → at (suc c) ≡ at c) where
+  abbrev Over : ℕ → Bool
+  Over c = has_ended (machine (at c)).end
 
--- once it has ended the machine stands still
-still_on : (s : Setup) (c more : ℕ) → has_ended (mono s c).end ≡ true → mono s (c + more) ≡ mono s c
-still_on s c zero ended = let e : c + zero ≡ c = omega arith in ap (mono s) e
-still_on s c (suc more) ended =
-    let e : c + suc more ≡ suc (c + more) = omega arith in
-    let same = still_on s c more ended in
-    let over = ap (λ (m : Machine). has_ended m.end) same ∙ ended in
-    ap (mono s) e ∙ ended_stays s (c + more) over ∙ same
+  counts_all : (c : ℕ) → ((k : ℕ) → k < c → Over k ≡ false) → (machine (at c)).cycle ≡ c
+  counts_all zero on = none
+  counts_all (suc c) on =
+      let before = counts_all c (λ k below. on k (omega arith)) in
+      omega (arith, counts c (on c (omega arith)), before)
 
-still_from : (s : Setup) (c : ℕ) → has_ended (mono s c).end ≡ true → (k : ℕ) → c ≤ k
-    → mono s k ≡ mono s c
-still_from s c ended k later =
-    let e : k ≡ c + (k - c) = omega arith in ap (mono s) e ∙ still_on s c (k - c) ended
+  counts_at_most : (c : ℕ) → (machine (at c)).cycle ≤ c
+  counts_at_most zero = omega (arith, none)
+  counts_at_most (suc c) = by_test (Over c) refl (counts_at_most c)
+    where
+      by_test : (b : Bool) → Over c ≡ b → (machine (at c)).cycle ≤ c → (machine (at (suc c))).cycle ≤ suc c
+      by_test true ended most =
+          subst (λ (m : M). (machine m).cycle ≤ suc c) (sym (stays c ended)) (omega arith)
+      by_test false on most = omega (arith, counts c on)
+
+  still_on : (c more : ℕ) → Over c ≡ true → at (c + more) ≡ at c
+  still_on c zero ended = let e : c + zero ≡ c = omega arith in ap at e
+  still_on c (suc more) ended =
+      let e : c + suc more ≡ suc (c + more) = omega arith in
+      let same = still_on c more ended in
+      let over = ap (λ (m : M). has_ended (machine m).end) same ∙ ended in
+      ap at e ∙ stays (c + more) over ∙ same
+
+  pub still_from : (c : ℕ) → Over c ≡ true → (k : ℕ) → c ≤ k → at k ≡ at c
+  still_from c ended k later =
+      let e : k ≡ c + (k - c) = omega arith in ap at e ∙ still_on c (k - c) ended
+
+  -- two first ends are the same
+  same_first : (c k : ℕ) → IsFirst (λ k. Over k) c → IsFirst (λ k. Over k) k → k ≡ c
+  same_first c k here there =
+      ⊎_elim (λ same. same)
+      (λ other. ⊎_elim (λ less. absurd (false≢true (sym (here.before k less) ∙ there.ended)))
+      (λ more. absurd (false≢true (sym (there.before c more) ∙ here.ended))) other) (cases_order k c)
+
+  -- where the machine at the limit has ended, and is the one behind as many cycles as it counts
+  module _ (limit : ℕ) (over : Over limit ≡ true) (back : at limit ≡ at (machine (at limit)).cycle) where
+    -- before that cycle it had not ended, since it would have counted fewer
+    not_before : (k : ℕ) → k < (machine (at limit)).cycle → Over k ≡ false
+    not_before k below = by_test (Over k) refl
+      where
+        by_test : (b : Bool) → Over k ≡ b → b ≡ false
+        by_test true ended =
+            let same = still_from k ended limit (omega (arith, counts_at_most limit)) in
+            absurd (omega (arith, ap (λ (m : M). (machine m).cycle) same, counts_at_most k))
+        by_test false on = refl
+
+    pub runs_once : RunsOnce at machine limit (machine (at limit)).cycle
+    runs_once =
+        let c = (machine (at limit)).cycle in
+        let ended : Over c ≡ true = ap (λ (m : M). has_ended (machine m).end) (sym back) ∙ over in
+        let first : IsFirst (λ k. Over k) c = record { ended = ended; before = not_before } in
+        record {
+          first = first;
+          only = λ k there. same_first c k first there;
+          within = counts_at_most limit;
+          counted = λ k most. counts_all k (λ j below. not_before j (omega arith));
+          still = still_from c ended;
+          last = back;
+        }
 
 -- the machine at the limit has ended, and is the one behind as many cycles as it counts
 record AtLimit (s : Setup) : Type 0 where
@@ -106,41 +150,21 @@ at_limit s some =
       back = sym halts.machine ∙ is.machine ∙ ap (λ (m : Machine). mono s m.cycle) halts.machine;
     }
 
--- before that cycle it had not ended, since it would have counted fewer
-not_before : (s : Setup) (k : ℕ) → k < (mono s s.cycles).cycle → has_ended (mono s k).end ≡ false
-not_before s k below = by_test (has_ended (mono s k).end) refl
-  where
-    by_test : (b : Bool) → has_ended (mono s k).end ≡ b → b ≡ false
-    by_test true ended =
-        let same = still_from s k ended s.cycles (omega (arith, counts_at_most s s.cycles)) in
-        absurd (omega (arith, ap (λ (m : Machine). m.cycle) same, counts_at_most s k))
-    by_test false on = refl
-
--- two first ends are the same
-same_first : (s : Setup) (c k : ℕ) → IsFirstEnd s c → IsFirstEnd s k → k ≡ c
-same_first s c k here there =
-    ⊎_elim (λ same. same)
-    (λ other. ⊎_elim (λ less. absurd (false≢true (sym (here.before k less) ∙ there.ended)))
-    (λ more. absurd (false≢true (sym (there.before c more) ∙ here.ended))) other) (cases_order k c)
-
 ends_once : (s : Setup) → 1 ≤ s.cycles → EndsOnce s (mono s s.cycles).cycle
 unfolding text
 ends_once s some =
-    let c = (mono s s.cycles).cycle in
     let at = at_limit s some in
+    let once = runs_once (mono s) (λ m. m) (first_counts s) (next_counts s) (ended_stays s) s.cycles at.ended at.back in
     let written_of : Machine → List ℕ = λ m.
     closed_output m.arch.output ++ report_text (machine_final s m) in
-    let ended : has_ended (mono s c).end ≡ true =
-    ap (λ (m : Machine). has_ended m.end) (sym at.back) ∙ at.ended in
-    let first : IsFirstEnd s c = record { ended = ended; before = not_before s } in
     record {
-      first = first;
-      only = λ k there. same_first s c k first there;
-      within = counts_at_most s s.cycles;
-      counted = λ k most. counts_all s k (λ j below. not_before s j (omega arith));
-      still = still_from s c ended;
-      reported = ap (machine_final s) at.back;
-      written = ap written_of at.back;
+      first = once.first;
+      only = once.only;
+      within = once.within;
+      counted = once.counted;
+      still = once.still;
+      reported = ap (machine_final s) once.last;
+      written = ap written_of once.last;
     }
 
 pub run_ends_once : (s : Setup) → 1 ≤ s.cycles → EndsOnce s (final s s.cycles).stats.cycles

@@ -1,24 +1,25 @@
 pub mod Always
 mod DemandRun
 mod Epochs
-mod FirstEnd
+pub mod FirstEnd
+pub mod Laws
 pub mod Making
+mod MonoRun
 mod Onward
 pub mod Phases
 pub mod Reaching
-mod Room
-mod SplitBoundary
-mod SplitDropping
-mod SplitEvents
-mod SplitFull
+pub mod SplitBoundary
+pub mod SplitDropping
+pub mod SplitEvents
+pub mod SplitFull
 mod SplitLeft
-mod SplitLists
-mod SplitNames
-mod SplitOrders
-mod SplitOutput
-mod SplitRising
-mod SplitRounds
-mod SplitRun
+pub mod SplitLists
+pub mod SplitNames
+pub mod SplitOrders
+pub mod SplitOutput
+pub mod SplitRising
+pub mod SplitRounds
+pub mod SplitRun
 mod SplitStale
 pub mod Staying
 pub mod Whole

@@ -13,7 +13,7 @@ use Rattle.machine_laws.specs.NextOrder.{MayObeyNext}
 use Rattle.machine_laws.proofs.Epochs.{first_is}
 use Rattle.machine_laws.proofs.Numbering.{orders_numbered, orders_at_commit}
 use Rattle.machine_laws.proofs.Owing.{halted_stays}
-use Rattle.machine_laws.proofs.Room.{orders_have_room}
+use Rattle.machine_laws.proofs.SplitOutput.{orders_have_room}
 use Rattle.machine_laws.proofs.Stopping.{stop_told}
 use Rattle.machine_laws.proofs.Telling.{by_none}
 use Rattle.machine_laws.proofs.OrderSteps.{order_told_behind}

@@ -1,11 +1,10 @@
 -- At each place at most the opening behind a Commit isn't told yet; where the run has halted nothing is, and it stands still.
-use Rattle.std.proofs.Common.{◌≡◌, ℕ, zero, suc, ◌+◌, ◌-◌, ◌≤◌, Bool, true, false, length, refl, ap, sym, ◌∙◌, subst, arith}
+use Rattle.std.proofs.Common.{◌≡◌, ℕ, suc, ◌-◌, Bool, true, false, length, refl, ap, sym, ◌∙◌, subst, arith}
 use Rattle.mono_model.specs.declared.setup.Setup.{Setup}
-use Rattle.mono_model.specs.Demand.{Demand, At, interrupting, committing, completing, issuing, trying, ending, stopping, halted, run_at, turn, Place, step, place, step_bound}
+use Rattle.mono_model.specs.Demand.{Demand, At, interrupting, committing, completing, issuing, trying, ending, stopping, halted, run_at, turn, Place, step, place}
 use Rattle.mono_model.specs.Split.{is_halted}
 use Rattle.machine_laws.proofs.Always.{at_each_place}
 use Rattle.mono_model.proofs.Next.{place-suc}
-use Rattle.machine_laws.proofs.Halting.{run_halts}
 use Rattle.machine_laws.proofs.SplitSteps.{Owes, owes_none, owes_one, step_stepped}
 
 halted_is : (at : At) → is_halted at ≡ true → at ≡ halted
@@ -49,13 +48,3 @@ halted_told s k over = halted_owes (place s k) over (place_owes s k)
 
 pub halted_stays : (s : Setup) (k : ℕ) → is_halted (place s k).run.at ≡ true → place s (suc k) ≡ place s k
 halted_stays s k over = place-suc s k ∙ still_step s (place s k) over (halted_told s k over)
-
-still_places : (s : Setup) (k d : ℕ) → is_halted (place s k).run.at ≡ true → place s (d + k) ≡ place s k
-still_places s k zero over = ap (place s) (omega arith)
-still_places s k (suc d) over =
-    let e : suc d + k ≡ suc (d + k) = omega arith in
-    ap (place s) e ∙ place-suc s (d + k) ∙ ap (step s) (still_places s k d over) ∙ still_step s (place s k) over (halted_told s k over)
-
--- and it is where the run ends
-pub halted_last : (s : Setup) (k : ℕ) → 1 ≤ s.cycles → is_halted (place s k).run.at ≡ true → place s k ≡ place s (step_bound s)
-halted_last s k limited over = sym (still_places s k (step_bound s) over) ∙ (run_halts s limited).still (step_bound s + k) (omega arith)

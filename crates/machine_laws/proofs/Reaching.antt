@@ -41,7 +41,7 @@ pub left_count : (left n : ℕ) (os : List Order) → length (commit_order left 
 left_count zero n os = omega arith
 left_count (suc left) n os = omega arith
 
-commit_count : (c : Committed) (d : Demand) → length (demand_committed c d).orders ≤ length d.orders + 2
+pub commit_count : (c : Committed) (d : Demand) → length (demand_committed c d).orders ≤ length d.orders + 2
 commit_count c d =
     omega (arith, ending_count c.ending c.machine.arch.pc (d.to_commit + c.left) (commit_order c.left (d.to_commit + c.left) d.orders), left_count c.left (d.to_commit + c.left) d.orders)
 

@@ -25,7 +25,7 @@ use Rattle.mono_model.proofs.Commits as commits
 use Rattle.mono_model.proofs.Sound.{setup_facts}
 
 -- interrupt
-interrupt_served : (m : Machine) → AreServed m.window → AreServed (interrupt_phase m).window
+pub interrupt_served : (m : Machine) → AreServed m.window → AreServed (interrupt_phase m).window
 unfolding interrupt_phase flushed
 interrupt_served m served = by_test (is_interrupted m)
   where
@@ -50,11 +50,15 @@ one_served s m left served =
       if_leaves = λ passes fence. rest_served;
     })
 
+-- where at most so many records leave
+pub commits_served : (s : Setup) (most : ℕ) (m : Machine) → AreServed m.window → AreServed (commit.commits s most 0 m).machine.window
+commits_served s most m served =
+    commits.every_commit s (λ more. IsOn) (λ c. AreServed c.machine.window) (λ left m served. served) (λ more left m served. one_served s m left served)
+    most 0 m served
+
 commit_served : (s : Setup) (m : Machine) → AreServed m.window → AreServed (commit.commit_phase s m).machine.window
 unfolding commit.commit_phase
-commit_served s m served =
-    commits.every_commit s (λ more. IsOn) (λ c. AreServed c.machine.window) (λ left m served. served) (λ more left m served. one_served s m left served)
-    s.params.core_commit 0 m served
+commit_served s m served = commits_served s s.params.core_commit m served
 
 -- complete
 done_served : (rec : Record) (r : Result) (rest : Completed) → is_unserved rec.found r rec.time ≡ false → AreServed rest.records → AreServed (complete_next rec (Some r) rest).records
@@ -75,12 +79,12 @@ next_served cycle rec (until e r) rest now is served = by_test (e == cycle)
     by_test false = (now, served)
 next_served cycle rec (done r) rest now is served = (now, served)
 
-completes_served : (cycle : ℕ) (window : List Record) → AreServed window → AreServed (completes cycle window).records
+pub completes_served : (cycle : ℕ) (window : List Record) → AreServed window → AreServed (completes cycle window).records
 unfolding completes
 completes_served cycle [] served = tt
 completes_served cycle (rec ∷ rest) served = next_served cycle rec rec.stage (completes cycle rest) served.0 served.0 (completes_served cycle rest served.1)
 
-redirect_served : (redirect : Option ℕ) (records : List Record) (m : Machine) → AreServed records → AreServed (completed_by redirect records m).window
+pub redirect_served : (redirect : Option ℕ) (records : List Record) (m : Machine) → AreServed records → AreServed (completed_by redirect records m).window
 unfolding flushed
 redirect_served None records m served = served
 redirect_served (Some addr) records m served = served
@@ -90,13 +94,19 @@ unfolding complete_phase
 complete_served m served = redirect_served (completes m.cycle m.window).redirect (completes m.cycle m.window).records m (completes_served m.cycle m.window served)
 
 -- issue: the oldest is replayed where it wants a time, and no other record reads it
-unwanted : (reads none : Bool) → (reads ≡ true → (none && reads) ≡ false) → (reads && none) ≡ false
+pub unwanted : (reads none : Bool) → (reads ≡ true → (none && reads) ≡ false) → (reads && none) ≡ false
 unwanted false none has = refl
 unwanted true true has = has refl
 unwanted true false has = refl
 
+-- three tests, of which the first two hold
+pub unasked_third : (past has asks : Bool) → (past && has && asks) ≡ false → past ≡ true → has ≡ true → asks ≡ false
+unasked_third true true asks none is held = none
+unasked_third true false asks none is held = cc
+unasked_third false has asks none is held = cc
+
 module _ (s : Setup) (above : 0x20000000 ≤ (ram_range s.params).base) (m : Machine) where
-  ready_time : (older : List Record) (rec : Record) → is_time_read rec.found (ready_result s m.arch older rec).access ≡ true →
+  pub ready_time : (older : List Record) (rec : Record) → is_time_read rec.found (ready_result s m.arch older rec).access ≡ true →
       class_allows (class_at rec) (ready_result s m.arch older rec).access older ≡ true → is_oldest older ≡ true
   unfolding ready_result
   ready_time older rec reads allows =
@@ -107,12 +117,6 @@ module _ (s : Setup) (above : 0x20000000 ≤ (ram_range s.params).base) (m : Mac
   wants : List Record → Record → Bool
   wants older rec =
       is_past_front s.params m.cycle rec && has_operands m.arch older rec && wants_time_result rec (ready_result s m.arch older rec)
-
-  -- three tests, of which the first two hold
-  unasked_third : (past has asks : Bool) → (past && has && asks) ≡ false → past ≡ true → has ≡ true → asks ≡ false
-  unasked_third true true asks none is held = none
-  unasked_third true false asks none is held = cc
-  unasked_third false has asks none is held = cc
 
   turn_served : (w : Passed) (rec : Record) (younger : List Record) → (is_oldest w.older ≡ true → wants w.older rec ≡ false) →
       IsServed rec.found rec.time rec.stage → (let t = (turn_of s m w rec younger).turned in IsServed t.found t.time t.stage)
@@ -165,16 +169,16 @@ try_served s d c true straight served = served
 try_served s d c false true served = append_served d.machine.window (new_record s d.machine) served tt
 try_served s d c false false served = append_served d.machine.window (new_record s d.machine) served tt
 
-fetch_served : (s : Setup) (d : Demand) → AreServed d.machine.window → AreServed (demand_try s (fetch_try s d.machine) d).machine.window
+pub fetch_served : (s : Setup) (d : Demand) → AreServed d.machine.window → AreServed (demand_try s (fetch_try s d.machine) d).machine.window
 unfolding fetch_try
 fetch_served s d served =
     try_served s d (cache_read s d.machine) (nat_lt 0 (cache_read s d.machine).cycles) (predicted_next s d.machine == wrap_sum d.machine.fetch_addr 4) served
 
-cycle_end_served : (s : Setup) (m : Machine) → AreServed m.window → AreServed (end_of_cycle s m).window
+pub cycle_end_served : (s : Setup) (m : Machine) → AreServed m.window → AreServed (end_of_cycle s m).window
 unfolding end_of_cycle
 cycle_end_served s m served = served
 
-start_served : (s : Setup) → AreServed (machine_start s).window
+pub start_served : (s : Setup) → AreServed (machine_start s).window
 unfolding machine_start
 start_served s = tt
 

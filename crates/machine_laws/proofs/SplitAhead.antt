@@ -11,12 +11,15 @@ use Rattle.mono_model.specs.declared.setup.Setup.{Setup}
 use Rattle.mono_model.specs.Machine.{machine_start}
 use Rattle.mono_model.specs.Path.{entry, openings, stops}
 use Rattle.mono_model.specs.Sequence.{entry_at}
-use Rattle.mono_model.specs.Demand.{next, Place, step, told, needs_entry, number_of}
-use Rattle.mono_model.specs.Split.{Split, split_start, Event, room, goes_to, compute, push, obey, tick, take, send, may_compute, on_compute, pushed, obeys, on_obey, is_halted, may_tick, told_by, opens, has_appended, held_after, ticked_to, on_tick, may_take, taken, on_take, sent, event_at}
+use Rattle.mono_model.specs.Demand.{next, Place, told, needs_entry, number_of}
+use Rattle.mono_model.specs.Split.{Split, split_start, Event, room, goes_to, compute, push, obey, tick, take, send, may_compute, on_compute, pushed, obeys, on_obey, is_halted, may_tick, told_by, opens, has_appended, held_after, ticked_to, may_take, taken, on_take, sent}
 use Rattle.machine_laws.proofs.Telling.{by_none, by_one}
+use Rattle.machine_laws.specs.DemandRun.{DemandRun}
+use Rattle.machine_laws.proofs.Laws.{IsDemandRun, stepped_from}
+use Rattle.machine_laws.proofs.SplitEvents.{tick_to, event_to}
 use Rattle.machine_laws.proofs.SplitOrders.{IsOrdered, none_is, may_hand}
 use Rattle.machine_laws.proofs.SplitTurns.{one}
-use Rattle.machine_laws.proofs.SplitSteps.{Owes, owes_none, owes_one, Steps, tells_none, tells_commit, tells_opening, tells_stop, Stepped, step_stepped}
+use Rattle.machine_laws.proofs.SplitSteps.{Owes, owes_none, owes_one, Steps, tells_none, tells_commit, tells_opening, tells_stop, Stepped}
 use Rattle.machine_laws.proofs.SplitLists.{position_by, position_behind, AreReached, opening_position, position_last, reached_last, reached_further, position_stays, position_same, hand_list, openings_told, entry_list, Lead, EpochsAtMost, lead_last, lead_stale, lead_without, lead_none, lead_most, lead_front, lead_rest, most_append, most_front, most_behind, most_further}
 
 -- the orders that wait, the first in front
@@ -63,8 +66,8 @@ start_ahead s = record {
 }
 
 -- orders that wait or were obeyed are those told
-pub told_openings : (s : Setup) (x : Split) → IsOrdered s x → openings (told x.place) ≡ openings (pending x) + openings x.obeyed
-told_openings s x ordered = ap (λ (os : List Order). openings os) ordered.orders ∙ openings_told x.hand x.listed_orders x.obeyed
+pub told_openings : {r : DemandRun} (x : Split) → IsOrdered r x → openings (told x.place) ≡ openings (pending x) + openings x.obeyed
+told_openings x ordered = ap (λ (os : List Order). openings os) ordered.orders ∙ openings_told x.hand x.listed_orders x.obeyed
 
 pub entry_epoch : (s : Setup) (os : List Order) (n : ℕ) → (entry s os n).epoch ≡ openings os
 unfolding entry entry_at
@@ -82,7 +85,7 @@ pending_cases : (k : ℕ) → (k ≡ 0) ⊎ (0 < k)
 pending_cases zero = inl refl
 pending_cases (suc k) = inr (omega arith)
 
-module _ (s : Setup) (x : Split) (ordered : IsOrdered s x) (is : IsAhead x) where
+module _ (s : Setup) {r : DemandRun} (x : Split) (ordered : IsOrdered r x) (is : IsAhead x) where
   computed_more : x.computed ≡ None → IsAhead (record x { computed = Some (entry s x.obeyed x.position); position = x.position + 1 })
   computed_more none = record {
     owes = is.owes;
@@ -120,9 +123,9 @@ module _ (s : Setup) (x : Split) (ordered : IsOrdered s x) (is : IsAhead x) wher
       leads : Lead epoch n front (goal_position x) → Lead epoch n (front ++ e ∷ []) (position_behind (pending x) (x.position + 1))
       leads lead = ⊎_elim
           (λ zero. subst (Lead epoch n (front ++ e ∷ [])) (omega (arith, position_stays (pending x) x.position zero, position_stays (pending x) (x.position + 1) zero))
-          (lead_last epoch n (goal_position x) front e (omega (arith, entry_epoch s x.obeyed x.position, told_openings s x ordered)) (omega (arith, entry_number s x.obeyed x.position, position_stays (pending x) x.position zero)) lead))
+          (lead_last epoch n (goal_position x) front e (omega (arith, entry_epoch s x.obeyed x.position, told_openings x ordered)) (omega (arith, entry_number s x.obeyed x.position, position_stays (pending x) x.position zero)) lead))
           (λ some. subst (Lead epoch n (front ++ e ∷ [])) (position_same (pending x) x.position (x.position + 1) some)
-          (lead_stale epoch n (goal_position x) front e (omega (arith, entry_epoch s x.obeyed x.position, told_openings s x ordered)) lead))
+          (lead_stale epoch n (goal_position x) front e (omega (arith, entry_epoch s x.obeyed x.position, told_openings x ordered)) lead))
           (pending_cases (openings (pending x)))
 
   may_computed : may_compute s x ≡ true → x.computed ≡ None
@@ -194,7 +197,7 @@ module _ (s : Setup) (x : Split) (ordered : IsOrdered s x) (is : IsAhead x) wher
         opened = ap (λ (b : Bool). (if b then 1 else 0) + openings (os ++ hand_list x.hand)) opening
 
         older : openings x.obeyed < openings (told x.place)
-        older = omega (arith, told_openings s x ordered, ap (λ (l : List Order). openings l) waiting, opened)
+        older = omega (arith, told_openings x ordered, ap (λ (l : List Order). openings l) waiting, opened)
 
     committed_ahead : (n : ℕ) → o ≡ Commit n → IsAhead (record (record x { listed_orders = os }) { obeyed = Commit n ∷ x.obeyed; committed_number = n })
     committed_ahead n at = record {
@@ -214,7 +217,7 @@ module _ (s : Setup) (x : Split) (ordered : IsOrdered s x) (is : IsAhead x) wher
 same_ahead : (x : Split) (n : ℕ) (b : Bool) → IsAhead x → IsAhead (record x { committed_number = n; is_stopped = b })
 same_ahead x n b is = record { owes = is.owes; going = is.going; last = is.last; reached = is.reached; below = is.below; lead = is.lead; epochs = is.epochs; held = is.held }
 
-order_ahead : (s : Setup) (o : Order) (os : List Order) (x : Split) → IsOrdered s x → IsAhead x → x.listed_orders ≡ o ∷ os → IsAhead (obeys o (record x { listed_orders = os }))
+order_ahead : (s : Setup) {r : DemandRun} (o : Order) (os : List Order) (x : Split) → IsOrdered r x → IsAhead x → x.listed_orders ≡ o ∷ os → IsAhead (obeys o (record x { listed_orders = os }))
 order_ahead s (Set n addr) os x ordered is e = went_ahead s x ordered is (Set n addr) os e n refl refl
 order_ahead s (Commit n) os x ordered is e = committed_ahead s x ordered is (Commit n) os e n refl
 order_ahead s (Interrupt n) os x ordered is e = same_ahead (goes_to (Interrupt n) n (record x { listed_orders = os })) n x.is_stopped (went_ahead s x ordered is (Interrupt n) os e n refl refl)
@@ -222,7 +225,7 @@ order_ahead s (Time n v) os x ordered is e = went_ahead s x ordered is (Time n v
 order_ahead s (Stop n) os x ordered is e = same_ahead (goes_to (Stop n) n (record x { listed_orders = os })) x.committed_number true (went_ahead s x ordered is (Stop n) os e n refl refl)
 order_ahead s (Sync n) os x ordered is e = same_ahead (goes_to (Sync n) n (record x { listed_orders = os })) n x.is_stopped (went_ahead s x ordered is (Sync n) os e n refl refl)
 
-obey_ahead : (s : Setup) (l : List Order) (x : Split) → x.listed_orders ≡ l → IsOrdered s x → IsAhead x → IsAhead (on_obey l x)
+obey_ahead : (s : Setup) {r : DemandRun} (l : List Order) (x : Split) → x.listed_orders ≡ l → IsOrdered r x → IsAhead x → IsAhead (on_obey l x)
 obey_ahead s [] x e ordered is = is
 obey_ahead s (o ∷ os) x e ordered is = order_ahead s o os x ordered is e
 
@@ -412,13 +415,14 @@ module _ (x : Split) (is : IsAhead x) (q : Place) (stepped : Stepped x.place q) 
         held = tt;
       })
 
-tick_ahead : (s : Setup) (x : Split) → IsOrdered s x → IsAhead x → IsAhead (on_tick s x)
+tick_ahead : {s : Setup} {r : DemandRun} (laws : IsDemandRun s r) (k : ℕ) (x : Split) → x.place ≡ r.places k → IsOrdered r x → IsAhead x → IsAhead (tick_to (r.places (suc k)) x)
 unfolding a
-tick_ahead s x ordered is =
-    cond_both (may_tick x) (ticked_to (step s x.place) x) x IsAhead
+tick_ahead {r = r} laws k x at ordered is =
+    let q : Place = r.places (suc k) in
+    cond_both (may_tick x) (ticked_to q x) x IsAhead
     (λ may.
-    let stepped = step_stepped s x.place (not_halted x may is.owes) is.owes in
-    by_made x is (step s x.place) stepped may (omega (arith, told_openings s x ordered)) stepped.made)
+    let stepped : Stepped x.place q = stepped_from laws k x.place at (not_halted x may is.owes) in
+    by_made x is q stepped may (omega (arith, told_openings x ordered)) stepped.made)
     (λ may. is)
 
 -- Take.
@@ -481,11 +485,12 @@ send_ahead s (Some o) x e is =
     goal : goal_position x ≡ position_behind ((x.listed_orders ++ o ∷ []) ++ []) x.position
     goal = ap (λ (l : List Order). position_behind l x.position) waits
 
-pub event_ahead : (s : Setup) (e : Event) (x : Split) → IsOrdered s x → IsAhead x → IsAhead (event_at s e x)
-unfolding event_at
-event_ahead s compute x ordered is = compute_ahead s x ordered is
-event_ahead s push x ordered is = push_ahead s x ordered is x.computed refl
-event_ahead s obey x ordered is = obey_ahead s x.listed_orders x refl ordered is
-event_ahead s tick x ordered is = tick_ahead s x ordered is
-event_ahead s take x ordered is = take_ahead s x.entries x refl is
-event_ahead s send x ordered is = send_ahead s x.hand x refl is
+module _ {s : Setup} {r : DemandRun} (laws : IsDemandRun s r) where
+  pub event_ahead : (k : ℕ) (e : Event) (x : Split) → x.place ≡ r.places k → IsOrdered r x → IsAhead x → IsAhead (event_to s (r.places (suc k)) e x)
+  unfolding event_to
+  event_ahead k compute x at ordered is = compute_ahead s x ordered is
+  event_ahead k push x at ordered is = push_ahead s x ordered is x.computed refl
+  event_ahead k obey x at ordered is = obey_ahead s x.listed_orders x refl ordered is
+  event_ahead k tick x at ordered is = tick_ahead laws k x at ordered is
+  event_ahead k take x at ordered is = take_ahead s x.entries x refl is
+  event_ahead k send x at ordered is = send_ahead s x.hand x refl is

@@ -9,11 +9,15 @@ use Rattle.mono_model.specs.Split.{Split, sent, ticked_to, on_tick, may_tick, is
 use Rattle.machine_laws.specs.SplitLaw.{IsListed}
 use Rattle.machine_laws.specs.Reached.{IsReached}
 use Rattle.machine_laws.proofs.SplitLeft.{steps_left, step_left, place_left}
-use Rattle.machine_laws.proofs.SplitRounds.{waiting_for, Sends, send_sends}
+use Rattle.machine_laws.proofs.SplitRounds.{waiting_for, send_sends}
 use Rattle.machine_laws.proofs.SplitStale.{stale, stale_most}
 use Rattle.machine_laws.proofs.SplitBoundary.{before_step, Before, before_is, wait_of, wait_most, lacks, waits, none_from, some_none, orders_fewer}
-use Rattle.machine_laws.proofs.SplitDropping.{Known, known, drops}
-use Rattle.machine_laws.proofs.SplitReached.{round_reached}
+use Rattle.machine_laws.specs.DemandRun.{DemandRun, mono_run}
+use Rattle.machine_laws.proofs.Laws.{IsDemandRun}
+use Rattle.machine_laws.proofs.MonoRun.{mono_laws}
+use Rattle.machine_laws.proofs.SplitRun.{Known}
+use Rattle.machine_laws.proofs.SplitDropping.{drops}
+use Rattle.machine_laws.proofs.SplitReached.{known, round_reached}
 
 by_stale : (ring : ℕ) (lack now : Bool) (p q st su : ℕ) → lack ≡ true → p ≡ 0 → q ≡ 0 → su < st → wait_of ring now q su < wait_of ring lack p st
 by_stale ring false now p q st su is e f less = cc
@@ -48,18 +52,23 @@ not_over stopping c off = refl
 not_over halted true off = cc
 not_over halted false off = refl
 
-abbrev cost : Setup → ℕ
+abbrev pub cost : Setup → ℕ
 cost s = s.ring + 128
 
-abbrev rank : Setup → Split → ℕ
-rank s x = cost s * steps_left s x.place + waits s x
+-- with so many steps left to the next start of a cycle
+abbrev pub rank : Setup → ℕ → Split → ℕ
+rank s left x = cost s * left + waits s x
 
-waits_most : (s : Setup) (x : Split) → IsListed s x → waits s x ≤ s.ring + 68
+pub waits_most : (s : Setup) (x : Split) → IsListed s x → waits s x ≤ s.ring + 68
 waits_most s x listed =
     wait_most s.ring (lacks x) (waiting_for x.listed_orders x.hand) (stale (openings (told x.place)) x.entries) (waiting_most x.listed_orders x.hand listed.orders)
     (omega (arith, stale_most (openings (told x.place)) x.entries, listed.entries))
 
-module _ (s : Setup) (x : Split) (is : Known s x) (ring : 1 ≤ s.ring) (off : is_boundary x ≡ false) where
+-- no step is made
+abbrev pub Stays : Split → Type 0
+Stays b = (is_place_boundary b.place ≡ true) ⊎ ((is_place_boundary b.place ≡ false) × (may_tick b ≡ false))
+
+module _ {s : Setup} {r : DemandRun} (laws : IsDemandRun s r) (x : Split) (is : Known s r x) (ring : 1 ≤ s.ring) (off : is_boundary x ≡ false) where
   b : Split
   b = before_step s x
 
@@ -67,14 +76,7 @@ module _ (s : Setup) (x : Split) (is : Known s x) (ring : 1 ≤ s.ring) (off : i
   unfolding b
   before = before_is s x
 
-  sends : Sends b (sent b.hand b)
-  sends = send_sends b.hand b
-
-  -- no step is made
-  abbrev Stays : Type 0
-  Stays = (is_place_boundary b.place ≡ true) ⊎ ((is_place_boundary b.place ≡ false) × (may_tick b ≡ false))
-
-  idle : Stays → waiting_for x.listed_orders x.hand ≡ 0 → waits s (sent b.hand b) < waits s x
+  idle : Stays b → waiting_for x.listed_orders x.hand ≡ 0 → waits s (sent b.hand b) < waits s x
   unfolding b
   idle stays none = ⊎_elim (λ at. absurd (let yes = here at in cc)) (λ idles. dropping idles.0 idles.1) stays
     where
@@ -94,48 +96,70 @@ module _ (s : Setup) (x : Split) (is : Known s x) (ring : 1 ≤ s.ring) (off : i
           let needs : needs_entry x.place ≡ true = subst (λ (p : Place). needs_entry p ≡ true) before.place parts.0 in
           let none_b : b.held ≡ None = some_none b.held parts.1 in
           let none_x : x.held ≡ None = before.held none_b in
-          let less : stale (openings (told x.place)) b.entries < stale (openings (told x.place)) x.entries = drops s x is ring empty.1 empty.0 needs none_x none_b in
-          let r = sent b.hand b in
-          let kept : r ≡ b = ap (λ (h : Option Order). sent h b) (before.hand ∙ empty.1) in
-          let now : waiting_for r.listed_orders r.hand ≡ 0 =
+          let less : stale (openings (told x.place)) b.entries < stale (openings (told x.place)) x.entries = drops laws x is ring empty.1 empty.0 needs none_x none_b in
+          let z = sent b.hand b in
+          let kept : z ≡ b = ap (λ (h : Option Order). sent h b) (before.hand ∙ empty.1) in
+          let now : waiting_for z.listed_orders z.hand ≡ 0 =
           ap (λ (y : Split). waiting_for y.listed_orders y.hand) kept ∙ ap (waiting_for b.listed_orders) (before.hand ∙ empty.1) ∙ omega (arith, before.listed_orders, ap (λ (l : List Order). length l) empty.0) in
-          let same : stale (openings (told r.place)) r.entries ≡ stale (openings (told x.place)) b.entries =
+          let same : stale (openings (told z.place)) z.entries ≡ stale (openings (told x.place)) b.entries =
           ap (λ (y : Split). stale (openings (told y.place)) y.entries) kept ∙ ap (λ (p : Place). stale (openings (told p)) b.entries) before.place in
-          by_stale s.ring (lacks x) (lacks r) (waiting_for x.listed_orders x.hand) (waiting_for r.listed_orders r.hand) (stale (openings (told x.place)) x.entries) (stale (openings (told r.place)) r.entries)
+          by_stale s.ring (lacks x) (lacks z) (waiting_for x.listed_orders x.hand) (waiting_for z.listed_orders z.hand) (stale (openings (told x.place)) x.entries) (stale (openings (told z.place)) z.entries)
           (and_from (needs_entry x.place) (is_none x.held) needs (none_from x.held none_x)) none now (omega (arith, less, same))
 
-  still : Stays → IsListed s (sent b.hand b) → rank s (sent b.hand b) < rank s x
+  -- a round without a step leaves a lower rank
+  pub still : (left : ℕ) → Stays (before_step s x) → IsListed s (sent (before_step s x).hand (before_step s x)) → rank s left (sent (before_step s x).hand (before_step s x)) < rank s left x
   unfolding b
-  still stays listed =
-      let r = sent b.hand b in
-      let less : waits s r < waits s x = by_count (waiting_for x.listed_orders x.hand) refl in
-      let same : cost s * steps_left s r.place ≡ cost s * steps_left s x.place = ap (λ (p : Place). cost s * steps_left s p) (sends.place ∙ before.place) in
-      omega (arith, less, same)
+  still left stays listed =
+      let less : waits s (sent b.hand b) < waits s x = by_count (waiting_for x.listed_orders x.hand) refl in
+      omega (arith, less)
     where
       by_count : (n : ℕ) → waiting_for x.listed_orders x.hand ≡ n → waits s (sent b.hand b) < waits s x
       by_count zero e = idle stays e
       by_count (suc n) e =
-          let r = sent b.hand b in
-          orders_fewer s x is.listed.orders (omega (arith, e)) (stale (openings (told r.place)) r.entries)
-          (omega (arith, stale_most (openings (told r.place)) r.entries, listed.entries))
+          let z = sent b.hand b in
+          orders_fewer s x is.listed.orders (omega (arith, e)) (stale (openings (told z.place)) z.entries)
+          (omega (arith, stale_most (openings (told z.place)) z.entries, listed.entries))
 
-  ticks : is_place_boundary b.place ≡ false → IsListed s (sent (ticked_to (step s b.place) b).hand (ticked_to (step s b.place) b)) → rank s (sent (ticked_to (step s b.place) b).hand (ticked_to (step s b.place) b)) < rank s x
-  ticks away listed =
-      let c = ticked_to (step s b.place) b in
-      let r = sent c.hand c in
-      let place : steps_left s r.place ≡ steps_left s (step s x.place) = ap (steps_left s) ((send_sends c.hand c).place ∙ ap (step s) before.place) in
-      let fewer : steps_left s (step s x.place) < steps_left s x.place = step_left s x.place (subst (λ (p : Place). is_place_boundary p ≡ false) before.place away) in
-      let most : cost s * suc (steps_left s r.place) ≤ cost s * steps_left s x.place = mul-le-mul_left (cost s) (omega (arith, fewer, place)) in
-      omega (arith, most, mul-suc (cost s) (steps_left s r.place), waits_most s r listed)
+-- and so does one with a step, which leaves fewer
+pub ticks : (s : Setup) (x c : Split) (left fewer : ℕ) → fewer < left → IsListed s (sent c.hand c) → rank s fewer (sent c.hand c) < rank s left x
+ticks s x c left fewer less listed =
+    let most : cost s * suc fewer ≤ cost s * left = mul-le-mul_left (cost s) (omega (arith, less)) in
+    omega (arith, most, mul-suc (cost s) fewer, waits_most s (sent c.hand c) listed)
 
-  pub round_less : IsListed s (round s x) → rank s (round s x) < rank s x
-  unfolding event_at b
+-- Of the monolithic machine.
+abbrev rank_of : Setup → Split → ℕ
+rank_of s x = rank s (steps_left s x.place) x
+
+module _ (s : Setup) (x : Split) (is : Known s (mono_run s) x) (ring : 1 ≤ s.ring) (off : is_boundary x ≡ false) where
+  here : Split
+  here = before_step s x
+
+  here_place : here.place ≡ x.place
+  unfolding here
+  here_place = (before_is s x).place
+
+  stands : Stays here → IsListed s (sent here.hand here) → rank_of s (sent here.hand here) < rank_of s x
+  unfolding here
+  stands stays listed =
+      let same : steps_left s (sent here.hand here).place ≡ steps_left s x.place = ap (λ (p : Place). steps_left s p) ((send_sends here.hand here).place ∙ here_place) in
+      subst (λ (n : ℕ). rank s n (sent here.hand here) < rank_of s x) (sym same) (still (mono_laws s) x is ring off (steps_left s x.place) stays listed)
+
+  goes : is_place_boundary here.place ≡ false → IsListed s (sent (ticked_to (step s here.place) here).hand (ticked_to (step s here.place) here)) →
+      rank_of s (sent (ticked_to (step s here.place) here).hand (ticked_to (step s here.place) here)) < rank_of s x
+  goes away listed =
+      let c = ticked_to (step s here.place) here in
+      let place : steps_left s (sent c.hand c).place ≡ steps_left s (step s x.place) = ap (steps_left s) ((send_sends c.hand c).place ∙ ap (step s) here_place) in
+      let fewer : steps_left s (step s x.place) < steps_left s x.place = step_left s x.place (subst (λ (p : Place). is_place_boundary p ≡ false) here_place away) in
+      ticks s x c (steps_left s x.place) (steps_left s (sent c.hand c).place) (omega (arith, place, fewer)) listed
+
+  pub round_less : IsListed s (round s x) → rank_of s (round s x) < rank_of s x
+  unfolding event_at here
   round_less =
-      let P : Split → Type 0 = λ c. IsListed s (sent c.hand c) → rank s (sent c.hand c) < rank s x in
-      cond_both (is_place_boundary b.place) b (on_tick s b) P (λ at. still (inl at))
-      (λ away. cond_both (may_tick b) (ticked_to (step s b.place) b) b P (λ may. ticks away) (λ idles. still (inr (away, idles))))
+      let P : Split → Type 0 = λ c. IsListed s (sent c.hand c) → rank_of s (sent c.hand c) < rank_of s x in
+      cond_both (is_place_boundary here.place) here (on_tick s here) P (λ at. stands (inl at))
+      (λ away. cond_both (may_tick here) (ticked_to (step s here.place) here) here P (λ may. goes away) (λ idles. stands (inr (away, idles))))
 
-arrives : (s : Setup) → 1 ≤ s.ring → (n : ℕ) (x : Split) → IsReached s x → rank s x ≤ n → is_boundary (rounds_to_boundary s n x) ≡ true
+arrives : (s : Setup) → 1 ≤ s.ring → (n : ℕ) (x : Split) → IsReached s x → rank_of s x ≤ n → is_boundary (rounds_to_boundary s n x) ≡ true
 unfolding rounds_to_boundary
 arrives s ring zero x reached most = by_test (is_boundary x) refl
   where

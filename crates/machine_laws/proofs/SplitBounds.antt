@@ -1,17 +1,18 @@
 -- How far the functional side's numbers and the epochs go.
-use Rattle.std.proofs.Common.{◌≡◌, ℕ, ◌*◌, ◌≤◌, if◌then◌else◌, Bool, true, false, List, [], ◌∷◌, ◌++◌, reverse, length, ap, sym, subst, arith, length-append}
+use Rattle.std.proofs.Common.{◌≡◌, ℕ, zero, suc, ◌≤◌, if◌then◌else◌, Bool, true, false, Option, List, [], ◌∷◌, ◌++◌, reverse, length, ap, sym, subst, arith, length-append}
 use Rattle.rollback_cmds.specs.declared.order.Order.{Order}
 use Rattle.rollback_cmds.specs.declared.order.Order.TheVariants.{Set, Commit, Interrupt, Time, Stop, Sync}
 use Rattle.rollback_cmds.specs.Order.{opens_epoch_of}
 use Rattle.mono_model.specs.declared.setup.Setup.{Setup}
 use Rattle.mono_model.specs.Path.{openings}
 use Rattle.mono_model.specs.Demand.{Place, place, told, step_bound}
-use Rattle.mono_model.specs.Split.{Split}
+use Rattle.mono_model.specs.Split.{Split, told_by}
 use Rattle.machine_laws.specs.Numbers.{last_commit, AreAtCommit}
-use Rattle.machine_laws.specs.SplitLaw.{IsCounted, IsSmall}
-use Rattle.machine_laws.proofs.Bounds.{run_bounded}
-use Rattle.machine_laws.proofs.Numbering.{orders_at_commit}
-use Rattle.machine_laws.proofs.Staying.{done_told}
+use Rattle.machine_laws.specs.SplitLaw.{IsCounted, IsSmallIn}
+use Rattle.machine_laws.specs.DemandRun.{DemandRun}
+use Rattle.machine_laws.proofs.Laws.{IsDemandRun}
+use Rattle.machine_laws.proofs.Bounds.{length_added}
+use Rattle.machine_laws.proofs.MonoRun.{mono_laws}
 use Rattle.machine_laws.proofs.SplitOrders.{IsOrdered}
 use Rattle.machine_laws.proofs.SplitLists.{hand_list, openings_append}
 use Rattle.machine_laws.proofs.SplitCounts.{told_front}
@@ -35,23 +36,34 @@ openings_most : (os : List Order) → openings os ≤ length os
 openings_most [] = omega arith
 openings_most (o ∷ os) = omega (arith, one_most (opens_epoch_of o), openings_most os)
 
-pub told_count : (s : Setup) (k : ℕ) → 1 ≤ s.cycles → openings (told (place s k)) ≤ step_bound s
-told_count s k cycles =
-    let grown = grown_all s k cycles in
-    omega (arith, openings_most (told (place s k)), ap (λ (os : List Order). length os) grown.orders, length-append grown.later (told (place s k)), (run_bounded s (step_bound s) cycles).orders)
+module _ {s : Setup} {r : DemandRun} (laws : IsDemandRun s r) where
+  -- each step tells one order at most
+  pub orders_most : (k : ℕ) → length (told (r.places k)) ≤ k
+  orders_most zero = omega (arith, ap (λ (p : Place). length (told p)) laws.start)
+  orders_most (suc k) =
+      let o : Option Order = told_by (r.places k) (r.places (suc k)) in
+      omega (arith, ap (λ (os : List Order). length os) (laws.tells k), length_added o (told (r.places k)), orders_most k)
 
-pub is_small : (s : Setup) (x : Split) → IsOrdered s x → IsCounted s x → 1 ≤ s.cycles → IsSmall s x
-is_small s x ordered counted cycles =
-    let front = hand_list x.hand ++ reverse x.listed_orders in
-    let told_is : told x.place ≡ front ++ x.obeyed = told_front s x ordered in
-    let done : last_commit (told x.place) ≤ s.params.core_commit * s.cycles =
-    subst (λ (p : Place). last_commit (told p) ≤ s.params.core_commit * s.cycles) (sym ordered.at) (omega (arith, done_told s ordered.steps, (run_bounded s ordered.steps cycles).to_commit)) in
-    let most : last_commit x.obeyed ≤ last_commit (told x.place) =
-    subst (λ (os : List Order). last_commit x.obeyed ≤ last_commit os) (sym told_is)
-    (commits_more front x.obeyed (subst AreAtCommit told_is (subst (λ (p : Place). AreAtCommit (told p)) (sym ordered.at) (orders_at_commit s ordered.steps)))) in
-    record {
-      committed = omega (arith, counted.committed, done, most);
-      position = omega (arith, counted.committed, counted.most, done, most);
-      obeyed = omega (arith, ap (λ (os : List Order). openings os) told_is, openings_append front x.obeyed);
-      epoch = subst (λ (p : Place). openings (told p) ≤ step_bound s) (sym ordered.at) (told_count s ordered.steps cycles);
-    }
+  pub openings_told_most : (k : ℕ) → 1 ≤ s.cycles → openings (told (r.places k)) ≤ r.bound
+  openings_told_most k cycles =
+      let grown = grown_all laws k cycles in
+      omega (arith, openings_most (told (r.places k)), ap (λ (os : List Order). length os) grown.orders, length-append grown.later (told (r.places k)), orders_most r.bound)
+
+  pub is_small : (x : Split) → IsOrdered r x → IsCounted s x → 1 ≤ s.cycles → IsSmallIn s r x
+  is_small x ordered counted cycles =
+      let front = hand_list x.hand ++ reverse x.listed_orders in
+      let told_is : told x.place ≡ front ++ x.obeyed = told_front x ordered in
+      let done : last_commit (told x.place) ≤ r.commits =
+      subst (λ (p : Place). last_commit (told p) ≤ r.commits) (sym ordered.at) (omega (arith, laws.done ordered.steps, laws.commits cycles ordered.steps)) in
+      let most : last_commit x.obeyed ≤ last_commit (told x.place) =
+      subst (λ (os : List Order). last_commit x.obeyed ≤ last_commit os) (sym told_is)
+      (commits_more front x.obeyed (subst AreAtCommit told_is (subst (λ (p : Place). AreAtCommit (told p)) (sym ordered.at) (laws.kinds ordered.steps)))) in
+      record {
+        committed = omega (arith, counted.committed, done, most);
+        position = omega (arith, counted.committed, counted.most, done, most);
+        obeyed = omega (arith, ap (λ (os : List Order). openings os) told_is, openings_append front x.obeyed);
+        epoch = subst (λ (p : Place). openings (told p) ≤ r.bound) (sym ordered.at) (openings_told_most ordered.steps cycles);
+      }
+
+pub told_count : (s : Setup) (k : ℕ) → 1 ≤ s.cycles → openings (told (place s k)) ≤ step_bound s
+told_count s k cycles = openings_told_most (mono_laws s) k cycles

@@ -6,12 +6,14 @@ use Rattle.rollback_cmds.specs.declared.order.Order.TheVariants.{Set, Commit, In
 use Rattle.trace_entry.specs.declared.Entry.{Entry}
 use Rattle.mono_model.specs.declared.setup.Setup.{Setup}
 use Rattle.mono_model.specs.Path.{entry, GoesOn, has_stop}
-use Rattle.mono_model.specs.Demand.{Place, step, told, number_of}
-use Rattle.mono_model.specs.Split.{Split, split_start, Event, compute, push, obey, tick, take, send, room, may_compute, on_compute, pushed, obeys, on_obey, may_tick, ticked_to, on_tick, may_take, taken, on_take, sent, event_at}
+use Rattle.mono_model.specs.Demand.{Place, told, number_of}
+use Rattle.mono_model.specs.Split.{Split, split_start, Event, compute, push, obey, tick, take, send, room, may_compute, on_compute, pushed, obeys, on_obey, may_tick, ticked_to, may_take, taken, on_take, sent}
 use Rattle.machine_laws.specs.Numbers.{IsNumbered, AreNumbered, IsAtCommit, AreAtCommit}
 use Rattle.machine_laws.specs.Telling.{with_order}
 use Rattle.machine_laws.specs.SplitLaw.{IsCounted}
-use Rattle.machine_laws.proofs.Numbering.{orders_numbered, orders_at_commit}
+use Rattle.machine_laws.specs.DemandRun.{DemandRun}
+use Rattle.machine_laws.proofs.Laws.{IsDemandRun}
+use Rattle.machine_laws.proofs.SplitEvents.{tick_to, event_to}
 use Rattle.machine_laws.proofs.SplitOrders.{IsOrdered, obey_list}
 use Rattle.machine_laws.proofs.SplitLists.{hand_list, AreReached}
 use Rattle.machine_laws.proofs.SplitAhead.{IsAhead, Stopless, StopLast}
@@ -25,12 +27,12 @@ hand_front : (h : Option Order) (os : List Order) → with_order h os ≡ hand_l
 hand_front None os = refl
 hand_front (Some o) os = refl
 
-pub told_front : (s : Setup) (x : Split) → IsOrdered s x → told x.place ≡ (hand_list x.hand ++ reverse x.listed_orders) ++ x.obeyed
-told_front s x ordered =
+pub told_front : {r : DemandRun} (x : Split) → IsOrdered r x → told x.place ≡ (hand_list x.hand ++ reverse x.listed_orders) ++ x.obeyed
+told_front x ordered =
     ordered.orders ∙ hand_front x.hand (reverse x.listed_orders ++ x.obeyed) ∙ sym (append_assoc (hand_list x.hand) (reverse x.listed_orders) x.obeyed)
 
-pub next_front : (s : Setup) (x : Split) (o : Order) (os : List Order) → IsOrdered s x → x.listed_orders ≡ o ∷ os → told x.place ≡ (hand_list x.hand ++ reverse os) ++ (o ∷ x.obeyed)
-next_front s x o os ordered e =
+pub next_front : {r : DemandRun} (x : Split) (o : Order) (os : List Order) → IsOrdered r x → x.listed_orders ≡ o ∷ os → told x.place ≡ (hand_list x.hand ++ reverse os) ++ (o ∷ x.obeyed)
+next_front x o os ordered e =
     ordered.orders ∙ hand_front x.hand (reverse x.listed_orders ++ x.obeyed) ∙ ap (λ (l : List Order). hand_list x.hand ++ l) (ap (λ (l : List Order). reverse l ++ x.obeyed) e ∙ obey_list o os x.obeyed)
     ∙ sym (append_assoc (hand_list x.hand) (reverse os) (o ∷ x.obeyed))
 
@@ -61,10 +63,10 @@ pub record IsNext (s : Setup) (x : Split) (o : Order) : Type 0 where
   pub reached : number_of o ≤ x.position
   pub running : has_stop x.obeyed ≡ false
 
-pub next_is : (s : Setup) (x : Split) (o : Order) (os : List Order) → IsOrdered s x → IsAhead x → x.listed_orders ≡ o ∷ os → IsNext s x o
-next_is s x o os ordered ahead e = record {
-  numbered = (numbered_behind s front (o ∷ x.obeyed) (subst (AreNumbered s) told_is (subst (λ (p : Place). AreNumbered s (told p)) (sym ordered.at) (orders_numbered s ordered.steps)))).0;
-  kind = (at_commit_behind front (o ∷ x.obeyed) (subst AreAtCommit told_is (subst (λ (p : Place). AreAtCommit (told p)) (sym ordered.at) (orders_at_commit s ordered.steps)))).0;
+pub next_is : {s : Setup} {r : DemandRun} (laws : IsDemandRun s r) (x : Split) (o : Order) (os : List Order) → IsOrdered r x → IsAhead x → x.listed_orders ≡ o ∷ os → IsNext s x o
+next_is {s = s} laws x o os ordered ahead e = record {
+  numbered = (numbered_behind s front (o ∷ x.obeyed) (subst (AreNumbered s) told_is (subst (λ (p : Place). AreNumbered s (told p)) (sym ordered.at) (laws.numbered ordered.steps)))).0;
+  kind = (at_commit_behind front (o ∷ x.obeyed) (subst AreAtCommit told_is (subst (λ (p : Place). AreAtCommit (told p)) (sym ordered.at) (laws.kinds ordered.steps)))).0;
   reached = (subst (λ (l : List Order). AreReached x.position (l ++ hand_list x.hand)) e ahead.reached).0;
   running = none_stops x.obeyed (stop_behind front o x.obeyed (subst StopLast told_is ahead.last));
 }
@@ -73,7 +75,7 @@ next_is s x o os ordered ahead e = record {
     front = hand_list x.hand ++ reverse os
 
     told_is : told x.place ≡ front ++ (o ∷ x.obeyed)
-    told_is = next_front s x o os ordered e
+    told_is = next_front x o os ordered e
 
 order_counted : (s : Setup) (o : Order) (os : List Order) (x : Split) → IsNext s x o → IsCounted s x → IsCounted s (obeys o (record x { listed_orders = os }))
 order_counted s (Set n addr) os x next is = record {
@@ -119,9 +121,9 @@ order_counted s (Sync n) os x next is = record {
   on = λ e. omega arith;
 }
 
-obey_counted : (s : Setup) (l : List Order) (x : Split) → x.listed_orders ≡ l → IsOrdered s x → IsAhead x → IsCounted s x → IsCounted s (on_obey l x)
-obey_counted s [] x e ordered ahead is = is
-obey_counted s (o ∷ os) x e ordered ahead is = order_counted s o os x (next_is s x o os ordered ahead e) is
+obey_counted : {s : Setup} {r : DemandRun} (laws : IsDemandRun s r) (l : List Order) (x : Split) → x.listed_orders ≡ l → IsOrdered r x → IsAhead x → IsCounted s x → IsCounted s (on_obey l x)
+obey_counted laws [] x e ordered ahead is = is
+obey_counted {s = s} laws (o ∷ os) x e ordered ahead is = order_counted s o os x (next_is laws x o os ordered ahead e) is
 
 -- the path goes on from a later position too
 goes_on : (os : List Order) (n m : ℕ) → n ≤ m → GoesOn os n → GoesOn os m
@@ -154,9 +156,9 @@ push_counted s (Some e) x is =
     cond_both (nat_lt (length x.entries) s.ring) (record x { computed = None; entries = x.entries ++ e ∷ [] }) x (IsCounted s)
     (λ may. record { committed = is.committed; least = is.least; most = is.most; stopped = is.stopped; on = is.on }) (λ may. is)
 
-tick_counted : (s : Setup) (x : Split) → IsCounted s x → IsCounted s (on_tick s x)
-tick_counted s x is =
-    cond_both (may_tick x) (ticked_to (step s x.place) x) x (IsCounted s)
+tick_counted : (s : Setup) (q : Place) (x : Split) → IsCounted s x → IsCounted s (tick_to q x)
+tick_counted s q x is =
+    cond_both (may_tick x) (ticked_to q x) x (IsCounted s)
     (λ may. record { committed = is.committed; least = is.least; most = is.most; stopped = is.stopped; on = is.on }) (λ may. is)
 
 take_counted : (s : Setup) (l : List Entry) (x : Split) → IsCounted s x → IsCounted s (on_take l x)
@@ -171,11 +173,12 @@ send_counted s (Some o) x is =
     cond_both (nat_lt (length x.listed_orders) 64) (record x { hand = None; listed_orders = x.listed_orders ++ o ∷ [] }) x (IsCounted s)
     (λ may. record { committed = is.committed; least = is.least; most = is.most; stopped = is.stopped; on = is.on }) (λ may. is)
 
-pub event_counted : (s : Setup) (e : Event) (x : Split) → IsOrdered s x → IsAhead x → IsCounted s x → IsCounted s (event_at s e x)
-unfolding event_at
-event_counted s compute x ordered ahead is = compute_counted s x is
-event_counted s push x ordered ahead is = push_counted s x.computed x is
-event_counted s obey x ordered ahead is = obey_counted s x.listed_orders x refl ordered ahead is
-event_counted s tick x ordered ahead is = tick_counted s x is
-event_counted s take x ordered ahead is = take_counted s x.entries x is
-event_counted s send x ordered ahead is = send_counted s x.hand x is
+module _ {s : Setup} {r : DemandRun} (laws : IsDemandRun s r) where
+  pub event_counted : (q : Place) (e : Event) (x : Split) → IsOrdered r x → IsAhead x → IsCounted s x → IsCounted s (event_to s q e x)
+  unfolding event_to
+  event_counted q compute x ordered ahead is = compute_counted s x is
+  event_counted q push x ordered ahead is = push_counted s x.computed x is
+  event_counted q obey x ordered ahead is = obey_counted laws x.listed_orders x refl ordered ahead is
+  event_counted q tick x ordered ahead is = tick_counted s q x is
+  event_counted q take x ordered ahead is = take_counted s x.entries x is
+  event_counted q send x ordered ahead is = send_counted s x.hand x is

@@ -6,33 +6,20 @@ use Rattle.trace_entry.specs.declared.Entry.{Entry}
 use Rattle.mono_model.specs.declared.setup.Setup.{Setup}
 use Rattle.mono_model.specs.Path.{entry, openings, has_stop}
 use Rattle.mono_model.specs.Demand.{next, Place, told, is_try, needs_entry}
-use Rattle.mono_model.specs.Split.{Split, compute, room, may_compute, on_compute, pushed, on_obey, on_take, event_at}
+use Rattle.mono_model.specs.Split.{Split, compute, room, may_compute, on_compute, pushed, on_obey, on_take}
 use Rattle.machine_laws.specs.Numbers.{last_commit}
 use Rattle.machine_laws.specs.Telling.{with_order}
-use Rattle.machine_laws.specs.SplitLaw.{IsListed}
-use Rattle.machine_laws.specs.Reached.{IsReached}
-use Rattle.machine_laws.proofs.Numbering.{window_within}
-use Rattle.machine_laws.proofs.Staying.{done_told}
+use Rattle.machine_laws.specs.DemandRun.{DemandRun}
+use Rattle.machine_laws.proofs.Laws.{IsDemandRun}
+use Rattle.machine_laws.proofs.SplitEvents.{event_to}
+use Rattle.machine_laws.proofs.SplitRun.{Known}
 use Rattle.machine_laws.proofs.SplitLists.{hand_list, entry_list, Lead, position_behind}
 use Rattle.machine_laws.proofs.SplitAhead.{flight, goal_position, needs_none}
 use Rattle.machine_laws.proofs.SplitCounts.{none_stops}
-use Rattle.machine_laws.proofs.SplitEntries.{needs_on, EntriesHold, run_holds}
-use Rattle.machine_laws.proofs.SplitFull.{run_listed}
-use Rattle.machine_laws.proofs.SplitRounds.{IsFresh, event_fresh, run_fresh, compute_side, push_side}
+use Rattle.machine_laws.proofs.SplitEntries.{needs_on}
+use Rattle.machine_laws.proofs.SplitRounds.{IsFresh, event_fresh, compute_side, push_side}
 use Rattle.machine_laws.proofs.SplitStale.{stale, push_stale, compute_some, take_stale}
 use Rattle.machine_laws.proofs.SplitBoundary.{before_step, none_from}
-
-pub record Known (s : Setup) (x : Split) : Type 0 where
-  pub holds : EntriesHold s x
-  pub listed : IsListed s x
-  pub fresh : IsFresh x
-
-pub known : (s : Setup) (x : Split) → IsReached s x → Known s x
-known s x reached = record {
-  holds = subst (EntriesHold s) (sym reached.is) (run_holds s reached.events);
-  listed = subst (IsListed s) (sym reached.is) (run_listed s reached.events);
-  fresh = subst IsFresh (sym reached.is) (run_fresh s reached.events);
-}
 
 compute_obeyed : (s : Setup) (x : Split) → (on_compute s x).obeyed ≡ x.obeyed
 compute_obeyed s x =
@@ -43,10 +30,10 @@ compute_entries s x =
     cond_both (may_compute s x) (record x { computed = Some (entry s x.obeyed x.position); position = x.position + 1 }) x (λ y. y.entries ≡ x.entries) (λ may. refl) (λ may. refl)
 
 fresh_computed : (s : Setup) (x : Split) → IsFresh x → IsFresh (on_compute s x)
-unfolding event_at
-fresh_computed s x is = event_fresh s compute x is
+unfolding event_to
+fresh_computed s x is = event_fresh s x.place compute x is
 
-module _ (s : Setup) (x : Split) (is : Known s x) (ring : 1 ≤ s.ring) (no_hand : x.hand ≡ None) (no_listed : x.listed_orders ≡ []) (needs : needs_entry x.place ≡ true) (no_held : x.held ≡ None) where
+module _ {s : Setup} {r : DemandRun} (laws : IsDemandRun s r) (x : Split) (is : Known s r x) (ring : 1 ≤ s.ring) (no_hand : x.hand ≡ None) (no_listed : x.listed_orders ≡ []) (needs : needs_entry x.place ≡ true) (no_held : x.held ≡ None) where
   all_obeyed : told x.place ≡ x.obeyed
   all_obeyed = is.holds.ordered.orders ∙ ap (λ (h : Option Order). with_order h (reverse x.listed_orders ++ x.obeyed)) no_hand ∙ ap (λ (l : List Order). reverse l ++ x.obeyed) no_listed
 
@@ -60,7 +47,7 @@ module _ (s : Setup) (x : Split) (is : Known s x) (ring : 1 ≤ s.ring) (no_hand
   window : next x.place.run.demand ≤ last_commit (told x.place) + s.params.core_window
   window =
       subst (λ (p : Place). next p.run.demand ≤ last_commit (told p) + s.params.core_window) (sym is.holds.ordered.at)
-      (omega (arith, done_told s is.holds.ordered.steps, window_within s is.holds.ordered.steps))
+      (omega (arith, laws.done is.holds.ordered.steps, laws.window is.holds.ordered.steps))
 
   has_room : x.computed ≡ None → x.entries ≡ [] → x.position < x.committed_number + room s
   has_room none empty =

@@ -1,6 +1,6 @@
 -- The entries under way are those of their numbers under the orders of their epochs, and the held one is the one that the
 -- place needs.
-use Rattle.std.proofs.Common.{◌≡◌, ◌≤◌, ℕ, ◌+◌, nat_lt, ◌==◌, ◌&&◌, ◌||◌, not, if◌then◌else◌, is_none, Bool, true, false, Option, Some, None, IfSome, List, [], ◌∷◌, ◌++◌, length, reverse, drop, refl, ap, sym, ◌∙◌, subst, arith}
+use Rattle.std.proofs.Common.{◌≡◌, ◌≤◌, ℕ, suc, ◌+◌, nat_lt, ◌==◌, ◌&&◌, ◌||◌, not, if◌then◌else◌, is_none, Bool, true, false, Option, Some, None, IfSome, List, [], ◌∷◌, ◌++◌, length, reverse, drop, refl, ap, sym, ◌∙◌, subst, arith}
 use Rattle.std.proofs.lemmas.Bool.{cond_both, and_parts}
 use mathlib.Core.List.{append-nil}
 use Rattle.rollback_cmds.specs.declared.order.Order.{Order}
@@ -10,14 +10,16 @@ use Rattle.mono_model.specs.declared.setup.Setup.{Setup}
 use Rattle.mono_model.specs.Arch.{Arch}
 use Rattle.mono_model.specs.Path.{entry, openings, path, time_of}
 use Rattle.mono_model.specs.Sequence.{entry_at}
-use Rattle.mono_model.specs.Demand.{next, Place, step, told, needs_entry, needed_entry, At, interrupting, committing, completing, issuing, trying, ending, stopping, halted, is_try}
-use Rattle.mono_model.specs.Split.{Split, split_start, Event, compute, push, obey, tick, take, send, room, may_compute, on_compute, pushed, obeys, on_obey, is_halted, may_tick, told_by, opens, has_appended, held_after, ticked_to, on_tick, may_take, taken, on_take, sent, event_at, run}
+use Rattle.mono_model.specs.Demand.{next, Place, told, needs_entry, needed_entry, At, interrupting, committing, completing, issuing, trying, ending, stopping, halted, is_try}
+use Rattle.mono_model.specs.Split.{Split, split_start, Event, compute, push, obey, tick, take, send, room, may_compute, on_compute, pushed, obeys, on_obey, is_halted, may_tick, told_by, opens, has_appended, held_after, ticked_to, may_take, taken, on_take, sent}
 use Rattle.mono_model.proofs.Path.{path-commit}
 use Rattle.machine_laws.specs.Telling.{with_order}
 use Rattle.machine_laws.specs.SplitLaw.{IsCounted, IsEntry, Each}
-use Rattle.machine_laws.proofs.SplitEvents.{run_keeps}
-use Rattle.machine_laws.proofs.SplitOrders.{IsOrdered, none_is, step_from, event_ordered, start_ordered}
-use Rattle.machine_laws.proofs.SplitSteps.{Steps, tells_none, tells_commit, tells_opening, tells_stop, step_stepped}
+use Rattle.machine_laws.specs.DemandRun.{DemandRun}
+use Rattle.machine_laws.proofs.Laws.{IsDemandRun, tells_from, stepped_from}
+use Rattle.machine_laws.proofs.SplitEvents.{tick_to, event_to}
+use Rattle.machine_laws.proofs.SplitOrders.{IsOrdered, none_is, event_ordered, start_ordered}
+use Rattle.machine_laws.proofs.SplitSteps.{Steps, tells_none, tells_commit, tells_opening, tells_stop}
 use Rattle.machine_laws.proofs.SplitTurns.{one}
 use Rattle.machine_laws.proofs.SplitLists.{hand_list, entry_list, openings_append, EpochsAtMost}
 use Rattle.machine_laws.proofs.Telling.{by_one}
@@ -63,7 +65,7 @@ entry_more : (s : Setup) (o : Option Order) (os : List Order) (e : Entry) → Is
 entry_more s None os e is = is
 entry_more s (Some o) os e is = record { later = o ∷ is.later; before = is.before; orders = ap (λ (l : List Order). o ∷ l) is.orders; made = is.made }
 
-module _ (s : Setup) (x : Split) (ordered : IsOrdered s x) (ahead : IsAhead x) (is : IsMade s x) where
+module _ (s : Setup) {r : DemandRun} (x : Split) (ordered : IsOrdered r x) (ahead : IsAhead x) (is : IsMade s x) where
   abbrev Made : Entry → Type 0
   Made = IsEntry s (told x.place)
 
@@ -74,7 +76,7 @@ module _ (s : Setup) (x : Split) (ordered : IsOrdered s x) (ahead : IsAhead x) (
       record {
         entries = subst (Each Made) (flight_more x.held x.entries e)
             (each_append Made (entry_list x.held ++ (x.entries ++ entry_list None)) (e ∷ []) (subst (Each Made) flies is.entries)
-            (record { later = hand_list x.hand ++ reverse x.listed_orders; before = x.obeyed; orders = told_front s x ordered; made = ap (entry s x.obeyed) (sym (entry_number s x.obeyed x.position)) }, tt));
+            (record { later = hand_list x.hand ++ reverse x.listed_orders; before = x.obeyed; orders = told_front x ordered; made = ap (entry s x.obeyed) (sym (entry_number s x.obeyed x.position)) }, tt));
         halts = is.halts;
       }
 
@@ -117,24 +119,24 @@ module _ (s : Setup) (x : Split) (ordered : IsOrdered s x) (ahead : IsAhead x) (
   ticked_halts n q (tells_stop m is_told most none on) off =
       ap (λ (o : Option Order). held_after o x.place q x.held) (by_one x.place q (Stop m) is_told) ∙ dropped_by (Some (Stop m)) x.place q x.held refl
 
-  ticked_made : may_tick x ≡ true → IsMade s (ticked_to (step s x.place) x)
-  ticked_made may =
+  ticked_made : IsDemandRun s r → (k : ℕ) → x.place ≡ r.places k → may_tick x ≡ true → IsMade s (ticked_to (r.places (suc k)) x)
+  ticked_made laws k at may =
       let p = x.place in
-      let q = step s x.place in
+      let q = r.places (suc k) in
       let o = told_by p q in
       let rest = x.entries ++ entry_list x.computed in
-      let stepped = step_stepped s p (not_halted x may ahead.owes) ahead.owes in
+      let stepped = stepped_from laws k p at (not_halted x may ahead.owes) in
       let fewer : Each Made (entry_list (held_after o p q x.held) ++ rest) =
       cond_both (opens o || has_appended p q) None x.held (λ h. Each Made (entry_list h ++ rest)) (λ e. each_behind Made (entry_list x.held) rest is.entries) (λ e. is.entries) in
-      let told_is = step_from s ordered.steps p ordered.at in
+      let told_is = tells_from laws k p at in
       record {
         entries = subst (λ (os : List Order). Each (IsEntry s os) (entry_list (held_after o p q x.held) ++ rest)) (sym told_is)
             (each_more Made (IsEntry s (with_order o (told p))) (entry_more s o (told p)) (entry_list (held_after o p q x.held) ++ rest) fewer);
         halts = ticked_halts (next p.run.demand + one stepped.appends) q stepped.made;
       }
 
-  tick_made : IsMade s (on_tick s x)
-  tick_made = cond_both (may_tick x) (ticked_to (step s x.place) x) x (IsMade s) ticked_made (λ may. is)
+  tick_made : IsDemandRun s r → (k : ℕ) → x.place ≡ r.places k → IsMade s (tick_to (r.places (suc k)) x)
+  tick_made laws k at = cond_both (may_tick x) (ticked_to (r.places (suc k)) x) x (IsMade s) (ticked_made laws k at) (λ may. is)
 
 try_on : (at : At) → is_try at ≡ true → is_halted at ≡ false
 try_on interrupting e = refl
@@ -176,29 +178,33 @@ send_made s (Some o) x is =
     cond_both (nat_lt (length x.listed_orders) 64) (record x { hand = None; listed_orders = x.listed_orders ++ o ∷ [] }) x (IsMade s)
     (λ may. record { entries = is.entries; halts = is.halts }) (λ may. is)
 
-event_made : (s : Setup) (e : Event) (x : Split) → IsOrdered s x → IsAhead x → IsMade s x → IsMade s (event_at s e x)
-unfolding event_at
-event_made s compute x ordered ahead is = compute_made s x ordered ahead is
-event_made s push x ordered ahead is = push_made s x ordered ahead is x.computed refl
-event_made s obey x ordered ahead is = obey_made s x ordered ahead is x.listed_orders
-event_made s tick x ordered ahead is = tick_made s x ordered ahead is
-event_made s take x ordered ahead is = take_made s x.entries x refl is
-event_made s send x ordered ahead is = send_made s x.hand x is
-
-pub record EntriesHold (s : Setup) (x : Split) : Type 0 where
-  pub ordered : IsOrdered s x
+pub record EntriesHold (s : Setup) (r : DemandRun) (x : Split) : Type 0 where
+  pub ordered : IsOrdered r x
   pub ahead : IsAhead x
   pub counted : IsCounted s x
   pub made : IsMade s x
 
-pub run_holds : (s : Setup) (events : List Event) → EntriesHold s (run s events)
-run_holds s events =
-    run_keeps s (EntriesHold s) (λ e x is. record {
-      ordered = event_ordered s e x is.ordered;
-      ahead = event_ahead s e x is.ordered is.ahead;
-      counted = event_counted s e x is.ordered is.ahead is.counted;
-      made = event_made s e x is.ordered is.ahead is.made;
-    }) (record { ordered = start_ordered s; ahead = start_ahead s; counted = start_counted s; made = start_made s }) events
+module _ {s : Setup} {r : DemandRun} (laws : IsDemandRun s r) where
+  event_made : (k : ℕ) (e : Event) (x : Split) → x.place ≡ r.places k → IsOrdered r x → IsAhead x → IsMade s x → IsMade s (event_to s (r.places (suc k)) e x)
+  unfolding event_to
+  event_made k compute x at ordered ahead is = compute_made s x ordered ahead is
+  event_made k push x at ordered ahead is = push_made s x ordered ahead is x.computed refl
+  event_made k obey x at ordered ahead is = obey_made s x ordered ahead is x.listed_orders
+  event_made k tick x at ordered ahead is = tick_made s x ordered ahead is laws k at
+  event_made k take x at ordered ahead is = take_made s x.entries x refl is
+  event_made k send x at ordered ahead is = send_made s x.hand x is
+
+  pub start_holds : EntriesHold s r (split_start s)
+  start_holds = record { ordered = start_ordered laws; ahead = start_ahead s; counted = start_counted s; made = start_made s }
+
+  -- an event that leads on from a place of the run keeps all
+  pub event_holds : (k : ℕ) (e : Event) (x : Split) → x.place ≡ r.places k → EntriesHold s r x → EntriesHold s r (event_to s (r.places (suc k)) e x)
+  event_holds k e x at is = record {
+    ordered = event_ordered laws k e x at is.ordered;
+    ahead = event_ahead laws k e x at is.ordered is.ahead;
+    counted = event_counted laws (r.places (suc k)) e x is.ordered is.ahead is.counted;
+    made = event_made k e x at is.ordered is.ahead is.made;
+  }
 
 -- Orders that open no epoch leave all entries.
 commit_entry : (s : Setup) (m : ℕ) (os : List Order) (n : ℕ) → entry s (Commit m ∷ os) n ≡ entry s os n

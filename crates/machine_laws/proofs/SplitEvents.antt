@@ -1,7 +1,30 @@
--- What each event keeps holds after every list of events.
-use Rattle.std.proofs.Common.{List, [], ◌∷◌}
+-- Events, and what each event keeps after every list of them.
+use Rattle.std.proofs.Common.{◌≡◌, if◌then◌else◌, List, [], ◌∷◌, refl}
 use Rattle.mono_model.specs.declared.setup.Setup.{Setup}
-use Rattle.mono_model.specs.Split.{Split, split_start, Event, event_at, played, run}
+use Rattle.mono_model.specs.Demand.{Place, step}
+use Rattle.mono_model.specs.Split.{Split, split_start, Event, compute, push, obey, tick, take, send, on_compute, pushed, on_obey, may_tick, ticked_to, on_take, sent, event_at, played, run}
+
+-- an event, where the next step of the timing side leads to this place
+abbrev pub tick_to : Place → Split → Split
+tick_to q x = if may_tick x then ticked_to q x else x
+
+unfoldable pub event_to : Setup → Place → Event → Split → Split
+event_to s q compute x = on_compute s x
+event_to s q push x = pushed s x.computed x
+event_to s q obey x = on_obey x.listed_orders x
+event_to s q tick x = tick_to q x
+event_to s q take x = on_take x.entries x
+event_to s q send x = sent x.hand x
+
+-- along the demand run of the monolithic machine it leads to the next place of that
+pub event_is : (s : Setup) (e : Event) (x : Split) → event_at s e x ≡ event_to s (step s x.place) e x
+unfolding event_at event_to
+event_is s compute x = refl
+event_is s push x = refl
+event_is s obey x = refl
+event_is s tick x = refl
+event_is s take x = refl
+event_is s send x = refl
 
 module _ (s : Setup) (P : Split → Type 0) (by_event : (e : Event) (x : Split) → P x → P (event_at s e x)) where
   played_keeps : (es : List Event) (x : Split) → P x → P (played s es x)

@@ -6,12 +6,12 @@ use Rattle.rollback_cmds.specs.declared.order.Order.TheVariants.{Set, Commit, In
 use Rattle.trace_entry.specs.declared.Entry.{Entry}
 use Rattle.mono_model.specs.declared.setup.Setup.{Setup}
 use Rattle.mono_model.specs.Path.{entry}
-use Rattle.mono_model.specs.Demand.{step}
-use Rattle.mono_model.specs.Split.{Split, split_start, Event, compute, push, obey, tick, take, send, may_compute, pushed, obeys, on_obey, may_tick, ticked_to, may_take, taken, on_take, sent, event_at, run}
+use Rattle.mono_model.specs.Demand.{Place}
+use Rattle.mono_model.specs.Split.{Split, split_start, Event, compute, push, obey, tick, take, send, may_compute, pushed, obeys, on_obey, may_tick, ticked_to, may_take, taken, on_take, sent}
 use Rattle.machine_laws.specs.SplitLaw.{IsListed}
-use Rattle.machine_laws.proofs.SplitEvents.{run_keeps}
+use Rattle.machine_laws.proofs.SplitEvents.{event_to}
 
-start_listed : (s : Setup) → IsListed s (split_start s)
+pub start_listed : (s : Setup) → IsListed s (split_start s)
 unfolding split_start
 start_listed s = record { entries = omega arith; orders = omega arith }
 
@@ -45,18 +45,15 @@ send_listed s (Some o) x is =
     cond_both (nat_lt (length x.listed_orders) 64) (record x { hand = None; listed_orders = x.listed_orders ++ o ∷ [] }) x (IsListed s)
     (λ may. record { entries = is.entries; orders = omega (arith, length-append x.listed_orders (o ∷ []), ltb-true (length x.listed_orders) 64 may) }) (λ may. is)
 
-event_listed : (s : Setup) (e : Event) (x : Split) → IsListed s x → IsListed s (event_at s e x)
-unfolding event_at
-event_listed s compute x is =
+pub event_listed : (s : Setup) (q : Place) (e : Event) (x : Split) → IsListed s x → IsListed s (event_to s q e x)
+unfolding event_to
+event_listed s q compute x is =
     cond_both (may_compute s x) (record x { computed = Some (entry s x.obeyed x.position); position = x.position + 1 }) x (IsListed s)
     (λ may. record { entries = is.entries; orders = is.orders }) (λ may. is)
-event_listed s push x is = push_listed s x.computed x is
-event_listed s obey x is = obey_listed s x.listed_orders x refl is
-event_listed s tick x is =
-    cond_both (may_tick x) (ticked_to (step s x.place) x) x (IsListed s)
+event_listed s q push x is = push_listed s x.computed x is
+event_listed s q obey x is = obey_listed s x.listed_orders x refl is
+event_listed s q tick x is =
+    cond_both (may_tick x) (ticked_to q x) x (IsListed s)
     (λ may. record { entries = is.entries; orders = is.orders }) (λ may. is)
-event_listed s take x is = take_listed s x.entries x refl is
-event_listed s send x is = send_listed s x.hand x is
-
-pub run_listed : (s : Setup) (events : List Event) → IsListed s (run s events)
-run_listed s events = run_keeps s (IsListed s) (event_listed s) (start_listed s) events
+event_listed s q take x is = take_listed s x.entries x refl is
+event_listed s q send x is = send_listed s x.hand x is

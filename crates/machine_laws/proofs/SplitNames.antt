@@ -6,12 +6,12 @@ use Rattle.rollback_cmds.specs.declared.order.Order.{Order}
 use Rattle.trace_entry.specs.declared.Entry.{Entry}
 use Rattle.mono_model.specs.declared.setup.Setup.{Setup}
 use Rattle.mono_model.specs.Path.{entry, openings}
-use Rattle.mono_model.specs.Demand.{Place, place, told, step_bound, orders, prefix_with, entry_in}
+use Rattle.mono_model.specs.Demand.{Place, told, prefix_with}
 use Rattle.mono_model.specs.Split.{told_by}
 use Rattle.machine_laws.specs.Telling.{with_order}
 use Rattle.machine_laws.specs.SplitLaw.{IsEntry}
-use Rattle.machine_laws.proofs.Halting.{run_halts}
-use Rattle.machine_laws.proofs.Telling.{step_told}
+use Rattle.machine_laws.specs.DemandRun.{DemandRun}
+use Rattle.machine_laws.proofs.Laws.{IsDemandRun, still_from}
 use Rattle.machine_laws.proofs.SplitOrders.{obey_list}
 use Rattle.machine_laws.proofs.SplitLists.{openings_reverse}
 use Rattle.machine_laws.proofs.SplitAhead.{entry_epoch}
@@ -36,44 +36,44 @@ grown_by : (o : Option Order) (os all : List Order) → Grown os all → Grown o
 grown_by None os all is = is
 grown_by (Some o) os all is = record { later = o ∷ is.later; orders = ap (λ (l : List Order). o ∷ l) is.orders }
 
-grown_on : (s : Setup) (k j : ℕ) → Grown (told (place s k)) (told (place s (j + k)))
-grown_on s k zero = let e : k ≡ zero + k = omega arith in subst (λ (i : ℕ). Grown (told (place s k)) (told (place s i))) e (record { later = []; orders = refl })
-grown_on s k (suc j) =
-    let e : suc (j + k) ≡ suc j + k = omega arith in
-    subst (λ (i : ℕ). Grown (told (place s k)) (told (place s i))) e
-    (subst (Grown (told (place s k))) (sym (step_told s (j + k))) (grown_by (told_by (place s (j + k)) (place s (suc (j + k)))) (told (place s k)) (told (place s (j + k))) (grown_on s k j)))
+total : (a b : ℕ) → (a ≤ b) ⊎ (b ≤ a)
+total zero b = inl (omega arith)
+total (suc a) zero = inr (omega arith)
+total (suc a) (suc b) = ⊎_elim (λ l. inl (omega arith)) (λ r. inr (omega arith)) (total a b)
 
-pub grown_all : (s : Setup) (k : ℕ) → 1 ≤ s.cycles → Grown (told (place s k)) (told (place s (step_bound s)))
-grown_all s k cycles = ⊎_elim early late (total k (step_bound s))
-  where
-    early : k ≤ step_bound s → Grown (told (place s k)) (told (place s (step_bound s)))
-    early less = let e : (step_bound s - k) + k ≡ step_bound s = omega arith in subst (λ (i : ℕ). Grown (told (place s k)) (told (place s i))) e (grown_on s k (step_bound s - k))
+module _ {s : Setup} {r : DemandRun} (laws : IsDemandRun s r) where
+  pub grown_on : (k j : ℕ) → Grown (told (r.places k)) (told (r.places (j + k)))
+  grown_on k zero = let e : k ≡ zero + k = omega arith in subst (λ (i : ℕ). Grown (told (r.places k)) (told (r.places i))) e (record { later = []; orders = refl })
+  grown_on k (suc j) =
+      let e : suc (j + k) ≡ suc j + k = omega arith in
+      subst (λ (i : ℕ). Grown (told (r.places k)) (told (r.places i))) e
+      (subst (Grown (told (r.places k))) (sym (laws.tells (j + k))) (grown_by (told_by (r.places (j + k)) (r.places (suc (j + k)))) (told (r.places k)) (told (r.places (j + k))) (grown_on k j)))
 
-    late : step_bound s ≤ k → Grown (told (place s k)) (told (place s (step_bound s)))
-    late more = record { later = []; orders = ap (λ (p : Place). told p) (sym ((run_halts s cycles).still k more)) }
+  pub grown_all : (k : ℕ) → 1 ≤ s.cycles → Grown (told (r.places k)) (told (r.places r.bound))
+  grown_all k cycles = ⊎_elim early late (total k r.bound)
+    where
+      early : k ≤ r.bound → Grown (told (r.places k)) (told (r.places r.bound))
+      early less = let e : (r.bound - k) + k ≡ r.bound = omega arith in subst (λ (i : ℕ). Grown (told (r.places k)) (told (r.places i))) e (grown_on k (r.bound - k))
 
-    total : (a b : ℕ) → (a ≤ b) ⊎ (b ≤ a)
-    total zero b = inl (omega arith)
-    total (suc a) zero = inr (omega arith)
-    total (suc a) (suc b) = ⊎_elim (λ l. inl (omega arith)) (λ r. inr (omega arith)) (total a b)
+      late : r.bound ≤ k → Grown (told (r.places k)) (told (r.places r.bound))
+      late more = record { later = []; orders = ap (λ (p : Place). told p) (sym (still_from laws cycles k more)) }
 
-pub entry_named : (s : Setup) (k : ℕ) (e : Entry) → 1 ≤ s.cycles → IsEntry s (told (place s k)) e → e ≡ entry_in s e.epoch e.number
-unfolding entry_in orders
-entry_named s k e cycles is =
-    is.made ∙ ap (λ (l : List Order). entry s l e.number) (sym (append-nil is.before) ∙ ap (λ (l : List Order). l ++ []) (sym reversed)) ∙ sym (prefix_entry s e.number e.epoch (reverse is.before) (reverse front) [] epoch)
-    ∙ ap (λ (l : List Order). entry s (prefix_with [] l e.epoch) e.number) (sym all)
-  where
-    grown : Grown (told (place s k)) (told (place s (step_bound s)))
-    grown = grown_all s k cycles
+  pub entry_named : (k : ℕ) (e : Entry) → 1 ≤ s.cycles → IsEntry s (told (r.places k)) e → e ≡ r.entry_of e.epoch e.number
+  entry_named k e cycles is =
+      is.made ∙ ap (λ (l : List Order). entry s l e.number) (sym (append-nil is.before) ∙ ap (λ (l : List Order). l ++ []) (sym reversed)) ∙ sym (prefix_entry s e.number e.epoch (reverse is.before) (reverse front) [] epoch)
+      ∙ ap (λ (l : List Order). entry s (prefix_with [] l e.epoch) e.number) (sym all) ∙ sym (laws.named e.epoch e.number)
+    where
+      grown : Grown (told (r.places k)) (told (r.places r.bound))
+      grown = grown_all k cycles
 
-    front : List Order
-    front = grown.later ++ is.later
+      front : List Order
+      front = grown.later ++ is.later
 
-    reversed : reverse (reverse is.before) ≡ is.before
-    reversed = reverse-reverse is.before
+      reversed : reverse (reverse is.before) ≡ is.before
+      reversed = reverse-reverse is.before
 
-    all : reverse (told (place s (step_bound s))) ≡ reverse is.before ++ reverse front
-    all = ap (λ (l : List Order). reverse l) (grown.orders ∙ ap (λ (l : List Order). grown.later ++ l) is.orders ∙ sym (append_assoc grown.later is.later is.before)) ∙ reverse-append front is.before
+      all : reverse (told (r.places r.bound)) ≡ reverse is.before ++ reverse front
+      all = ap (λ (l : List Order). reverse l) (grown.orders ∙ ap (λ (l : List Order). grown.later ++ l) is.orders ∙ sym (append_assoc grown.later is.later is.before)) ∙ reverse-append front is.before
 
-    epoch : e.epoch ≡ openings (reverse is.before) + openings []
-    epoch = omega (arith, ap (λ (a : Entry). a.epoch) is.made, entry_epoch s is.before e.number, openings_reverse is.before)
+      epoch : e.epoch ≡ openings (reverse is.before) + openings []
+      epoch = omega (arith, ap (λ (a : Entry). a.epoch) is.made, entry_epoch s is.before e.number, openings_reverse is.before)

@@ -8,16 +8,14 @@ use Rattle.mono_model.specs.Arch.{Arch, trapped, synced}
 use Rattle.mono_model.specs.Path.{path}
 use Rattle.mono_model.specs.Demand.{Place, place, told, number_of}
 use Rattle.mono_model.specs.Split.{told_by}
-use Rattle.machine_laws.specs.Numbers.{last_commit, IsAtCommit}
+use Rattle.machine_laws.specs.Numbers.{last_commit, IsAtCommit, AreAtCommit}
 use Rattle.machine_laws.specs.Telling.{with_order}
-use Rattle.machine_laws.specs.Output.{IsInRoom}
-use Rattle.machine_laws.proofs.OutputRoom.{output_within}
+use Rattle.machine_laws.specs.Output.{IsInRoom, AreInRoom}
+use Rattle.machine_laws.specs.DemandRun.{DemandRun}
+use Rattle.machine_laws.proofs.Laws.{IsDemandRun}
+use Rattle.machine_laws.proofs.MonoRun.{mono_laws}
 use Rattle.mono_model.proofs.Path.{path_below, path_at_set, path_at_interrupt, path_at_time, path_at_sync, path-commit, path-stop}
-use Rattle.machine_laws.proofs.Places.{place_related}
-use Rattle.machine_laws.proofs.Owing.{place_owes}
-use Rattle.machine_laws.proofs.Staying.{done_told}
 use Rattle.machine_laws.proofs.SplitSteps.{Owes, owes_none, owes_one}
-use Rattle.machine_laws.proofs.Telling.{step_told}
 
 -- at its number or before it an order leaves the output
 output_at : (s : Setup) (o : Order) (os : List Order) → (path s (o ∷ os) (number_of o)).output ≡ (path s os (number_of o)).output
@@ -45,13 +43,6 @@ told_kept s p (owes_one all m o os is opening on) =
     let rest : told p ≡ Commit m ∷ os = ap (λ (k : ℕ). drop k d.orders) all ∙ ap (λ (l : List Order). drop 1 l) is in
     ap (λ (l : List Order). (path s l d.to_commit).output) is ∙ output_kept s o (Commit m ∷ os) d.to_commit (omega (arith, opening.number)) ∙ ap (λ (l : List Order). (path s l d.to_commit).output) (sym rest)
 
--- what is committed under the orders told has room
-pub told_output : (s : Setup) (k : ℕ) → length (path s (told (place s k)) (place s k).run.demand.to_commit).output ≤ s.output
-told_output s k =
-    let p = place s k in
-    let d = p.run.demand in
-    subst (λ (bytes : List ℕ). length bytes ≤ s.output) (ap (λ (a : Arch). a.output) (place_related s k).arch ∙ told_kept s p (place_owes s k)) (output_within s k)
-
 -- each order told commits no more than that
 abbrev pub AreWithin : Setup → List Order → Type 0
 AreWithin s [] = Unit {0}
@@ -61,15 +52,21 @@ one_more : (s : Setup) (o : Option Order) (os : List Order) → length (path s (
 one_more s None os first are = are
 one_more s (Some o) os first are = (first, are)
 
-pub told_within : (s : Setup) (k : ℕ) → AreWithin s (told (place s k))
-unfolding place
-told_within s zero = tt
-told_within s (suc k) =
-    let o = told_by (place s k) (place s (suc k)) in
-    let os = told (place s k) in
-    let first : length (path s (told (place s (suc k))) (last_commit (told (place s (suc k))))).output ≤ s.output =
-    subst (λ (n : ℕ). length (path s (told (place s (suc k))) n).output ≤ s.output) (done_told s (suc k)) (told_output s (suc k)) in
-    subst (AreWithin s) (sym (step_told s k)) (one_more s o os (subst (λ (l : List Order). length (path s l (last_commit l)).output ≤ s.output) (step_told s k) first) (told_within s k))
+module _ {s : Setup} {r : DemandRun} (laws : IsDemandRun s r) where
+  -- what is committed under the orders told has room
+  pub run_output : (k : ℕ) → length (path s (told (r.places k)) (r.places k).run.demand.to_commit).output ≤ s.output
+  run_output k =
+      let p : Place = r.places k in
+      subst (λ (bytes : List ℕ). length bytes ≤ s.output) (ap (λ (a : Arch). a.output) (laws.related k).arch ∙ told_kept s p (laws.owes k)) (laws.output k)
+
+  pub told_within : (k : ℕ) → AreWithin s (told (r.places k))
+  told_within zero = subst (λ (p : Place). AreWithin s (told p)) (sym laws.start) tt
+  told_within (suc k) =
+      let o : Option Order = told_by (r.places k) (r.places (suc k)) in
+      let os : List Order = told (r.places k) in
+      let first : length (path s (told (r.places (suc k))) (last_commit (told (r.places (suc k))))).output ≤ s.output =
+      subst (λ (n : ℕ). length (path s (told (r.places (suc k))) n).output ≤ s.output) (laws.done (suc k)) (run_output (suc k)) in
+      subst (AreWithin s) (sym (laws.tells k)) (one_more s o os (subst (λ (l : List Order). length (path s l (last_commit l)).output ≤ s.output) (laws.tells k) first) (told_within k))
 
 pub within_behind : (s : Setup) (xs ys : List Order) → AreWithin s (xs ++ ys) → AreWithin s ys
 within_behind s [] ys are = are
@@ -87,3 +84,17 @@ commits_within s (Interrupt m) os at within = kept_within s (Interrupt m) os m r
 commits_within s (Time m v) os at within = tt
 commits_within s (Stop m) os at within = tt
 commits_within s (Sync m) os at within = kept_within s (Sync m) os m refl at within
+
+-- so each order told has room for what it commits
+all_in_room : (s : Setup) (os : List Order) → AreAtCommit os → AreWithin s os → AreInRoom s os
+all_in_room s [] kinds within = tt
+all_in_room s (o ∷ os) kinds within = (commits_within s o os kinds.0 within.0, all_in_room s os kinds.1 within.1)
+
+pub told_in_room : {s : Setup} {r : DemandRun} (laws : IsDemandRun s r) (k : ℕ) → AreInRoom s (told (r.places k))
+told_in_room {s = s} {r = r} laws k = all_in_room s (told (r.places k)) (laws.kinds k) (told_within laws k)
+
+pub told_output : (s : Setup) (k : ℕ) → length (path s (told (place s k)) (place s k).run.demand.to_commit).output ≤ s.output
+told_output s k = run_output (mono_laws s) k
+
+pub orders_have_room : (s : Setup) (k : ℕ) → AreInRoom s (told (place s k))
+orders_have_room s k = told_in_room (mono_laws s) k

@@ -5,7 +5,8 @@ use Rattle.mono_model.specs.declared.setup.Setup.{Setup}
 use Rattle.mono_model.specs.Split.{Split, split_start, Event, compute, push, obey, tick, take, send, event_at, played, is_place_boundary, is_boundary, round, rounds_to_boundary}
 use Rattle.machine_laws.specs.Reached.{IsReached}
 use Rattle.machine_laws.specs.SplitLaw.{IsRun}
-use Rattle.machine_laws.proofs.SplitRun.{is_run}
+use Rattle.machine_laws.specs.DemandRun.{mono_run}
+use Rattle.machine_laws.proofs.SplitRun.{Known, mono_known, is_run}
 
 played_last : (s : Setup) (es : List Event) (e : Event) (x : Split) → played s (es ++ e ∷ []) x ≡ event_at s e (played s es x)
 played_last s [] e x = refl
@@ -35,6 +36,9 @@ unfolding rounds_to_boundary
 boundary_reached s zero x reached = reached
 boundary_reached s (suc more) x reached =
     cond_both (is_boundary x) x (rounds_to_boundary s more (round s x)) (IsReached s) (λ e. reached) (λ e. boundary_reached s more (round s x) (round_reached s x reached))
+
+pub known : (s : Setup) (x : Split) → IsReached s x → Known s (mono_run s) x
+known s x reached = subst (Known s (mono_run s)) (sym reached.is) (mono_known s reached.events)
 
 pub reached_run : (s : Setup) (x : Split) → IsReached s x → IsRun s x
 reached_run s x reached = subst (IsRun s) (sym reached.is) (is_run s reached.events)

@@ -6,9 +6,9 @@ use Rattle.rollback_cmds.specs.declared.order.Order.TheVariants.{Set, Commit, In
 use Rattle.trace_entry.specs.declared.Entry.{Entry}
 use Rattle.mono_model.specs.declared.setup.Setup.{Setup}
 use Rattle.mono_model.specs.Path.{entry, openings}
-use Rattle.mono_model.specs.Demand.{step, told}
-use Rattle.mono_model.specs.Split.{Split, split_start, Event, compute, push, obey, tick, take, send, may_compute, on_compute, pushed, obeys, on_obey, may_tick, ticked_to, may_take, taken, on_take, sent, event_at, run}
-use Rattle.machine_laws.proofs.SplitEvents.{run_keeps}
+use Rattle.mono_model.specs.Demand.{Place, told}
+use Rattle.mono_model.specs.Split.{Split, split_start, Event, compute, push, obey, tick, take, send, may_compute, on_compute, pushed, obeys, on_obey, may_tick, ticked_to, may_take, taken, on_take, sent}
+use Rattle.machine_laws.proofs.SplitEvents.{event_to}
 use Rattle.machine_laws.proofs.SplitAhead.{entry_epoch}
 
 -- The computed entry is of the functional side's epoch.
@@ -44,20 +44,20 @@ send_fresh : (h : Option Order) (x : Split) → IsFresh x → IsFresh (sent h x)
 send_fresh None x is = is
 send_fresh (Some o) x is = cond_both (nat_lt (length x.listed_orders) 64) (record x { hand = None; listed_orders = x.listed_orders ++ o ∷ [] }) x IsFresh (λ may. is) (λ may. is)
 
-pub event_fresh : (s : Setup) (e : Event) (x : Split) → IsFresh x → IsFresh (event_at s e x)
-unfolding event_at
-event_fresh s compute x is =
+pub event_fresh : (s : Setup) (q : Place) (e : Event) (x : Split) → IsFresh x → IsFresh (event_to s q e x)
+unfolding event_to
+event_fresh s q compute x is =
     cond_both (may_compute s x) (record x { computed = Some (entry s x.obeyed x.position); position = x.position + 1 }) x IsFresh
     (λ may. entry_epoch s x.obeyed x.position) (λ may. is)
-event_fresh s push x is = push_fresh s x.computed x is
-event_fresh s obey x is = obey_fresh x.listed_orders x is
-event_fresh s tick x is = cond_both (may_tick x) (ticked_to (step s x.place) x) x IsFresh (λ may. is) (λ may. is)
-event_fresh s take x is = take_fresh x.entries x is
-event_fresh s send x is = send_fresh x.hand x is
+event_fresh s q push x is = push_fresh s x.computed x is
+event_fresh s q obey x is = obey_fresh x.listed_orders x is
+event_fresh s q tick x is = cond_both (may_tick x) (ticked_to q x) x IsFresh (λ may. is) (λ may. is)
+event_fresh s q take x is = take_fresh x.entries x is
+event_fresh s q send x is = send_fresh x.hand x is
 
-pub run_fresh : (s : Setup) (events : List Event) → IsFresh (run s events)
+pub start_fresh : (s : Setup) → IsFresh (split_start s)
 unfolding split_start
-run_fresh s events = run_keeps s IsFresh (event_fresh s) tt events
+start_fresh s = tt
 
 -- What computing and pushing keep.
 pub record SameSide (x y : Split) : Type 0 where

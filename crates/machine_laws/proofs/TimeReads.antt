@@ -13,7 +13,6 @@ use Rattle.fsim_base.specs.declared.access.RamRange.{RamRange}
 use Rattle.fsim_base.specs.declared.cause.Cause.{Cause}
 use Rattle.fsim_base.specs.declared.cause.Cause.TheVariants.{LoadMisaligned}
 use Rattle.fsim_base.specs.declared.instruction.Class.{Class}
-use Rattle.fsim_base.specs.declared.instruction.Class.TheVariants as class
 use Rattle.rv_decode.specs.declared.insn.Insn.{Insn}
 use Rattle.rv_decode.specs.declared.insn.Insn.TheVariants as insn
 use Rattle.rv_decode.specs.Class.{class_of}

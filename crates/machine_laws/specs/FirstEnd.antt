@@ -1,14 +1,17 @@
 -- When a run ends.
-use Rattle.std.specs.Prelude.{◌≡◌, ℕ, ◌≤◌, ◌<◌, true, false}
+use Rattle.std.specs.Prelude.{◌≡◌, ℕ, ◌≤◌, ◌<◌, Bool, true, false}
 use Rattle.mono_model.specs.declared.setup.Setup.{Setup}
 use Rattle.mono_model.specs.Final.{has_ended}
 use Rattle.mono_model.specs.Cycle.{mono, final}
 use Rattle.mono_model.specs.Report.{text}
 
--- the run has ended behind `c` cycles, and behind fewer it had not
-pub record IsFirstEnd (s : Setup) (c : ℕ) : Type 0 where
-  pub ended : has_ended (mono s c).end ≡ true
-  pub before : (k : ℕ) → k < c → has_ended (mono s k).end ≡ false
+-- a run has ended behind `c` cycles, and behind fewer it had not
+pub record IsFirst (has_ended : ℕ → Bool) (c : ℕ) : Type 0 where
+  pub ended : has_ended c ≡ true
+  pub before : (k : ℕ) → k < c → has_ended k ≡ false
+
+abbrev pub IsFirstEnd : Setup → ℕ → Type 0
+IsFirstEnd s c = IsFirst (λ k. has_ended (mono s k).end) c
 
 -- The run ends behind `c` cycles, and behind no other number of them.
 pub record EndsOnce (s : Setup) (c : ℕ) : Type 0 where

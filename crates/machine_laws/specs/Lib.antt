@@ -9,6 +9,7 @@ pub mod Telling
 pub mod Counts
 pub mod Output
 pub mod Reached
+pub mod DemandRun
 pub mod SplitLaw
 pub mod Told
 pub mod NextOrder

@@ -2,6 +2,7 @@
 use Rattle.std.specs.Prelude.{◌≡◌, ℕ, ◌+◌, ◌*◌, ◌≤◌, Bool, true, false}
 use Rattle.mono_model.specs.declared.setup.Setup.{Setup}
 use Rattle.mono_model.specs.Final.{has_ended}
+use Rattle.mono_model.specs.Machine.{Machine}
 use Rattle.mono_model.specs.Cycle.{mono}
 use Rattle.mono_model.specs.Demand.{At, interrupting, committing, completing, issuing, trying, ending, stopping, halted, Place, place, step_bound}
 use Rattle.mono_model.specs.Split.{is_place_boundary}
@@ -17,10 +18,14 @@ is_over ending = false
 is_over stopping = true
 is_over halted = true
 
--- Where a cycle starts and at the end, the machine is the monolithic one behind as many cycles as it counts.
-pub record IsMono (s : Setup) (p : Place) : Type 0 where
-  pub machine : p.run.demand.machine ≡ mono s p.run.demand.machine.cycle
-  pub over : has_ended (mono s p.run.demand.machine.cycle).end ≡ is_over p.run.at
+-- Where a cycle starts and at the end, the machine is that of a run by cycles, behind as many cycles as it counts.
+pub record IsByCycles (machines : ℕ → Machine) (p : Place) : Type 0 where
+  pub machine : p.run.demand.machine ≡ machines p.run.demand.machine.cycle
+  pub over : has_ended (machines p.run.demand.machine.cycle).end ≡ is_over p.run.at
+
+-- the monolithic one
+abbrev pub IsMono : Setup → Place → Type 0
+IsMono s p = IsByCycles (mono s) p
 
 -- After so many steps the demand run stands where the monolithic one stands after so many cycles.
 pub record Reaches (s : Setup) (c steps : ℕ) : Type 0 where

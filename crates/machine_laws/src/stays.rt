@@ -33,7 +33,7 @@ pub fn output_told_stays_within_its_limit()
 
 /// What each order commits has room in the output: the path before its number has at most the
 /// limit's bytes.
-#[tactic(auto, using(crate::proofs::Room::orders_have_room))]
+#[tactic(auto, using(crate::proofs::SplitOutput::orders_have_room))]
 pub fn what_orders_commit_has_room()
     ensures room { (s : Setup) (k : ℕ) → AreInRoom s (told (place s k)) }
 {}

@@ -1,0 +1,31 @@
+-- No event lowers the number of the first instruction that isn't committed.
+use Rattle.std.proofs.Common.{◌≡◌, ◌≤◌, refl, sym, subst}
+use Rattle.std.proofs.lemmas.Bool.{cond_both, cond-true, cond-false}
+use Rattle.mono_model.specs.declared.setup.Setup.{Setup}
+use Rattle.mono_model.specs.Demand.{Place}
+use Rattle.mono_model.specs.Split.{Split, Event, compute, push, obey, tick, take, send, may_tick, ticked_to, event_at}
+use Rattle.machine_laws.proofs.SplitEvents.{tick_to, event_to}
+use Rattle.machine_laws.proofs.SplitRising.{rises_to}
+use Rattle.lane_model.specs.Demand.{lane_step, seen_of}
+use Rattle.lane_model.specs.Split.{LaneSplit, lane_ticked_to, lane_event_at}
+use Rattle.lane_laws.specs.SplitLaw.{IsLaneReached}
+use Rattle.lane_laws.proofs.SplitRun.{reached_lane_run}
+
+-- the split state sees an event that leads to the next place
+event_split : (s : Setup) (e : Event) (x : LaneSplit) → (lane_event_at s e x).split ≡ event_to s (seen_of (lane_step s x.place)) e x.split
+unfolding lane_event_at event_at event_to
+event_split s compute x = refl
+event_split s push x = refl
+event_split s obey x = refl
+event_split s tick x =
+    let q : Place = seen_of (lane_step s x.place) in
+    cond_both (may_tick x.split) (lane_ticked_to (lane_step s x.place) x) x (λ y. y.split ≡ tick_to q x.split)
+    (λ may. sym (cond-true (may_tick x.split) (ticked_to q x.split) x.split may)) (λ not. sym (cond-false (may_tick x.split) (ticked_to q x.split) x.split not))
+event_split s take x = refl
+event_split s send x = refl
+
+pub lane_event_rises : (s : Setup) (e : Event) (x : LaneSplit) → 4 ≤ s.params.core_window → IsLaneReached s x →
+    x.split.committed_number ≤ (lane_event_at s e x).split.committed_number
+lane_event_rises s e x room reached =
+    subst (λ (y : Split). x.split.committed_number ≤ y.committed_number) (sym (event_split s e x))
+    (rises_to s (seen_of (lane_step s x.place)) e x.split (λ o os is. ((reached_lane_run s x room reached).law.obeys o os is).least))
