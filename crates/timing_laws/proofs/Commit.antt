@@ -22,7 +22,7 @@ use Rattle.mono_model.specs.Alone.{has_no_room}
 use Rattle.mono_model.specs.Window.{Record, Stage, waiting, until, done}
 use Rattle.mono_model.specs.Machine.{Machine, flushed}
 use Rattle.mono_model.specs.Commit as mono
-use Rattle.mono_model.specs.Demand.{Demand, ending_orders, commit_order, demand_commit}
+use Rattle.mono_model.specs.Demand.{Demand, ending_orders, commit_order, demand_committed, demand_commit}
 use Rattle.machine_laws.specs.Relation.{Tracked, Tracks, Related, Within}
 use Rattle.mono_model.proofs.Path.{path_commit}
 use Rattle.machine_laws.proofs.Commit.{numbered, KeptBy, effect_is, leaving_kept, related_number, commit_related}
@@ -298,17 +298,21 @@ committed_phase_seen : (s : Setup) (d : Demand) (c : mono.Committed) →
 unfolding seen
 committed_phase_seen s d c = record { timing = refl; orders = ending_added c.machine.arch.pc (d.to_commit + c.left) c.left c.ending d.orders }
 
-pub commit_seen : (s : Setup) (d : Demand) → Related s d → IsPhase s d (demand_commit s d) (timing.timing_commit s (seen s d))
-unfolding mono.commit_phase timing.timing_commit
-commit_seen s d related =
-    let c : mono.Committed = mono.commits s s.params.core_commit 0 d.machine in
+pub commits_phase_seen : (s : Setup) (most : ℕ) (d : Demand) → Related s d →
+    IsPhase s d (demand_committed (mono.commits s most 0 d.machine) d) (timing.committed_phase (timing.commits s most 0 (seen s d)))
+commits_phase_seen s most d related =
+    let c : mono.Committed = mono.commits s most 0 d.machine in
     let os : List Order = commit_order c.left (d.to_commit + c.left) d.orders in
     let e : d.to_commit ≡ d.to_commit + 0 = omega arith in
     let start : seen s d ≡ seen s (numbered d.machine (d.to_commit + 0) os) =
     order_seen s d.machine d.to_commit c.left (d.to_commit + c.left) d.orders ∙ ap (λ (k : ℕ). seen s (numbered d.machine k os)) e in
     let begins : Related s (numbered d.machine (d.to_commit + 0) os) =
     related_number s d.machine d.to_commit (d.to_commit + 0) os e (order_related s d.machine d.to_commit c.left (d.to_commit + c.left) d.orders related) in
-    let is : timing.commits s s.params.core_commit 0 (seen s d) ≡ seen_committed s d.to_commit os c =
-    ap (λ (t : Timing). timing.commits s s.params.core_commit 0 t) start ∙ commits_seen s d.to_commit os s.params.core_commit 0 d.machine begins in
-    let P : timing.Committed → Type 0 = λ x. IsPhase s d (demand_commit s d) (timing.committed_phase x) in
+    let is : timing.commits s most 0 (seen s d) ≡ seen_committed s d.to_commit os c =
+    ap (λ (t : Timing). timing.commits s most 0 t) start ∙ commits_seen s d.to_commit os most 0 d.machine begins in
+    let P : timing.Committed → Type 0 = λ x. IsPhase s d (demand_committed c d) (timing.committed_phase x) in
     subst P (sym is) (committed_phase_seen s d c)
+
+pub commit_seen : (s : Setup) (d : Demand) → Related s d → IsPhase s d (demand_commit s d) (timing.timing_commit s (seen s d))
+unfolding mono.commit_phase timing.timing_commit
+commit_seen s d related = commits_phase_seen s s.params.core_commit d related

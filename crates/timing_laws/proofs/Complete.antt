@@ -89,10 +89,21 @@ redirect_seen s d (Some addr) records =
       orders = ap (λ (k : ℕ). Set (d.to_commit + k) addr ∷ d.orders) (slots_length s d.orders d.to_commit records);
     }
 
+-- a state behind the completion of what executes until a cycle
+abbrev pub completed_until : ℕ → Demand → Demand
+completed_until cycle d =
+    let c = mono.completes cycle d.machine.window in
+    record d { machine = mono.completed_by c.redirect c.records d.machine; orders = redirect_orders c.redirect (d.to_commit + length c.records) d.orders }
+
+pub completes_phase_seen : (s : Setup) (cycle : ℕ) (d : Demand) → Related s d →
+    IsPhase s d (completed_until cycle d) (timing.completed_phase (timing.completes cycle (seen s d).slots) (seen s d))
+unfolding seen
+completes_phase_seen s cycle d related =
+    let m = d.machine in
+    let c : mono.Completed = mono.completes cycle m.window in
+    let P : timing.Completed → Type 0 = λ x. IsPhase s d (completed_until cycle d) (timing.completed_phase x (seen s d)) in
+    subst P (sym (completes_seen s d.orders cycle d.to_commit m.window m.fetch_addr m.kept related.window)) (redirect_seen s d c.redirect c.records)
+
 pub complete_seen : (s : Setup) (d : Demand) → Related s d → IsPhase s d (demand_complete d) (timing.timing_complete (seen s d))
 unfolding seen mono.complete_phase timing.timing_complete
-complete_seen s d related =
-    let m = d.machine in
-    let c : mono.Completed = mono.completes m.cycle m.window in
-    let P : timing.Completed → Type 0 = λ x. IsPhase s d (demand_complete d) (timing.completed_phase x (seen s d)) in
-    subst P (sym (completes_seen s d.orders m.cycle d.to_commit m.window m.fetch_addr m.kept related.window)) (redirect_seen s d c.redirect c.records)
+complete_seen s d related = completes_phase_seen s d.machine.cycle d related

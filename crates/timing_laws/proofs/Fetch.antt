@@ -31,7 +31,7 @@ use Rattle.timing_laws.proofs.Words.{found_fetched, fetchable_is}
 use Rattle.timing_laws.proofs.Entries.{waiting_same, entry_addr, entry_word, entry_cause, slots_length, slots_append, slots_same, IsPhase}
 
 -- whether a try may be made
-waits_same : (s : Setup) (os : List Order) (n : ℕ) (window : List Record) → slots.waiting_count (slots_of (entry s os) n window) ≡ waiting_count window
+pub waits_same : (s : Setup) (os : List Order) (n : ℕ) (window : List Record) → slots.waiting_count (slots_of (entry s os) n window) ≡ waiting_count window
 waits_same s os n [] = refl
 waits_same s os n (rec ∷ rest) =
     ap (λ (b : Bool). (if b then 1 else 0) + slots.waiting_count (slots_of (entry s os) (suc n) rest)) (waiting_same rec.stage)

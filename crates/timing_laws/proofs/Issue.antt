@@ -39,7 +39,7 @@ use Rattle.timing_laws.proofs.Divisions.{dividing_is, dividing_on}
 use Rattle.timing_laws.proofs.Entries.{waiting_same, entry_access, entry_cause, entry_unserved, slot_says, slot_class, cut_seen, IsPhase}
 
 -- the states of a record and of its slot
-done_same : (stage : Stage) → is_done_state (state_of stage) ≡ window.is_done_stage stage
+pub done_same : (stage : Stage) → is_done_state (state_of stage) ≡ window.is_done_stage stage
 done_same waiting = refl
 done_same (until e r) = refl
 done_same (done r) = refl
@@ -82,7 +82,7 @@ first_ready a rec =
     ∙ first_value a (second_source rec.found)
 
 -- the order that gives a time
-ordered : (s : Setup) (d : Demand) → (Time (seen s d).to_commit (seen s d).cycle ∷ []) ++ d.orders ≡ Time d.to_commit d.machine.cycle ∷ d.orders
+pub ordered : (s : Setup) (d : Demand) → (Time (seen s d).to_commit (seen s d).cycle ∷ []) ++ d.orders ≡ Time d.to_commit d.machine.cycle ∷ d.orders
 unfolding seen
 ordered s d = refl
 
@@ -136,7 +136,7 @@ module _ (s : Setup) (os : List Order) where
     value_same n older None olds = refl
     value_same n older (Some register) olds = written_same n older register olds
 
-    ready_same : (n : ℕ) (older : List Record) (rec : Record) (behind : ℕ) → Tracked s (time_of os n) (path s os n) behind rec → Olders s (time_of os) (path s os) a n older →
+    pub ready_same : (n : ℕ) (older : List Record) (rec : Record) (behind : ℕ) → Tracked s (time_of os n) (path s os n) behind rec → Olders s (time_of os) (path s os) a n older →
         timing.has_operands (slots_down n older) (slot_of (entry s os n) rec) ≡ mono.has_operands a older rec
     ready_same n older rec behind tracked olds =
         let slots : List Slot = slots_down n older in
@@ -165,7 +165,7 @@ module _ (s : Setup) (os : List Order) where
     load_same n older (access.Load addr width Nowhere) olds = stores_same n older olds
     load_same n older (access.Store addr width spot) olds = stores_same n older olds
 
-    allows_same : (n : ℕ) (older : List Record) (c : Class) (made : Access) → Olders s (time_of os) (path s os) a n older →
+    pub allows_same : (n : ℕ) (older : List Record) (c : Class) (made : Access) → Olders s (time_of os) (path s os) a n older →
         timing.class_allows c made (slots_down n older) ≡ mono.class_allows c made older
     allows_same n older class.Alu made olds = refl
     allows_same n older class.Mul made olds = refl
@@ -175,7 +175,7 @@ module _ (s : Setup) (os : List Order) where
     allows_same n older class.Serial made olds = oldest_same n older olds
 
     -- the access of a record whose operands are there is the entry's, also where it may not issue yet
-    access_same : (n : ℕ) (older : List Record) (rec : Record) (behind : ℕ) → Tracked s (time_of os n) (path s os n) behind rec →
+    pub access_same : (n : ℕ) (older : List Record) (rec : Record) (behind : ℕ) → Tracked s (time_of os n) (path s os n) behind rec →
         Olders s (time_of os) (path s os) a n older → mono.has_operands a older rec ≡ true → (entry s os n).access ≡ (mono.ready_result s a older rec).access
     unfolding mono.ready_result
     access_same n older rec behind tracked olds has =
@@ -302,7 +302,7 @@ module _ (s : Setup) (os : List Order) where
         (dividing_on s m busy w rec rest counted))
 
   -- the oldest record wants a time exactly where its entry was told without one
-  wants_ready : (m : Machine) (n : ℕ) (rec : Record) (behind : ℕ) → m.arch ≡ path s os n → Tracked s (time_of os n) (path s os n) behind rec →
+  pub wants_ready : (m : Machine) (n : ℕ) (rec : Record) (behind : ℕ) → m.arch ≡ path s os n → Tracked s (time_of os n) (path s os n) behind rec →
       (entry s os n).unserved ≡ (mono.has_operands m.arch [] rec && mono.wants_time_result rec (mono.ready_result s m.arch [] rec))
   wants_ready m n rec behind here tracked =
       let r : Result = mono.ready_result s m.arch [] rec in
@@ -342,7 +342,7 @@ issued_seen s d related =
     (λ n from. path_steps s d.orders d.to_commit n related.within from) related.window related.arch (omega arith) in
     λ i. record (seen s d) { slots = (e i).slots; caches = (e i).caches }
 
-replayed_seen : (s : Setup) (d : Demand) → timing.replayed (seen s d) ≡ seen s (record d { machine = mono.replayed d.machine; orders = Time d.to_commit d.machine.cycle ∷ d.orders })
+pub replayed_seen : (s : Setup) (d : Demand) → timing.replayed (seen s d) ≡ seen s (record d { machine = mono.replayed d.machine; orders = Time d.to_commit d.machine.cycle ∷ d.orders })
 unfolding seen flushed
 replayed_seen s d =
     ap (λ (f : Timing). record f { counts = record f.counts { replays = f.counts.replays + 1 } })

@@ -22,12 +22,12 @@ use Rattle.timing_laws.proofs.Fetch.{fetch_stands}
 use Rattle.timing_laws.proofs.Turning.{turn_seen}
 
 -- the oldest of the orders that are owed is told, and the others are owed
-take_younger : (owed : ℕ) (p : Order) (os : List Order) → owed ≤ length os → younger p (take owed os) ≡ take owed (p ∷ os)
+pub take_younger : (owed : ℕ) (p : Order) (os : List Order) → owed ≤ length os → younger p (take owed os) ≡ take owed (p ∷ os)
 take_younger zero p os within = refl
 take_younger (suc owed) p [] within = absurd (omega arith)
 take_younger (suc owed) p (q ∷ os) within = ap (λ (l : List Order). p ∷ l) (take_younger owed q os (omega arith))
 
-drop_oldest : (owed : ℕ) (p : Order) (os : List Order) → owed ≤ length os → drop owed (p ∷ os) ≡ oldest p (take owed os) ∷ drop (suc owed) (p ∷ os)
+pub drop_oldest : (owed : ℕ) (p : Order) (os : List Order) → owed ≤ length os → drop owed (p ∷ os) ≡ oldest p (take owed os) ∷ drop (suc owed) (p ∷ os)
 drop_oldest zero p os within = refl
 drop_oldest (suc owed) p [] within = absurd (omega arith)
 drop_oldest (suc owed) p (q ∷ os) within = drop_oldest owed q os (omega arith)
@@ -59,11 +59,11 @@ owed_step s r owed (o ∷ os) is within =
     }
 
 -- the orders of a turn
-take_made : (o : Order) (made os : List Order) → take (length made) (o ∷ made ++ os) ≡ younger o made
+pub take_made : (o : Order) (made os : List Order) → take (length made) (o ∷ made ++ os) ≡ younger o made
 take_made o [] os = refl
 take_made o (p ∷ made) os = ap (λ (l : List Order). o ∷ l) (take_made p made os)
 
-drop_made : (o : Order) (made os : List Order) → drop (length made) (o ∷ made ++ os) ≡ oldest o made ∷ os
+pub drop_made : (o : Order) (made os : List Order) → drop (length made) (o ∷ made ++ os) ≡ oldest o made ∷ os
 drop_made o [] os = refl
 drop_made o (p ∷ made) os = drop_made p made os
 

@@ -42,7 +42,7 @@ after_try_at s (fetch.appends behind) more d = refl
 after_try_at s (fetch.turns behind) more d = refl
 
 -- the last order changes nothing of what is seen
-stop_seen : (s : Setup) (d : Demand) → seen s d ≡ seen s (record d { orders = Stop d.to_commit ∷ d.orders })
+pub stop_seen : (s : Setup) (d : Demand) → seen s d ≡ seen s (record d { orders = Stop d.to_commit ∷ d.orders })
 unfolding seen
 stop_seen s d =
     let os = d.orders in
@@ -50,7 +50,7 @@ stop_seen s d =
     sym (slots_same s os (Stop d.to_commit ∷ os) d.to_commit d.machine.window (λ j. refl) (λ j under. ap (λ (p : ℕ → Arch). p j) (path_stop s d.to_commit os))) in
     λ i. record (seen s d) { slots = e i }
 
-stop_orders : (s : Setup) (d : Demand) → (Stop (seen s d).to_commit ∷ []) ++ d.orders ≡ Stop d.to_commit ∷ d.orders
+pub stop_orders : (s : Setup) (d : Demand) → (Stop (seen s d).to_commit ∷ []) ++ d.orders ≡ Stop d.to_commit ∷ d.orders
 unfolding seen
 stop_orders s d = refl
 

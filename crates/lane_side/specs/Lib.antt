@@ -1,0 +1,5 @@
+pub mod Timing
+pub mod Phases
+pub mod Issue
+pub mod Turn
+pub mod Step
