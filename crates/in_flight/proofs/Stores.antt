@@ -3,13 +3,12 @@ use Rattle.std.proofs.Common.{◌≡◌, ◌↔◌, ℕ, zero, suc, ◌+◌, ◌
 use Rattle.std.specs.Prelude.{slice_get, slice_set}
 use Rattle.std.proofs.lemmas.Bool.{cases_Bool, false≢true, eq-eqb, ne_eqb, le-ltb, lt-ltb}
 use Rattle.std.proofs.lemmas.List.{map-append, append-nil, length-take, reverse-append}
-use Rattle.std.proofs.Math.Seq.{take-length}
 use Rattle.std.proofs.lemmas.List.Elements.{filter-append, All-cons, All-head, All-tail, All-filter, All-map, All-nil}
 use Rattle.std.proofs.lemmas.Option.{slice_get-get_or, slice_get_within, get_or_from_slice_get}
 use Rattle.reorder_buffer.specs.declared.slot.Slot.{Slot}
-use Rattle.reorder_buffer.specs.declared.slot.SlotState.TheVariants.{Done}
-use Rattle.reorder_buffer.proofs.Consecutive.{count_others}
-use Rattle.reorder_buffer.specs.Window.{IsConsecutive, below_number, count_from}
+use Rattle.reorder_buffer.specs.declared.slot.SlotState.TheVariants.{Waiting, Done}
+use Rattle.reorder_buffer.proofs.Consecutive.{count_others, one_more}
+use Rattle.reorder_buffer.specs.Window.{IsConsecutive, below_number, count_from, youngest as window_youngest}
 use Rattle.load_store_queue.specs.declared.queued.Queued.{Queued}
 use Rattle.load_store_queue.specs.Queue.{AreOlderDone, marked, done_if, youngest}
 use Rattle.load_store_queue.specs.Queue as queue
@@ -17,7 +16,7 @@ use Rattle.mono_model.specs.Window.{is_store_class}
 use Rattle.timing_side.specs.Slots.{is_done_state}
 use Rattle.timing_side.specs.Issue.{is_unfinished_store, are_stores_done}
 use Rattle.in_flight.specs.Flight.{older_at}
-use Rattle.in_flight.specs.Step.{is_store, queued_as, stores_in}
+use Rattle.in_flight.specs.Step.{is_store, queued_as, stores_in, put_in, finished_in}
 
 same_first : {X : Type 0} (x y : X) → Some x ≡ Some y → x ≡ y
 same_first x y e = cc
@@ -127,12 +126,6 @@ stores_done_at slots place slot answer consecutive here asked =
     same_tests answer (are_stores_done (take place slots)) (AreOlderDone slot.number (stores_in slots)) asked (older_done slots place slot consecutive here)
     ∙ sym (stores_done-reverse (take place slots))
 
--- the youngest slot, where it stores
-take-more : (slots : List Slot) (place : ℕ) (slot : Slot) → slice_get slots place ≡ Some slot → take (suc place) slots ≡ take place slots ++ slot ∷ []
-take-more [] place slot here = absurd cc
-take-more (first ∷ slots) zero slot here = ap (λ (s : Slot). s ∷ []) (same_first first slot here)
-take-more (first ∷ slots) (suc place) slot here = ap (λ rest. first ∷ rest) (take-more slots place slot here)
-
 youngest_holds : (P : Queued → Type 0) (stores : List Queued) → All P stores → IfSome (youngest stores) P
 youngest_holds P [] each = tt
 youngest_holds P (store ∷ stores) each =
@@ -140,31 +133,37 @@ youngest_holds P (store ∷ stores) each =
     let e : suc (length stores) - 1 ≡ length stores = omega arith in
     rw (e, last) (each (length stores) store (omega arith))
 
-pub put_above : (slots : List Slot) (place : ℕ) (slot : Slot) → IsConsecutive slots → slice_get slots place ≡ Some slot
-    → IfSome (youngest (stores_in (take place slots))) (λ last. last.number < slot.number)
-put_above slots place slot consecutive here =
-    youngest_holds (λ store. store.number < slot.number) (stores_in (take place slots))
-    (stores_hold (λ n. n < slot.number) (take place slots) (front_below slots place slot consecutive here))
+last_at : (slots : List Slot) (slot : Slot) → slice_get (slots ++ slot ∷ []) (length slots) ≡ Some slot
+last_at [] slot = refl
+last_at (first ∷ slots) slot = last_at slots slot
 
-pub put_room : (slots : List Slot) (place : ℕ) → length (stores_in (take place slots)) ≤ place
-put_room slots place = omega (arith, stores_within (take place slots), length-take place slots)
+front_of : (slots : List Slot) (slot : Slot) → take (length slots) (slots ++ slot ∷ []) ≡ slots
+front_of [] slot = refl
+front_of (first ∷ slots) slot = ap (λ rest. first ∷ rest) (front_of slots slot)
 
-pub put_store : (slots : List Slot) (place : ℕ) (slot : Slot) → slice_get slots place ≡ Some slot → length slots ≡ place + 1 → is_store slot ≡ true
-    → stores_in slots ≡ stores_in (take place slots) ++ queued_as slot ∷ []
-put_store slots place slot here last does =
-    let e : length slots ≡ suc place = omega (arith, last) in
-    let whole : take (suc place) slots ≡ slots = rw (← e) (take-length slots) in
-    let one : stores_in (slot ∷ []) ≡ queued_as slot ∷ [] = rw does refl in
-    ap stores_in (sym whole ∙ take-more slots place slot here) ∙ stores-append (take place slots) (slot ∷ []) ∙ ap (λ rest. stores_in (take place slots) ++ rest) one
+-- the numbers of slots are below that of the one behind them
+module _ (slots : List Slot) (slot : Slot) (consecutive : IsConsecutive slots) (follows : IfSome (window_youngest slots) (λ last. slot.number ≡ last.number + 1)) where
+  all_below : All (λ (other : Slot). other.number < slot.number) slots
+  all_below =
+      subst (All (λ (other : Slot). other.number < slot.number)) (front_of slots slot)
+      (front_below (slots ++ slot ∷ []) (length slots) slot (one_more slots slot consecutive follows) (last_at slots slot))
 
-pub put_other : (slots : List Slot) (place : ℕ) (slot : Slot) → slice_get slots place ≡ Some slot → length slots ≡ place + 1 → is_store slot ≡ false
-    → stores_in slots ≡ stores_in (take place slots)
-put_other slots place slot here last lacks =
-    let e : length slots ≡ suc place = omega (arith, last) in
-    let whole : take (suc place) slots ≡ slots = rw (← e) (take-length slots) in
-    let one : stores_in (slot ∷ []) ≡ [] = rw lacks refl in
-    ap stores_in (sym whole ∙ take-more slots place slot here) ∙ stores-append (take place slots) (slot ∷ []) ∙ ap (λ rest. stores_in (take place slots) ++ rest) one
-    ∙ append-nil (stores_in (take place slots))
+  pub put_above : IfSome (youngest (stores_in slots)) (λ last. last.number < slot.number)
+  put_above = youngest_holds (λ store. store.number < slot.number) (stores_in slots) (stores_hold (λ n. n < slot.number) slots all_below)
+
+pub put_room : (slots : List Slot) → length (stores_in slots) ≤ length slots
+put_room slots = stores_within slots
+
+pub puts : (slots : List Slot) (slot : Slot) → slot.state ≡ Waiting → put_in slot (stores_in slots) ≡ stores_in (slots ++ slot ∷ [])
+puts slots slot waiting = elim (cases_Bool (is_store slot)) [
+  | inl does ↦
+      let one : stores_in (slot ∷ []) ≡ queued_as slot ∷ [] = rw does refl in
+      let as_queued : queued_as slot ≡ record { number = slot.number; is_done = false } = λ i. record { number = slot.number; is_done = is_done_state (waiting i) } in
+      rw does (ap (λ q. stores_in slots ++ q ∷ []) (sym as_queued) ∙ ap (λ rest. stores_in slots ++ rest) (sym one) ∙ sym (stores-append slots (slot ∷ [])))
+  | inr lacks ↦
+      let one : stores_in (slot ∷ []) ≡ [] = rw lacks refl in
+      rw lacks (sym (append-nil (stores_in slots)) ∙ ap (λ rest. stores_in slots ++ rest) (sym one) ∙ sym (stores-append slots (slot ∷ [])))
+]
 
 -- the oldest slot, where it stores
 pub leave_store : (slots : List Slot) (slot : Slot) → slice_get slots 0 ≡ Some slot → is_store slot ≡ true → stores_in slots ≡ queued_as slot ∷ stores_in (drop 1 slots)
@@ -250,6 +249,14 @@ marks_store (first ∷ slots) (suc place) slot consecutive here does =
           ap (marked slot.number) (leave_other (first ∷ slots) first refl none) ∙ behind
           ∙ sym (leave_other (first ∷ slice_set slots place (record slot { state = Done })) first refl none)
     ]
+
+-- a slot that is done now, in the queue
+pub finishes : (slots : List Slot) (place : ℕ) (slot : Slot) → IsConsecutive slots → slice_get slots place ≡ Some slot
+    → finished_in slot (stores_in slots) ≡ stores_in (slice_set slots place (record slot { state = Done }))
+finishes slots place slot consecutive here = elim (cases_Bool (is_store slot)) [
+  | inl does ↦ rw does (marks_store slots place slot consecutive here does)
+  | inr lacks ↦ rw lacks (sym (set_other slots place slot (record slot { state = Done }) here lacks lacks))
+]
 
 -- those below the number of a slot are those in front of it
 none_below : (n : ℕ) (stores : List Queued) → All (λ store. n ≤ store.number) stores → queue.below_number n stores ≡ []

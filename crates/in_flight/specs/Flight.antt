@@ -1,9 +1,11 @@
 -- Which of the instructions in flight waits for nothing but a unit (Hennessy and Patterson, Computer Architecture,
 -- section 3.6, issue and execute).
-use Rattle.std.specs.Prelude.{ℕ, ◌&&◌, Bool, true, false, Option, Some, None, List, reverse, take, slice_get}
+use Rattle.std.specs.Prelude.{ℕ, ◌&&◌, ◌||◌, Bool, true, false, Option, Some, None, List, reverse, take, slice_get}
 use Rattle.reorder_buffer.specs.declared.slot.Slot.{Slot}
 use Rattle.reorder_buffer.specs.declared.slot.SlotState.{SlotState}
 use Rattle.reorder_buffer.specs.declared.slot.SlotState.TheVariants.{Waiting, Until, Done}
+use Rattle.mono_model.specs.Found.{Found, first_source, second_source}
+use Rattle.mono_model.specs.Window.{is_register}
 use Rattle.timing_side.specs.Slots.{is_waiting_state}
 use Rattle.timing_side.specs.Issue.{has_operands}
 
@@ -18,6 +20,14 @@ may_start older (Some slot) = is_waiting_state slot.state && has_operands older 
 
 abbrev pub may_start_at : List Slot → ℕ → Bool
 may_start_at slots place = may_start (older_at slots place) (slice_get slots place)
+
+-- whether a source is the register that is written, and whether an instruction has such a source
+abbrev pub is_written : Option ℕ → Option ℕ → Bool
+is_written None destination = false
+is_written (Some register) destination = is_register register destination
+
+abbrev pub reads_from : Found → Option ℕ → Bool
+reads_from found destination = is_written (first_source found) destination || is_written (second_source found) destination
 
 -- it executes, until some cycle
 abbrev pub IsExecuting : SlotState → Type 0

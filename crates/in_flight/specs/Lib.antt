@@ -1,2 +1,3 @@
 pub mod Flight
 pub mod Step
+pub mod Registers

@@ -1,6 +1,6 @@
 -- What the reservation stations and the store queue hold of the slots of the window (Hennessy and Patterson, Computer
 -- Architecture, section 3.6: an instruction has a reservation station and a store a place in the queue until it leaves).
-use Rattle.std.specs.Prelude.{◌≡◌, ℕ, ◌≤◌, Bool, Option, Some, None, List, map, filter}
+use Rattle.std.specs.Prelude.{◌≡◌, ℕ, ◌≤◌, Bool, false, if◌then◌else◌, Option, Some, None, List, [], ◌∷◌, ◌++◌, map, filter}
 use Rattle.fsim_base.specs.declared.cause.Cause.{Cause}
 use Rattle.reorder_buffer.specs.declared.slot.Slot.{Slot}
 use Rattle.reorder_buffer.specs.declared.slot.SlotState.{SlotState}
@@ -11,7 +11,7 @@ use Rattle.reservation_stations.specs.declared.station.Mark.TheVariants as mark
 use Rattle.reservation_stations.specs.declared.station.Station.{Station}
 use Rattle.reservation_stations.specs.Readiness.{Window}
 use Rattle.load_store_queue.specs.declared.queued.Queued.{Queued}
-use Rattle.load_store_queue.specs.Queue.{Contents as Stores}
+use Rattle.load_store_queue.specs.Queue.{Contents as Stores, marked}
 use Rattle.mono_model.specs.Found.{first_source, second_source, destination_in}
 use Rattle.mono_model.specs.Window.{is_store_class}
 use Rattle.timing_side.specs.Slots.{found_in, is_done_state}
@@ -52,6 +52,15 @@ queued_as slot = record { number = slot.number; is_done = is_done_state slot.sta
 
 abbrev pub stores_in : List Slot → List Queued
 stores_in slots = map queued_as (filter is_store slots)
+
+-- stores with that of a slot behind them, if it stores, not done
+abbrev pub put_in : Slot → List Queued → List Queued
+put_in slot stores =
+    if is_store slot then stores ++ record { number = slot.number; is_done = false } ∷ [] else stores
+
+-- stores with that of a slot, if it stores, marked as done
+abbrev pub finished_in : Slot → List Queued → List Queued
+finished_in slot stores = if is_store slot then marked slot.number stores else stores
 
 abbrev pub queue_of : ℕ → List Slot → Stores
 queue_of capacity slots = record { capacity = capacity; stores = stores_in slots }

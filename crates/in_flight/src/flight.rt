@@ -1,6 +1,7 @@
 use crate::cutting::cut_stations;
-use crate::queueing::{finish_store, pop_oldest, put_youngest};
-use crate::reading::{divisions_in, registers_of, slot_at};
+use crate::queueing::{finish_store, pop_oldest, put_store};
+use crate::reading::{divisions_in, slot_at};
+use crate::registers::registers_of;
 use fsim_base::NoMemory;
 use load_store_queue::StoreQueue;
 use reorder_buffer::{Slot, SlotState, Window};
@@ -42,7 +43,10 @@ impl InFlight {
     ghost use Rattle.reorder_buffer.specs.Window.{IsConsecutive, youngest};
     ghost use Rattle.timing_side.specs.Slots.{waiting_count};
     ghost use Rattle.timing_side.specs.Issue.{busy_divisions, are_stores_done};
+    ghost use Rattle.mono_model.specs.Found.{destination_in};
+    ghost use Rattle.timing_side.specs.Slots.{found_in};
     ghost use Rattle.in_flight.specs.Flight.{older_at, may_start_at, executes_at, IsExecuting};
+    ghost use Rattle.in_flight.specs.Flight.{reads_from};
 
     /// No instructions, with room for `capacity`, at most 256. All memory is taken here; want of it
     /// is the one refusal.
@@ -116,11 +120,12 @@ impl InFlight {
         requires waiting { slot.state ≡ Waiting }
         ensures appended { self.new ≡ record self.old { slots = self.old.slots ++ slot ∷ [] } }
     {
-        let registers = registers_of(slot.word);
+        prove!(self.window.len() < 256);
         let index = self.window.append(slot);
+        put_store(&mut self.stores, &slot);
+        let registers = registers_of(slot.word);
         self.stations
             .enter(index, registers.sources, registers.destination);
-        put_youngest(&mut self.stores, &self.window);
     }
 
     /// The oldest instruction leaves, in whatever state. There is one.
@@ -183,6 +188,24 @@ impl InFlight {
         self.stores.older_done(slot.number)
     }
 
+    /// Whether the instruction at a place reads what the one at another place writes.
+    pub fn reads_from(&self, place: u32, other: u32) -> bool
+        requires within { place < length self.now.slots }
+        requires there { other < length self.now.slots }
+        ensures reads { IfSome (slice_get self.now.slots place) (λ slot.
+            IfSome (slice_get self.now.slots other) (λ writer.
+            result ≡ reads_from (found_in slot) (destination_in (found_in writer)))) }
+    {
+        let reader = registers_of(self.window.slot(place).word);
+        let writer = registers_of(self.window.slot(other).word);
+        match writer.destination {
+            Some(register) => {
+                reader.sources.0 == Some(register) || reader.sources.1 == Some(register)
+            }
+            None => false,
+        }
+    }
+
     /// Lets the instruction at a place, which waits, execute until a cycle.
     pub fn begin(&mut self, place: u32, until: u64)
         requires within { place < length self.old.slots }
@@ -196,9 +219,9 @@ impl InFlight {
             state: SlotState::Until(until),
             ..*slot
         };
+        self.window.mark(place, begun.state);
         self.dividing += divisions_in(&begun);
         self.stations.issue(index);
-        self.window.mark(place, begun.state);
     }
 
     /// Ends the execution of the instruction at a place. Without a cause, it wakes those that wait
@@ -212,9 +235,10 @@ impl InFlight {
             { slots = slice_set self.old.slots place (record slot { state = Done }) }) }
     {
         let (index, slot) = slot_at(&self.window, place);
-        self.dividing -= divisions_in(slot);
-        self.stations.wake(index, slot.cause.is_some());
-        finish_store(&mut self.stores, &self.window, place);
+        let slot = *slot;
         self.window.mark(place, SlotState::Done);
+        self.dividing -= divisions_in(&slot);
+        self.stations.wake(index, slot.cause.is_some());
+        finish_store(&mut self.stores, &slot);
     }
 }

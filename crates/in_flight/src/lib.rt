@@ -6,6 +6,7 @@ mod cutting;
 mod flight;
 mod queueing;
 mod reading;
+mod registers;
 
 pub use flight::InFlight;
 

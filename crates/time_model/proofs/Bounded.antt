@@ -17,7 +17,7 @@ use Rattle.mono_model.specs.Sound.{IsSetup}
 use Rattle.mono_model.specs.Demand.{At, interrupting, committing, completing, issuing, trying, ending, stopping, halted, place, needed_entry}
 use Rattle.timing_side.specs.Timing.{Timing, timing_start, cut_to, quiet, ordering}
 use Rattle.timing_side.specs.Interrupt.{is_pending, take_interrupt, timing_interrupt}
-use Rattle.timing_side.specs.Commit.{leaving, timing_commit}
+use Rattle.timing_side.specs.Commit.{leaving, commits, timing_commit}
 use Rattle.timing_side.specs.Complete.{completes, completed_by, timing_complete}
 use Rattle.timing_side.specs.Issue.{wants_time, replayed, issued, timing_issue}
 use Rattle.timing_side.specs.Fetch.{is_fetchable, cache_read, missed, appended, path_orders, predicted_next, Tried, tried, timing_try}
@@ -31,7 +31,7 @@ pub record IsBounded (t : Timing) : Type 0 where
   pub retired : t.retired ≤ t.to_commit
   pub resume : t.resume ≤ t.cycle + 1000
 
-interrupt_bounded : (t : Timing) → IsBounded t → IsBounded (timing_interrupt t).timing
+pub interrupt_bounded : (t : Timing) → IsBounded t → IsBounded (timing_interrupt t).timing
 unfolding timing_interrupt cut_to
 interrupt_bounded t is =
     cond_both (is_pending t) (ordering (Interrupt t.to_commit) (take_interrupt t)) (quiet t) (λ p. IsBounded p.timing)
@@ -52,12 +52,15 @@ one_bounded s t left is =
       if_leaves = λ passes fence. record { retired = omega (arith, is.retired); resume = is.resume };
     })
 
+pub commits_bounded : (s : Setup) (most : ℕ) (t : Timing) → IsBounded t → IsBounded (commits s most 0 t).timing
+commits_bounded s most t is =
+    every_commit s (λ more. IsOn) (λ c. IsBounded c.timing) (λ left t is. is) (λ more left t is. one_bounded s t left is) most 0 t is
+
 commit_bounded : (s : Setup) (t : Timing) → IsBounded t → IsBounded (timing_commit s t).timing
 unfolding timing_commit
-commit_bounded s t is =
-    every_commit s (λ more. IsOn) (λ c. IsBounded c.timing) (λ left t is. is) (λ more left t is. one_bounded s t left is) s.params.core_commit 0 t is
+commit_bounded s t is = commits_bounded s s.params.core_commit t is
 
-completed_bounded : (redirect : Option ℕ) (slots : List Slot) (t : Timing) → IsBounded t → IsBounded (completed_by redirect slots t)
+pub completed_bounded : (redirect : Option ℕ) (slots : List Slot) (t : Timing) → IsBounded t → IsBounded (completed_by redirect slots t)
 unfolding cut_to
 completed_bounded None slots t is = record { retired = is.retired; resume = is.resume }
 completed_bounded (Some addr) slots t is = record { retired = is.retired; resume = omega arith }
@@ -66,11 +69,15 @@ complete_bounded : (t : Timing) → IsBounded t → IsBounded (timing_complete t
 unfolding timing_complete
 complete_bounded t is = let c = completes t.cycle t.slots in completed_bounded c.redirect c.slots t is
 
+pub replayed_bounded : (t : Timing) → IsBounded t → IsBounded (replayed t)
+unfolding cut_to
+replayed_bounded t is = record { retired = is.retired; resume = omega arith }
+
 issue_bounded : (s : Setup) (t : Timing) → IsBounded t → IsBounded (timing_issue s t).timing
-unfolding timing_issue cut_to
+unfolding timing_issue
 issue_bounded s t is =
     cond_both (wants_time s t) (ordering (Time t.to_commit t.cycle) (replayed t)) (quiet (issued s t)) (λ p. IsBounded p.timing)
-    (λ e. record { retired = is.retired; resume = omega arith }) (λ e. record { retired = is.retired; resume = is.resume })
+    (λ e. replayed_bounded t is) (λ e. record { retired = is.retired; resume = is.resume })
 
 -- the cycles of a miss
 module _ (s : Setup) (facts : IsSetup s) where
@@ -96,7 +103,7 @@ module _ (s : Setup) (facts : IsSetup s) where
       cond_both (is_fetchable e && not t.paid) (fetched (caches_params s.params) t.caches e.addr) nothing (λ d. d.cycles ≤ 1000)
       (λ is. fetched_most t.caches e.addr) (λ is. omega arith)
 
-  try_bounded : (e : Entry) (t : Timing) → IsBounded t → IsBounded (timing_try s e t).phase.timing
+  pub try_bounded : (e : Entry) (t : Timing) → IsBounded t → IsBounded (timing_try s e t).phase.timing
   unfolding timing_try
   try_bounded e t is = by_served (cache_read s e t) (read_most e t)
     where

@@ -38,7 +38,7 @@ more_behind n first second rest is =
     let e : length (first ∷ second ∷ rest) - 1 ≡ suc (length (second ∷ rest) - 1) = omega arith in
     subst (λ (k : ℕ). IfSome (slice_get (first ∷ second ∷ rest) k) (λ last. n ≡ last.number + 1)) (sym e) is
 
-slots_behind : (s : Setup) (os : List Order) (n : ℕ) (window : List Record) → IsBehind (n + length window) (slots_of (entry s os) n window)
+pub slots_behind : (s : Setup) (os : List Order) (n : ℕ) (window : List Record) → IsBehind (n + length window) (slots_of (entry s os) n window)
 slots_behind s os n [] = tt
 slots_behind s os n (rec ∷ []) = omega (arith, entry_number s os n)
 slots_behind s os n (rec ∷ second ∷ rest) =

@@ -1,10 +1,22 @@
 -- Steps that tell no order, one after the other.
 use Rattle.std.proofs.Common.{◌≡◌, ◌<◌, ℕ, ◌+◌, true, refl, subst, arith}
+use Rattle.mono_model.specs.Demand.{At, interrupting, committing, completing, issuing, trying, ending, stopping, halted}
 use Rattle.time_model.specs.declared.state.TimeState.{TimeState}
 use Rattle.time_model.specs.declared.turn.Turn.{Turn}
 use Rattle.time_model.specs.Standing.{IsStanding}
+use Rattle.time_model.specs.Turns.{turn_untold}
 use Rattle.time_model.specs.Running.{is_silent, Steps, IsSilent, start, more, IsRun}
 use Rattle.time_model.proofs.Sides.{stands_after}
+
+pub untold_silent : (at : At) → is_silent (turn_untold at) ≡ true
+untold_silent interrupting = refl
+untold_silent committing = refl
+untold_silent completing = refl
+untold_silent issuing = refl
+untold_silent (trying allowed) = refl
+untold_silent ending = refl
+untold_silent stopping = refl
+untold_silent halted = refl
 
 -- so many steps were made, all of them silent, and the last did this
 pub record HasRun (count : ℕ) (old now : TimeState) (what : Turn) : Type 0 where

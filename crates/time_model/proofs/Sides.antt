@@ -107,7 +107,7 @@ stands_after old new what is step = by_tests (needs_entry p) refl (is_none old.h
     by_tests false needs b none false on = record { setup = is.setup; sound = is.sound; steps = suc is.steps; stands = (made.goes (λ i. needs i && none i) on).stands }
 
 -- Where a try comes next, the entry that the place needs is held.
-holds_by : (needed : Entry) (held : Option Entry) → IfSome held (λ e. e ≡ needed) → is_none held ≡ false → held ≡ Some needed
+pub holds_by : (needed : Entry) (held : Option Entry) → IfSome held (λ e. e ≡ needed) → is_none held ≡ false → held ≡ Some needed
 holds_by needed None right some = cc
 holds_by needed (Some e) right some = ap Some right
 

@@ -124,10 +124,10 @@ due_step s k =
     sym (step_is s (needed_entry s (place s k)) p p.owed) ∙ place_step s k
 
 -- the epoch behind an order
-abbrev raised : Option Order → ℕ → ℕ
+abbrev pub raised : Option Order → ℕ → ℕ
 raised told epoch = if opens told then epoch + 1 else epoch
 
-raised_is : (b : Bool) (epoch : ℕ) → (if b then 1 else 0) + epoch ≡ (if b then epoch + 1 else epoch)
+pub raised_is : (b : Bool) (epoch : ℕ) → (if b then 1 else 0) + epoch ≡ (if b then epoch + 1 else epoch)
 raised_is true epoch = omega arith
 raised_is false epoch = omega arith
 
@@ -162,11 +162,11 @@ due_timing s k = sym (tell_timing (turned_at s k).orders) ∙ ap (λ (x : timing
     tell_timing [] = refl
     tell_timing (o ∷ os) = refl
 
-epoch_is : (b : Bool) (epoch : ℕ) → epoch ≤ 2 ^ 44 → (if b then min (epoch + 1) (2 ^ 64 - 1) else epoch) ≡ (if b then epoch + 1 else epoch)
+pub epoch_is : (b : Bool) (epoch : ℕ) → epoch ≤ 2 ^ 44 → (if b then min (epoch + 1) (2 ^ 64 - 1) else epoch) ≡ (if b then epoch + 1 else epoch)
 epoch_is true epoch small = omega arith
 epoch_is false epoch small = refl
 
-kept_is : (a b : Bool) (h : Option Entry) → (if a then None else (if b then None else h)) ≡ (if a || b then None else h)
+pub kept_is : (a b : Bool) (h : Option Entry) → (if a then None else (if b then None else h)) ≡ (if a || b then None else h)
 kept_is true b h = refl
 kept_is false true h = refl
 kept_is false false h = refl

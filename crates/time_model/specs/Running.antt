@@ -1,11 +1,13 @@
 -- What several steps of a timing side make of it.
-use Rattle.std.specs.Prelude.{◌≡◌, ℕ, Bool, true, false}
+use Rattle.std.specs.Prelude.{◌≡◌, ℕ, Bool, true, false, Option, Some, None}
 use Rattle.mono_model.specs.declared.setup.Setup.{Setup}
 use Rattle.mono_model.specs.Setup.{is_setup}
 use Rattle.time_model.specs.declared.state.TimeState.{TimeState}
 use Rattle.time_model.specs.declared.turn.Turn.{Turn}
 use Rattle.time_model.specs.declared.turn.Turn.TheVariants.{Moved, Ordered, Want, CycleEnd, Halted}
 use Rattle.time_model.specs.Standing.{TimeSideStandsFor, IsStep}
+use Rattle.time_model.specs.Turns.{turn_untold}
+use Rattle.mono_model.specs.Demand.{At}
 
 -- a step that was made and told no order
 abbrev pub is_silent : Turn → Bool
@@ -14,6 +16,11 @@ is_silent (Ordered order) = false
 is_silent Want = false
 is_silent CycleEnd = true
 is_silent Halted = false
+
+-- what a step did, by its answer: it was made and told no order where that is none
+abbrev pub turn_or : Option Turn → At → Turn
+turn_or None at = turn_untold at
+turn_or (Some turn) at = turn
 
 -- a step was made, or tried for, whatever run the side stood for
 abbrev pub Steps : TimeState → TimeState → Turn → Type 0

@@ -2,7 +2,7 @@ ghost use Rattle.std.specs.Prelude.{◌≡◌, ◌&&◌, ℕ, true, false, if◌
 ghost use Rattle.std.specs.Prelude.{is_none};
 
 use crate::at::At;
-use crate::turn::{Turn, turn_of};
+use crate::turn::{Turn, untold};
 use fsim_base::NoMemory;
 use mono_model::Setup;
 use rollback_cmds::Order;
@@ -40,7 +40,7 @@ impl TimeState {
     ghost use Rattle.timing_core.specs.Orders.{orders_in};
     ghost use Rattle.time_model.specs.At.{at_in};
     ghost use Rattle.time_model.specs.Standing.{TimeSideStandsFor, IsStanding, IsStep, wants_in};
-    ghost use Rattle.time_model.specs.Running.{IsRun, Steps};
+    ghost use Rattle.time_model.specs.Running.{IsRun, Steps, turn_or};
     ghost use Rattle.time_model.specs.Turning.{MayTry, IsTurned, IsTold, over_in, held_by, owed_by};
     ghost use Rattle.time_model.specs.Turning.{epoch_by, kept_by};
 
@@ -142,8 +142,8 @@ impl TimeState {
         ensures others { self.new
             ≡ record self.old { core = self.new.core; at = self.new.at; held = self.new.held } }
     {
-        let entry = self.held.unwrap();
-        let tried = self.core.fetch(&entry);
+        let entry = self.held.as_ref().unwrap();
+        let tried = self.core.fetch(entry);
         self.at = self.at_after_try(tried.goes_on, allowed);
         if tried.appended {
             self.held = None;
@@ -217,8 +217,11 @@ impl TimeState {
                   self.new.held;
             } }
     {
-        match self.owed.take() {
-            Some(order) => Orders::one(order),
+        match self.owed {
+            Some(order) => {
+                self.owed = None;
+                Orders::one(order)
+            }
             None => self.turn(),
         }
     }
@@ -244,21 +247,21 @@ impl TimeState {
         Some(order)
     }
 
-    /// Makes one step of the demand run, if the entry that it needs is held.
-    fn step(&mut self) -> Turn
+    /// Makes one step of the demand run, if the entry that it needs is held. The result is what it
+    /// did, and None where it was made and told no order.
+    fn step(&mut self) -> Option<Turn>
         requires standing { IsStanding self.old }
-        ensures made { (s : RunSetup) (k : ℕ) → is_setup s ≡ true → TimeSideStandsFor s k self.old
-            → IsStep s k self.old self.new result }
+        ensures made { Steps self.old self.new (turn_or result (at_in self.old.at)) }
     {
         if self.wants() {
-            return Turn::Want;
+            return Some(Turn::Want);
         }
         if self.is_over() {
-            return Turn::Halted;
+            return Some(Turn::Halted);
         }
-        let at = self.at;
         let orders = self.due();
-        turn_of(self.tell(orders), at)
+        let order = self.tell(orders)?;
+        Some(Turn::Ordered(order))
     }
 
     /// Makes steps of the demand run, at least one and at most so many, up to the first that isn't
@@ -270,13 +273,13 @@ impl TimeState {
         ensures single { most ≡ 1 → Steps self.old self.new result }
         ensures standing { IsStanding self.new }
     {
-        let mut turn = Turn::Moved;
+        let mut at = self.at;
         for _ in 0..most {
-            turn = self.step();
-            if !turn.is_silent() {
+            at = self.at;
+            if let Some(turn) = self.step() {
                 return turn;
             }
         }
-        turn
+        untold(at)
     }
 }

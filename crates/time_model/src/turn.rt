@@ -1,7 +1,6 @@
 ghost use Rattle.std.specs.Prelude.{◌≡◌};
 ghost use Rattle.time_model.specs.At.{at_in};
-ghost use Rattle.time_model.specs.Turns.{turn_told};
-ghost use Rattle.time_model.specs.Running.{is_silent};
+ghost use Rattle.time_model.specs.Turns.{turn_untold};
 
 use crate::at::At;
 use rollback_cmds::Order;
@@ -21,22 +20,12 @@ pub enum Turn {
     Halted,
 }
 
-impl Turn {
-    /// Whether the step was made and told no order.
-    pub(crate) fn is_silent(self) -> bool
-        ensures silent { result ≡ is_silent self }
-    {
-        matches!(self, Turn::Moved | Turn::CycleEnd)
-    }
-}
-
-/// What a step did that told this order, or none, where this turn came next before it.
-pub fn turn_of(told: Option<Order>, at: At) -> Turn
-    ensures turn { result ≡ turn_told told (at_in at) }
+/// What a step did that was made and told no order, where this turn came next before it.
+pub fn untold(at: At) -> Turn
+    ensures turn { result ≡ turn_untold (at_in at) }
 {
-    match (told, at) {
-        (Some(order), _) => Turn::Ordered(order),
-        (None, At::Ending) => Turn::CycleEnd,
-        (None, _) => Turn::Moved,
+    match at {
+        At::Ending => Turn::CycleEnd,
+        _ => Turn::Moved,
     }
 }

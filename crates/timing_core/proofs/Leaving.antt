@@ -168,6 +168,6 @@ leaves_below s t left limit kind is none below =
     }) (none ∙ ap (λ (l : Leaving). ended_by l left) is)
 
 -- the phase as far as it has come
-pub record IsUnderWay (s : Setup) (t : Timing) (left : ℕ) (behind : Timing) : Type 0 where
+pub record IsUnderWay (s : Setup) (most : ℕ) (t : Timing) (left : ℕ) (behind : Timing) : Type 0 where
   pub below : IsBelow (2 ^ 63 + left) behind
-  pub same : commits s s.params.core_commit 0 t ≡ commits s (s.params.core_commit - left) left behind
+  pub same : commits s most 0 t ≡ commits s (most - left) left behind

@@ -132,20 +132,31 @@ impl TimingCore {
     ghost use Rattle.timing_side.specs.Slots.{found_in};
     ghost use Rattle.timing_side.specs.Timing.{Timing};
     ghost use Rattle.timing_side.specs.Commit.{has_no_room, leaving_by, leaving_done, stays};
-    ghost use Rattle.timing_side.specs.Commit.{leaving, commits, timing_commit};
+    ghost use Rattle.timing_side.specs.Commit.{leaving, commits, committed_phase, timing_commit};
     ghost use Rattle.timing_core.specs.Small.{IsAlmostSmall, IsSmall};
     ghost use Rattle.timing_core.specs.Orders.{orders_in};
     ghost use Rattle.timing_core.specs.Leaving.{kind_of, behind_of};
     ghost use Rattle.timing_core.specs.CoreStandsFor.{CoreStandsFor};
 
-    /// The second phase of a cycle: the oldest slots, once done, leave in order.
+    /// The second phase of a cycle: the oldest slots, once done, leave in order, at most so many as
+    /// the machine commits in a cycle.
     pub fn commit(&mut self) -> Orders
         ensures kept { (s : Setup) (t : Timing) → CoreStandsFor s t self.old → IsSmall t
             → CoreStandsFor s (timing_commit s t).timing self.new }
         ensures orders { (s : Setup) (t : Timing) → CoreStandsFor s t self.old → IsSmall t
             → orders_in result ≡ (timing_commit s t).orders }
     {
-        let committed = self.leave_in_order();
+        self.commit_at_most(self.params.core_commit)
+    }
+
+    /// The oldest slots, once done, leave in order, at most so many.
+    pub fn commit_at_most(&mut self, most: u32) -> Orders
+        ensures kept { (s : Setup) (t : Timing) → CoreStandsFor s t self.old → IsSmall t
+            → CoreStandsFor s (committed_phase (commits s most 0 t)).timing self.new }
+        ensures orders { (s : Setup) (t : Timing) → CoreStandsFor s t self.old → IsSmall t
+            → orders_in result ≡ (committed_phase (commits s most 0 t)).orders }
+    {
+        let committed = self.leave_in_order(most);
         let to_commit = self.to_commit;
         Orders::in_turn(
             commit_order(committed.left, to_commit),
@@ -153,16 +164,15 @@ impl TimingCore {
         )
     }
 
-    /// The oldest slots leave, at most so many as the machine commits in a cycle.
-    fn leave_in_order(&mut self) -> Committed
+    /// The oldest slots leave, at most so many.
+    fn leave_in_order(&mut self, most: u32) -> Committed
         ensures kept { (s : Setup) (t : Timing) → CoreStandsFor s t self.old → IsSmall t
-            → CoreStandsFor s (commits s s.params.core_commit 0 t).timing self.new }
+            → CoreStandsFor s (commits s most 0 t).timing self.new }
         ensures left { (s : Setup) (t : Timing) → CoreStandsFor s t self.old → IsSmall t
-            → result.left ≡ (commits s s.params.core_commit 0 t).left }
+            → result.left ≡ (commits s most 0 t).left }
         ensures ending { (s : Setup) (t : Timing) → CoreStandsFor s t self.old → IsSmall t
-            → ending_in result.ending ≡ (commits s s.params.core_commit 0 t).ending }
+            → ending_in result.ending ≡ (commits s most 0 t).ending }
     {
-        let most = self.params.core_commit;
         for left in 0..most {
             let leaving = self.leave();
             if let Some(committed) = ended_by(leaving, left) {

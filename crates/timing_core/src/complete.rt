@@ -70,7 +70,7 @@ fn finish_due(flight: &mut InFlight, cycle: u64) -> Option<Redirect>
 impl TimingCore {
     ghost use Rattle.mono_model.specs.declared.setup.Setup.{Setup};
     ghost use Rattle.timing_side.specs.Timing.{Timing};
-    ghost use Rattle.timing_side.specs.Complete.{timing_complete};
+    ghost use Rattle.timing_side.specs.Complete.{completed_phase, timing_complete};
     ghost use Rattle.timing_core.specs.Small.{IsSmall};
     ghost use Rattle.timing_core.specs.Orders.{orders_in};
     ghost use Rattle.timing_core.specs.CoreStandsFor.{CoreStandsFor};
@@ -83,7 +83,18 @@ impl TimingCore {
         ensures orders { (s : Setup) (t : Timing) → CoreStandsFor s t self.old → IsSmall t
             → orders_in result ≡ (timing_complete t).orders }
     {
-        let Some(redirect) = finish_due(&mut self.flight, self.cycle) else {
+        self.complete_until(self.cycle)
+    }
+
+    /// Slots that execute until this cycle are done, and the first mispredicted one flushes all
+    /// younger slots.
+    pub fn complete_until(&mut self, until: u64) -> Orders
+        ensures kept { (s : Setup) (t : Timing) → CoreStandsFor s t self.old → IsSmall t
+            → CoreStandsFor s (completed_phase (completes until t.slots) t).timing self.new }
+        ensures orders { (s : Setup) (t : Timing) → CoreStandsFor s t self.old → IsSmall t
+            → orders_in result ≡ (completed_phase (completes until t.slots) t).orders }
+    {
+        let Some(redirect) = finish_due(&mut self.flight, until) else {
             return Orders::none();
         };
         self.flush(redirect.kept);

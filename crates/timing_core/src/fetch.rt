@@ -83,6 +83,14 @@ impl TimingCore {
         self.is_ready() && self.flight.waiting() < self.params.core_stations
     }
 
+    /// Whether fetch isn't waiting for a miss.
+    pub fn has_resumed(&self) -> bool
+        ensures resumed { (s : Setup) (t : Timing) → CoreStandsFor s t self.now
+            → result ≡ nat_le t.resume t.cycle }
+    {
+        self.resume <= self.cycle
+    }
+
     /// Whether fetch isn't waiting for a miss and the window has room.
     fn is_ready(&self) -> bool
         ensures ready { (s : Setup) (t : Timing) → CoreStandsFor s t self.now →

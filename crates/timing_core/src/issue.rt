@@ -11,10 +11,14 @@ use rollback_cmds::Order;
 impl TimingCore {
     ghost use Rattle.std.specs.Prelude.{ℕ, ◌-◌, ◌<◌, ◌^◌, true, Some, length, slice_get, slice_set};
     ghost use Rattle.reorder_buffer.specs.declared.slot.Slot.{Slot as HeldSlot};
+    ghost use Rattle.std.specs.Prelude.{[], ◌∷◌, IfSome};
+    ghost use Rattle.reorder_buffer.specs.declared.slot.SlotState.TheVariants.{Waiting, Until};
+    ghost use Rattle.rollback_cmds.specs.declared.order.Order.TheVariants.{Time};
     ghost use Rattle.mono_model.specs.declared.setup.Setup.{Setup};
+    ghost use Rattle.mono_model.specs.Issue.{cached};
     ghost use Rattle.timing_side.specs.Timing.{Timing};
     ghost use Rattle.timing_side.specs.Issue.{is_past_front, class_allows, may_begin, turn_of};
-    ghost use Rattle.timing_side.specs.Issue.{wants_time, issued, timing_issue};
+    ghost use Rattle.timing_side.specs.Issue.{wants_time, replayed, issued, timing_issue};
     ghost use Rattle.in_flight.specs.Flight.{older_at, may_start_at};
     ghost use Rattle.timing_core.specs.Small.{IsSmall};
     ghost use Rattle.timing_core.specs.Orders.{orders_in};
@@ -31,15 +35,56 @@ impl TimingCore {
             → orders_in result ≡ (timing_issue s t).orders }
     {
         if self.wants_time() {
-            self.flush(0);
-            self.counts.replays = self.counts.replays.saturating_add(1);
-            return Orders::one(Order::Time {
-                n: self.to_commit,
-                v: self.cycle,
-            });
+            return self.replay();
         }
         self.issue_all();
         Orders::none()
+    }
+
+    /// The oldest slot is sent back to fetch to be given this cycle as its time.
+    pub fn replay(&mut self) -> Orders
+        ensures kept { (s : Setup) (t : Timing) → CoreStandsFor s t self.old → IsSmall t
+            → CoreStandsFor s (replayed t) self.new }
+        ensures order { (s : Setup) (t : Timing) → CoreStandsFor s t self.old → IsSmall t
+            → orders_in result ≡ Time t.to_commit t.cycle ∷ [] }
+    {
+        self.flush(0);
+        self.counts.replays = self.counts.replays.saturating_add(1);
+        Orders::one(Order::Time {
+            n: self.to_commit,
+            v: self.cycle,
+        })
+    }
+
+    /// The slot at a place, which waits, executes until a cycle.
+    pub fn begin(&mut self, place: u32, until: u64)
+        requires within { place < length self.old.flight.slots }
+        requires waiting { IfSome (slice_get self.old.flight.slots place)
+            (λ slot. slot.state ≡ Waiting) }
+        ensures kept { (s : Setup) (t : Timing) (slot : HeldSlot) → CoreStandsFor s t self.old
+            → slice_get t.slots place ≡ Some slot →
+            CoreStandsFor s (record t {
+              slots = slice_set t.slots place
+                  (record slot { state = Until until });
+            }) self.new }
+    {
+        self.flight.begin(place, until);
+    }
+
+    /// The access of a slot that goes to memory: a load of RAM without a cause accesses the data
+    /// cache, on wrong paths too. The result is the cycles that this adds.
+    pub fn access(&mut self, slot: &Slot) -> u32
+        ensures cycles { (s : Setup) (t : Timing) → CoreStandsFor s t self.old
+            → result ≡ (cached s slot.now.cause slot.now.access t.caches).cycles }
+        ensures kept { (s : Setup) (t : Timing) → CoreStandsFor s t self.old
+            → CoreStandsFor s (record t {
+              caches = (cached s slot.now.cause slot.now.access t.caches).state;
+            }) self.new }
+        ensures flight { self.new.flight ≡ self.old.flight }
+        ensures cycle { self.new.cycle ≡ self.old.cycle }
+        ensures params { self.new.params ≡ self.old.params }
+    {
+        load_cycles(&mut self.caches, slot)
     }
 
     /// Whether the oldest slot has passed the front, and reads the time and was given none.
@@ -66,7 +111,7 @@ impl TimingCore {
 
     /// Whether the class of the slot at a place allows it to begin: device loads and serial
     /// instructions only as the oldest, other loads only when all older stores are done.
-    fn class_allows(&self, place: u32, slot: &Slot) -> bool
+    pub fn class_allows(&self, place: u32, slot: &Slot) -> bool
         requires within { place < length self.now.flight.slots }
         ensures allowed { result
             ≡ class_allows slot.now.class slot.now.access (older_at self.now.flight.slots place) }

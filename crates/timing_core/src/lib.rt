@@ -18,6 +18,7 @@ mod units;
 pub use fetch::Tried;
 pub use orders::Orders;
 pub use state::TimingCore;
+pub use units::latency_of;
 
 #[cfg(test)]
 mod tests;

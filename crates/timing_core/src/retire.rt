@@ -1,4 +1,5 @@
 ghost use Rattle.std.specs.Prelude.{◌≡◌, if◌then◌else◌};
+ghost use Rattle.fsim_base.specs.Number.{bits_of};
 ghost use Rattle.rv_decode.specs.Decode.{decode_of};
 ghost use Rattle.cache_timing.specs.Caches.{CachesState};
 ghost use Rattle.cache_timing.specs.CachesStandFor.{CachesStandFor};
@@ -14,7 +15,7 @@ use rv_decode::decode;
 use timer_irq::IrqView;
 
 /// What a predictor may learn from the instruction of a word. A word that is none is plain. Only
-/// words with the opcodes of branches, JALR, JAL and MRET are decoded for it.
+/// words with the opcodes of JALR, JAL and MRET are decoded for it.
 #[tactic(auto, using(crate::proofs::Opcodes::plain_flow))]
 fn flow_of(word: u32) -> Flow
     ensures flow { result ≡ flow_in (found_word word (decode_of word)) }
@@ -23,7 +24,22 @@ fn flow_of(word: u32) -> Flow
     if opcode != 0x63 && opcode != 0x67 && opcode != 0x6f && opcode != 0x73 {
         return Flow::Plain;
     }
+    if opcode == 0x63 {
+        return branch_flow(word);
+    }
     decoded_flow(word)
+}
+
+/// The same of a word with the opcode of branches: two values of funct3 spell none.
+#[tactic(auto, unfolding(rv_decode::specs::Decode::decode_of, rv_decode::specs::Table::table))]
+fn branch_flow(word: u32) -> Flow
+    requires opcode { bits_of word 6 0 ≡ 0x63 }
+    ensures flow { result ≡ flow_in (found_word word (decode_of word)) }
+{
+    match bits(word, 14, 12) {
+        2 | 3 => Flow::Plain,
+        _ => Flow::Branch,
+    }
 }
 
 /// The same, by decoding.

@@ -102,6 +102,20 @@ impl TimingCore {
         self.to_commit + u64::from(self.flight.len())
     }
 
+    /// The instructions in flight.
+    pub fn flight(&self) -> &InFlight
+        ensures flight { result.now ≡ self.now.flight }
+    {
+        &self.flight
+    }
+
+    /// The machine's parameters.
+    pub fn params(&self) -> &Params
+        ensures params { result.now ≡ self.now.params }
+    {
+        &self.params
+    }
+
     /// How many bytes were sent.
     pub fn output(&self) -> u64
         ensures output { (s : RunSetup) (t : Timing) → CoreStandsFor s t self.now

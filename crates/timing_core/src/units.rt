@@ -73,7 +73,7 @@ impl Used {
 }
 
 /// How many cycles the class's unit takes.
-pub(crate) fn latency_of(params: &Params, class: Class) -> u32
+pub fn latency_of(params: &Params, class: Class) -> u32
     ensures latency { result ≡ latency_of params.now class }
 {
     match class {

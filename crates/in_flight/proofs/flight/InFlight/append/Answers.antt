@@ -1,8 +1,10 @@
-use Rattle.std.proofs.Common.{ap, sym, ◌∙◌, subst, IsNone}
-use Rattle.reorder_buffer.specs.Window.{Contents}
+use Rattle.std.proofs.Common.{◌≡◌, ◌+◌, ◌<◌, length, ap, sym, ◌∙◌, subst, arith, IfSome, IsNone}
+use Rattle.reorder_buffer.specs.Window.{Contents, youngest as window_youngest}
 use Rattle.reservation_stations.specs.Readiness.{Window, station_of}
-use Rattle.in_flight.specs.Step.{queue_of}
+use Rattle.load_store_queue.specs.Queue.{Contents as Stores, youngest}
+use Rattle.in_flight.specs.Step.{put_in}
 use Rattle.in_flight.proofs.Stations.{none_holds}
+use Rattle.in_flight.proofs.Stores.{put_room, put_above, puts}
 use Rattle.in_flight.proofs.Changes.{appended_keeps}
 use Rattle.in_flight.proofs.flight.InFlight.append.Goals as goal
 
@@ -12,14 +14,32 @@ enter-requires-clause-free c =
     subst (λ (w : Window). IsNone (station_of c.append-index.result w.stations)) (sym c.self.invariant.stations_are)
     (none_holds window.capacity c.append-index.result window.slots c.append-index.ensures.free)
 
+pub put_store-requires-clause-room : goal.put_store-requires-clause-room
+put_store-requires-clause-room c =
+    let window = c.self.inside.window in
+    let room = subst (λ (w : Contents). length w.slots < w.capacity) (sym c.self.view_is) c.requires.room in
+    subst (λ (q : Stores). length q.stores < q.capacity) (sym c.self.invariant.stores_are) (omega (arith, put_room window.slots, room))
+
+pub put_store-requires-clause-above : goal.put_store-requires-clause-above
+put_store-requires-clause-above c =
+    let window = c.self.inside.window in
+    let slot = c.args.slot in
+    let follows = subst (λ (w : Contents). IfSome (window_youngest w.slots) (λ last. slot.number ≡ last.number + 1)) (sym c.self.view_is) c.requires.next in
+    subst (λ (q : Stores). IfSome (youngest q.stores) (λ last. last.number < slot.number)) (sym c.self.invariant.stores_are)
+    (put_above window.slots slot c.len.ensures.consecutive follows)
+
 pub invariant_of-self : goal.invariant_of-self
 invariant_of-self c =
     let window = c.self.inside.window in
     let slot = c.args.slot in
     let registers = c.registers_of-registers.result in
-    let queued = c.put_youngest.ensures.queued ∙ ap (λ (w : Contents). queue_of w.capacity w.slots) c.append-index.ensures.appended in
+    let queue : Stores → Stores = λ q. record q { stores = put_in slot q.stores } in
+    let queued =
+    c.put_store.ensures.put ∙ ap queue c.self.invariant.stores_are
+    ∙ ap (λ stores. let now : Stores = record { capacity = window.capacity; stores = stores } in now) (puts window.slots slot c.requires.waiting)
+    in
     let keeps =
-    appended_keeps window c.self.inside.stations c.self.inside.stores c.put_youngest.new.stores c.self.inside.dividing c.append-index.result
+    appended_keeps window c.self.inside.stations c.self.inside.stores c.put_store.new.stores c.self.inside.dividing c.append-index.result
     registers.sources.0 registers.sources.1 registers.destination slot c.self.invariant c.requires.waiting c.append-index.ensures.index
     c.registers_of-registers.ensures.first c.registers_of-registers.ensures.second c.registers_of-registers.ensures.destination queued
     in

@@ -1,4 +1,5 @@
 use Rattle.std.proofs.Common.{◌≡◌, if◌then◌else◌, Bool, Option, Some, None, sym, ap, ◌∙◌, subst}
+use Rattle.std.specs.Option.{option_copied}
 use Rattle.trace_entry.specs.declared.Entry.{Entry}
 use Rattle.mono_model.specs.declared.setup.Setup.{Setup}
 use Rattle.mono_model.specs.Demand.{trying}
@@ -13,8 +14,8 @@ use Rattle.time_model.proofs.Turns.{IsTried, try_turned, try_held}
 use Rattle.time_model.proofs.state.TimeState.attempt.Goals as goal
 use Rattle.time_model.proofs.state.TimeState.attempt.Goals.{then-tried, else-tried}
 
-same_entry : (c : goal.After-result-1) (e : Entry) → c.args.self.now.held ≡ Some e → c.unwrap-entry.result ≡ e
-same_entry c e held = let is : Some c.unwrap-entry.result ≡ Some e = sym c.unwrap-entry.ensures ∙ held in cc
+same_entry : (c : goal.After-result-1) (e : Entry) → c.args.self.now.held ≡ Some e → c.unwrap-entry.result.now ≡ e
+same_entry c e held = let is : Some c.unwrap-entry.result.now ≡ Some e = sym (ap option_copied c.unwrap-entry.ensures) ∙ c.as_ref.ensures.value ∙ held in cc
 
 -- the side with this entry held
 abbrev with_held : goal.After-result-1 → Option Entry → TimeState
@@ -27,25 +28,25 @@ left c = elim c.if-tried.branch [
 ]
 
 is_tried : (c : goal.After-result-1) (s : Setup) (t : Timing) → CoreStandsFor s t c.args.self.now.core → IsSmall t →
-    IsTried s t c.args.allowed c.unwrap-entry.result c.fetch-tried.result c.if-tried.self
+    IsTried s t c.args.allowed c.unwrap-entry.result.now c.fetch-tried.result c.if-tried.self
 is_tried c s t h small =
     let kept = c.fetch-tried.ensures.kept s t h small in
-    let tried : IsTried s t c.args.allowed c.unwrap-entry.result c.fetch-tried.result (with_held c (if c.fetch-tried.result.appended then None else c.args.self.now.held)) = record {
+    let tried : IsTried s t c.args.allowed c.unwrap-entry.result.now c.fetch-tried.result (with_held c (if c.fetch-tried.result.appended then None else c.args.self.now.held)) = record {
       core = kept;
       orders = c.fetch-tried.ensures.orders s t h small;
       goes_on = c.fetch-tried.ensures.goes_on s t h small;
       appended = c.fetch-tried.ensures.appended s t h small;
-      at = c.at_after_try-self.ensures.at s (timing_try s c.unwrap-entry.result t).phase.timing kept;
+      at = c.at_after_try-self.ensures.at s (timing_try s c.unwrap-entry.result.now t).phase.timing kept;
     } in
-    subst (IsTried s t c.args.allowed c.unwrap-entry.result c.fetch-tried.result) (sym (left c)) tried
+    subst (IsTried s t c.args.allowed c.unwrap-entry.result.now c.fetch-tried.result) (sym (left c)) tried
 
 pub returns-clause-made : goal.returns-clause-made
 returns-clause-made c = λ s t e h small held.
     subst (λ (x : Entry). IsTurned s (timing_turn s x (trying c.args.allowed) t) c.if-tried.self c.fetch-tried.result.orders) (same_entry c e held)
-    (try_turned s t c.args.allowed c.unwrap-entry.result c.fetch-tried.result c.if-tried.self (is_tried c s t h small))
+    (try_turned s t c.args.allowed c.unwrap-entry.result.now c.fetch-tried.result c.if-tried.self (is_tried c s t h small))
 
 pub returns-clause-held : goal.returns-clause-held
 returns-clause-held c = λ s t e h small held.
     ap (λ (side : TimeState). side.held) (left c)
     ∙ subst (λ (x : Entry). (if c.fetch-tried.result.appended then None else c.args.self.now.held) ≡ held_by (timing_turn s x (trying c.args.allowed) t).timing t c.args.self.now.held) (same_entry c e held)
-    (try_held s t c.args.allowed c.unwrap-entry.result c.fetch-tried.result c.if-tried.self c.args.self.now.held (is_tried c s t h small))
+    (try_held s t c.args.allowed c.unwrap-entry.result.now c.fetch-tried.result c.if-tried.self c.args.self.now.held (is_tried c s t h small))

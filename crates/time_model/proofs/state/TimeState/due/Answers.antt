@@ -1,4 +1,4 @@
-use Rattle.std.proofs.Common.{sym, ◌∙◌}
+use Rattle.std.proofs.Common.{None}
 use Rattle.mono_model.specs.Demand.{place, needed_entry}
 use Rattle.timing_laws.specs.Seen.{seen_at}
 use Rattle.time_model.proofs.Small.{seen_small}
@@ -8,17 +8,17 @@ use Rattle.time_model.proofs.state.TimeState.due.Goals as goal
 pub turn-requires : goal.turn-requires
 turn-requires c = record {
   tries = λ try.
-      let may = may_try c.args.self.now c.requires.standing (sym c.take.ensures.value ∙ c.in-None.is) c.requires.holds try in
+      let may = may_try c.args.self.now c.requires.standing c.in-None.is c.requires.holds try in
       record { entry = may.entry; held = may.held; room = may.room; next = may.next };
 }
 
 pub returns-in-Some-clause-due : goal.returns-in-Some-clause-due
 returns-in-Some-clause-due c = λ s k sound h.
-    owed_due s k c.args.self.now c.in-Some.order c.take.new.self c.one.result h c.requires.goes (sym c.take.ensures.value ∙ c.in-Some.is) c.one.ensures.one
+    owed_due s k c.args.self.now c.in-Some.order None c.one.result h c.requires.goes c.in-Some.is c.one.ensures.one
 
 pub returns-in-None-clause-due : goal.returns-in-None-clause-due
 returns-in-None-clause-due c = λ s k sound h.
-    let none = sym c.take.ensures.value ∙ c.in-None.is in
+    let none = c.in-None.is in
     let t = (seen_at s (place s k)).timing in
     let e = needed_entry s (place s k) in
     let small = seen_small s k sound in

@@ -1,11 +1,9 @@
 use Rattle.std.proofs.Common.{◌≡◌, ℕ, ◌+◌, ◌-◌, ◌<◌, ◌^◌, Option, Some, None, ap, sym, ◌∙◌, subst, arith}
-use Rattle.mono_model.specs.declared.params.Params.{Params}
 use Rattle.mono_model.specs.declared.setup.Setup.{Setup}
 use Rattle.timing_side.specs.Timing.{Timing}
 use Rattle.timing_side.specs.Commit.{Committed, plain, ended_with, leaving, commits}
 use Rattle.timing_core.specs.declared.commit.Committed.{Committed as Ended}
 use Rattle.timing_core.specs.declared.commit.Leaving.{Leaving}
-use Rattle.timing_core.specs.declared.state.TimingCore.{TimingCore}
 use Rattle.timing_core.specs.CoreStandsFor.{CoreStandsFor}
 use Rattle.timing_core.specs.Small.{IsBelow, IsSmall}
 use Rattle.timing_core.specs.Leaving.{kind_of, behind_of, ended_by, ending_in}
@@ -13,27 +11,24 @@ use Rattle.timing_core.proofs.Leaving.{IsUnderWay, go_on_by, commits_next, commi
 use Rattle.timing_core.proofs.state.TimingCore.leave_in_order.Goals as goal
 
 -- the next slot, and how the phase goes on behind it
-module _ (s : Setup) (t : Timing) (left : ℕ) (behind : Timing) (way : IsUnderWay s t left behind) where
+module _ (s : Setup) (most : ℕ) (t : Timing) (left : ℕ) (behind : Timing) (way : IsUnderWay s most t left behind) where
   small_still : left < 2 ^ 32 → IsBelow (2 ^ 63 + 2 ^ 32) behind
   small_still below = below_more (2 ^ 63 + left) (2 ^ 63 + 2 ^ 32) behind (omega arith) way.below
 
-  goes_on : (most : ℕ) (kind : Leaving) (ended : Option Ended) → most ≡ s.params.core_commit → left < most → kind ≡ kind_of (leaving s behind) → ended ≡ ended_by kind left →
-      commits s s.params.core_commit 0 t ≡ go_on_by ended (behind_of behind (leaving s behind)) (λ later. commits s (s.params.core_commit - (left + 1)) (left + 1) later)
-  goes_on most kind ended bound below is ends = way.same ∙ commits_next s behind s.params.core_commit left kind ended (omega arith) is ends
-
-bound_is : (s : Setup) (t : Timing) (core : TimingCore) → CoreStandsFor s t core → core.params.core_commit ≡ s.params.core_commit
-bound_is s t core k = ap (λ (p : Params). p.core_commit) k.params
+  goes_on : (kind : Leaving) (ended : Option Ended) → left < most → kind ≡ kind_of (leaving s behind) → ended ≡ ended_by kind left →
+      commits s most 0 t ≡ go_on_by ended (behind_of behind (leaving s behind)) (λ later. commits s (most - (left + 1)) (left + 1) later)
+  goes_on kind ended below is ends = way.same ∙ commits_next s behind most left kind ended below is ends
 
 -- the phase has ended
 ended_is : (c : goal.In-Some) (s : Setup) (t : Timing) → (k : CoreStandsFor s t c.args.self.now) → IsSmall t →
     (behind : Timing) × (CoreStandsFor s behind c.leave-leaving.new.self)
-    × (commits s s.params.core_commit 0 t ≡ record { timing = behind; left = c.in-Some.committed.left; ending = ending_in c.in-Some.committed.ending })
+    × (commits s c.args.most 0 t ≡ record { timing = behind; left = c.in-Some.committed.left; ending = ending_in c.in-Some.committed.ending })
 ended_is c s t k small =
     let (behind, kept, way) = c.loop-left.invariant s t k small in
-    let still = small_still s t c.loop-left.left behind way (omega arith) in (
+    let still = small_still s c.args.most t c.loop-left.left behind way (omega arith) in (
       behind_of behind (leaving s behind),
       c.leave-leaving.ensures.kept s behind kept still,
-      goes_on s t c.loop-left.left behind way c.args.self.now.params.core_commit c.leave-leaving.result (Some c.in-Some.committed) (bound_is s t c.args.self.now k) (omega arith)
+      goes_on s c.args.most t c.loop-left.left behind way c.leave-leaving.result (Some c.in-Some.committed) (omega arith)
           (c.leave-leaving.ensures.kind s behind kept still) c.in-Some.ensures.ended,
     )
 
@@ -53,7 +48,7 @@ pub loop-left-preserved : goal.loop-left-preserved
 loop-left-preserved c = λ s t k small.
     let (behind, kept, way) = c.loop-left.invariant s t k small in
     let left : ℕ = c.loop-left.left in
-    let still = small_still s t left behind way (omega arith) in
+    let still = small_still s c.args.most t left behind way (omega arith) in
     let kind = c.leave-leaving.ensures.kind s behind kept still in
     let none : None ≡ ended_by c.leave-leaving.result left = sym c.in_default.is ∙ c.ended_by.ensures.ended in (
       behind_of behind (leaving s behind),
@@ -62,19 +57,18 @@ loop-left-preserved c = λ s t k small.
         below =
             below_more (2 ^ 63 + left + 1) (2 ^ 63 + (left + 1)) (behind_of behind (leaving s behind)) (omega arith)
             (leaves_below s behind left (2 ^ 63 + left) c.leave-leaving.result kind none way.below);
-        same = goes_on s t left behind way c.args.self.now.params.core_commit c.leave-leaving.result None (bound_is s t c.args.self.now k) (omega arith) kind none;
+        same = goes_on s c.args.most t left behind way c.leave-leaving.result None (omega arith) kind none;
       },
     )
 
 -- all left that may
 over_is : (c : goal.After-loop-left) (s : Setup) (t : Timing) → (k : CoreStandsFor s t c.args.self.now) → IsSmall t →
     (behind : Timing) × (CoreStandsFor s behind c.loop-left.self)
-    × (commits s s.params.core_commit 0 t ≡ ended_with behind c.args.self.now.params.core_commit plain)
+    × (commits s c.args.most 0 t ≡ ended_with behind c.args.most plain)
 over_is c s t k small =
     let (behind, kept, way) = c.loop-left.invariant s t k small in
-    let bound = bound_is s t c.args.self.now k in
-    let all : c.loop-left.left ≡ c.args.self.now.params.core_commit = omega arith in
-    let rest : s.params.core_commit - c.loop-left.left ≡ 0 = omega arith in (
+    let all : c.loop-left.left ≡ c.args.most = omega arith in
+    let rest : c.args.most - c.loop-left.left ≡ 0 = omega arith in (
       behind,
       kept,
       way.same ∙ ap (λ (n : ℕ). commits s n c.loop-left.left behind) rest ∙ commits_over s behind c.loop-left.left ∙ ap (λ (n : ℕ). ended_with behind n plain) all,

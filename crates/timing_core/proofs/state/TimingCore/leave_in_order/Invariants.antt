@@ -8,4 +8,4 @@ use Rattle.timing_core.proofs.state.TimingCore.leave_in_order.Given as goal
 -- what was kept has become another state, from which the phase goes on
 abbrev pub invariant-loop-left : goal.invariant-loop-left
 invariant-loop-left l =
-    (s : Setup) (t : Timing) → CoreStandsFor s t l.fn.self → IsSmall t → (behind : Timing) × (CoreStandsFor s behind l.self) × IsUnderWay s t l.left behind
+    (s : Setup) (t : Timing) → CoreStandsFor s t l.fn.self → IsSmall t → (behind : Timing) × (CoreStandsFor s behind l.self) × IsUnderWay s l.most t l.left behind
