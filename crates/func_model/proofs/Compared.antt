@@ -2,7 +2,7 @@
 use Rattle.std.proofs.Common.{◌≡◌, ℕ, if◌then◌else◌, ap, sym, ◌∙◌}
 use Rattle.device_bus.specs.Bus.{Devices}
 use Rattle.undo_journal.specs.declared.past.Change.{Change}
-use Rattle.undo_journal.specs.declared.past.Change.TheVariants.{Nothing, Memory, Device, System}
+use Rattle.undo_journal.specs.declared.past.Change.TheVariants.{Nothing, Memory, Device, Trap, Csr}
 use Rattle.mono_model.specs.Arch.{Arch, compare_of}
 use Rattle.func_model.specs.Undo.{is_device, devices_back}
 
@@ -12,7 +12,8 @@ pub compare_kept : (change : Change) (cmp found : ℕ) (before after : Devices) 
 compare_kept Nothing cmp found before after back same is = is ∙ same ∙ ap compare_of (sym back)
 compare_kept (Memory addr width old) cmp found before after back same is = is ∙ same ∙ ap compare_of (sym back)
 compare_kept (Device device undo) cmp found before after back same is = is
-compare_kept (System csrs) cmp found before after back same is = is ∙ same ∙ ap compare_of (sym back)
+compare_kept (Trap was) cmp found before after back same is = is ∙ same ∙ ap compare_of (sym back)
+compare_kept (Csr was) cmp found before after back same is = is ∙ same ∙ ap compare_of (sym back)
 
 -- where a change is taken back
 pub compare_back : (change : Change) (cmp found : ℕ) (before after : Devices) → after ≡ devices_back change before → cmp ≡ compare_of before →
@@ -20,7 +21,8 @@ pub compare_back : (change : Change) (cmp found : ℕ) (before after : Devices) 
 compare_back Nothing cmp found before after back same is = is ∙ same ∙ ap compare_of (sym back)
 compare_back (Memory addr width old) cmp found before after back same is = is ∙ same ∙ ap compare_of (sym back)
 compare_back (Device device undo) cmp found before after back same is = is
-compare_back (System csrs) cmp found before after back same is = is ∙ same ∙ ap compare_of (sym back)
+compare_back (Trap was) cmp found before after back same is = is ∙ same ∙ ap compare_of (sym back)
+compare_back (Csr was) cmp found before after back same is = is ∙ same ∙ ap compare_of (sym back)
 
 -- of the state that is stood for
 pub compare_in : (cmp : ℕ) (x a : Arch) → x ≡ a → cmp ≡ compare_of a.devices → cmp ≡ compare_of x.devices

@@ -18,7 +18,7 @@ use Rattle.func_model.specs.declared.found.Fetched.{Fetched}
 use Rattle.func_model.specs.declared.found.Fetched.TheVariants as fetched
 use Rattle.func_model.specs.Hart.{found_in, FetchedFits, IsDestination}
 use Rattle.func_model.specs.Steps.{is_full, stepped_by, behind, Told}
-use Rattle.func_model.specs.Undo.{registers_back, shortened, undone, uncounted, csrs_back, is_executed, IsOldRegister, IsRestorable, TakesBack, register_before, past_of}
+use Rattle.func_model.specs.Undo.{registers_back, shortened, undone, uncounted, csrs_back, is_executed, IsRestorable, TakesBack, register_before, past_of}
 use Rattle.func_model.proofs.Evaluated.{destination_exists}
 
 -- an output that isn't full lets the instruction be executed
@@ -42,17 +42,20 @@ counted_back csrs =
     λ i. record csrs { retired = e i }
 
 -- registers
+kept_at : (d : ℕ) (regs : ℕ → ℕ) → with_register (Some d) (regs d) regs ≡ regs
+kept_at d regs =
+    let at : (x : ℕ) → (if x == d then regs d else regs x) ≡ regs x = λ x. grind (arith, common_steps) in
+    λ i x. at x i
+
 written_back : (destination : Option ℕ) (value : ℕ) (regs : ℕ → ℕ) → registers_back (register_before destination regs) (with_register destination value regs) ≡ regs
-written_back None value regs = refl
+written_back None value regs = kept_at 0 regs
 written_back (Some d) value regs =
     let at : (x : ℕ) → (if x == d then regs d else (if x == d then value else regs x)) ≡ regs x = λ x. grind (arith, common_steps) in
     λ i x. at x i
 
 kept_back : (destination : Option ℕ) (regs : ℕ → ℕ) → registers_back (register_before destination regs) regs ≡ regs
-kept_back None regs = refl
-kept_back (Some d) regs =
-    let at : (x : ℕ) → (if x == d then regs d else regs x) ≡ regs x = λ x. grind (arith, common_steps) in
-    λ i x. at x i
+kept_back None regs = kept_at 0 regs
+kept_back (Some d) regs = kept_at d regs
 
 registers_by : (cause : Option Cause) (found : Found) (r : Result) (time : Option ℕ) (addr : ℕ) (a : Arch) →
     registers_back (register_before (destination_in found) a.regs) (effect_by cause found r time addr a).regs ≡ a.regs
@@ -114,8 +117,8 @@ undone_execute range number found r time limit a b done told made back room =
     (ap (λ (o : List ℕ). if is_some done.sent then shortened o else o) (ap (λ (x : Arch). x.output) e ∙ effect_output found r time a.pc a) ∙ output_back (note_of r a) done.sent a.output told.sent)
 
 -- what an undo step names exists
-register_exists : (destination : Option ℕ) (regs : ℕ → ℕ) → IsDestination destination → IsOldRegister (register_before destination regs)
-register_exists None regs exists = tt
+register_exists : (destination : Option ℕ) (regs : ℕ → ℕ) → IsDestination destination → (register_before destination regs).register < 32
+register_exists None regs exists = omega arith
 register_exists (Some d) regs exists = exists
 
 pub fetched_exists : (what : Fetched) → FetchedFits what → IsDestination (destination_in (found_in what))

@@ -13,9 +13,10 @@ use Rattle.mono_model.specs.Sequence.{found_next, result_at, seq, byte_in, halt_
 use Rattle.mono_model.specs.Final.{end_of}
 use Rattle.mono_model.specs.Alone.{alone}
 use Rattle.func_model.specs.declared.performed.PastStep.{PastStep}
+use Rattle.func_model.specs.declared.performed.Interrupted.{Interrupted}
 use Rattle.func_model.specs.declared.performed.Made.{Made}
 use Rattle.func_model.specs.Contents.{before}
-use Rattle.func_model.specs.Undo.{undone}
+use Rattle.func_model.specs.Undo.{trap_back, undone}
 
 -- the state after so many steps
 abbrev pub walk : Setup → ℕ → Arch
@@ -45,9 +46,14 @@ floor history s made old = if fences s made then made + 1 else max old (made + 1
 abbrev pub step_seq : Setup → ℕ → Arch → Arch
 step_seq s number a = seq s (Some number) (before number a)
 
+-- the state before a timer interrupt, from the one behind it
+abbrev pub resumed : Option Interrupted → Arch → Arch
+resumed None a = a
+resumed (Some was) a = record a { pc = was.pc; csrs = trap_back was.trap a.csrs }
+
 -- the state before a step, from the one behind it
 abbrev pub step_undone : RamRange → PastStep → Arch → Arch
-step_undone range past a = record (undone range past.instruction a) { pc = past.pc; csrs = past.csrs }
+step_undone range past a = resumed past.interrupted (undone range past.instruction a)
 
 -- what is told of a step at a state, and what takes it back
 pub record IsMade (s : Setup) (number : ℕ) (a : Arch) (made : Made) : Type 0 where

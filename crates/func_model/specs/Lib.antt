@@ -1,6 +1,6 @@
 pub mod Hart
-pub mod Steps
 pub mod Undo
+pub mod Steps
 pub mod Contents
 pub mod History
 pub mod Walk

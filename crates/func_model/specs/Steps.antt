@@ -23,7 +23,8 @@ use Rattle.device_bus.specs.declared.undo.Note.{Note}
 use Rattle.device_bus.specs.declared.undo.Note.TheVariants as note
 use Rattle.device_bus.specs.Bus.{Devices}
 use Rattle.undo_journal.specs.declared.past.Change.{Change}
-use Rattle.undo_journal.specs.declared.past.Change.TheVariants.{System}
+use Rattle.undo_journal.specs.declared.past.Change.TheVariants.{Trap}
+use Rattle.func_model.specs.Undo.{trap_before}
 use Rattle.mono_model.specs.Arch.{Arch, with_register, register_value, trapped}
 use Rattle.mono_model.specs.Found.{Found, first_source, second_source}
 use Rattle.mono_model.specs.Effect.{counted, with_store, with_access, with_note, access_note, note_of, effect}
@@ -156,4 +157,4 @@ plain_with change = record { stepped = On; sent = None; access = access.Nothing;
 
 -- what is told of a trap, with the access that was attempted, and the control and status registers before it
 abbrev pub failed_with : Access → Cause → Csrs → Performed
-failed_with tried cause before = record { stepped = On; sent = None; access = tried; cause = Some cause; change = System before }
+failed_with tried cause before = record { stepped = On; sent = None; access = tried; cause = Some cause; change = Trap (trap_before before) }

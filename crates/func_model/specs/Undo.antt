@@ -9,7 +9,10 @@ use Rattle.device_bus.specs.Bus.{Devices, kind_at, devices_undone}
 use Rattle.undo_journal.specs.declared.past.Past.{Past}
 use Rattle.undo_journal.specs.declared.past.OldRegister.{OldRegister}
 use Rattle.undo_journal.specs.declared.past.Change.{Change}
-use Rattle.undo_journal.specs.declared.past.Change.TheVariants.{Nothing, Memory, Device, System}
+use Rattle.undo_journal.specs.declared.past.Change.TheVariants.{Nothing, Memory, Device, Trap, Csr}
+use Rattle.undo_journal.specs.declared.past.OldTrap.{OldTrap}
+use Rattle.undo_journal.specs.declared.past.OldCsr.{OldCsr}
+use Rattle.undo_journal.specs.declared.past.OldCsr.TheVariants.{Flags, Mtvec, Mscratch, Mepc, Mcause, Mtval}
 use Rattle.mono_model.specs.Arch.{Arch, with_register}
 use Rattle.mono_model.specs.Found.{Found, destination_in}
 use Rattle.fsim_base.specs.declared.instruction.Halt.{Halt}
@@ -18,41 +21,63 @@ use Rattle.func_model.specs.declared.performed.Stepped.{Stepped}
 use Rattle.func_model.specs.declared.performed.Stepped.TheVariants.{On, Full, Ended}
 
 -- the registers with one set back
-abbrev pub registers_back : Option OldRegister → (ℕ → ℕ) → (ℕ → ℕ)
-registers_back None regs = regs
-registers_back (Some was) regs = with_register (Some was.register) was.value regs
+abbrev pub registers_back : OldRegister → (ℕ → ℕ) → (ℕ → ℕ)
+registers_back was regs = with_register (Some was.register) was.value regs
 
 -- RAM with the bytes of a store put back
 abbrev pub memory_back : RamRange → Change → (ℕ → ℕ) → (ℕ → ℕ)
 memory_back range Nothing ram = ram
 memory_back range (Memory addr width old) ram = stored range ram addr width old
 memory_back range (Device device undo) ram = ram
-memory_back range (System before) ram = ram
+memory_back range (Trap was) ram = ram
+memory_back range (Csr was) ram = ram
 
 -- one instruction fewer retired
 abbrev pub uncounted : Csrs → Csrs
 uncounted csrs = record csrs { retired = csrs.retired - 1 }
+
+-- what a trap changes of the control and status registers, and the registers with that put back
+abbrev pub trap_before : Csrs → OldTrap
+trap_before csrs = record { mie = csrs.mie; mpie = csrs.mpie; mepc = csrs.mepc; mcause = csrs.mcause; mtval = csrs.mtval }
+
+abbrev pub trap_back : OldTrap → Csrs → Csrs
+trap_back was csrs = record csrs { mie = was.mie; mpie = was.mpie; mepc = was.mepc; mcause = was.mcause; mtval = was.mtval }
+
+-- the flags, and the registers with one of them or the flags put back
+abbrev pub flags_before : Csrs → OldCsr
+flags_before csrs = Flags csrs.mie csrs.mpie csrs.mtie
+
+abbrev pub csr_back : OldCsr → Csrs → Csrs
+csr_back (Flags mie mpie mtie) csrs = record csrs { mie = mie; mpie = mpie; mtie = mtie }
+csr_back (Mtvec old) csrs = record csrs { mtvec = old }
+csr_back (Mscratch old) csrs = record csrs { mscratch = old }
+csr_back (Mepc old) csrs = record csrs { mepc = old }
+csr_back (Mcause old) csrs = record csrs { mcause = old }
+csr_back (Mtval old) csrs = record csrs { mtval = old }
 
 -- the control and status registers from before
 abbrev pub csrs_back : Change → Csrs → Csrs
 csrs_back Nothing csrs = uncounted csrs
 csrs_back (Memory addr width old) csrs = uncounted csrs
 csrs_back (Device device undo) csrs = uncounted csrs
-csrs_back (System before) csrs = before
+csrs_back (Trap was) csrs = trap_back was csrs
+csrs_back (Csr was) csrs = uncounted (csr_back was csrs)
 
 -- a device was accessed
 abbrev pub is_device : Change → Bool
 is_device Nothing = false
 is_device (Memory addr width old) = false
 is_device (Device device undo) = true
-is_device (System before) = false
+is_device (Trap was) = false
+is_device (Csr was) = false
 
 -- the devices with an access to one of them taken back
 abbrev pub devices_back : Change → Devices → Devices
 devices_back Nothing devices = devices
 devices_back (Memory addr width old) devices = devices
 devices_back (Device device undo) devices = devices_undone devices (kind_at device) undo
-devices_back (System before) devices = devices
+devices_back (Trap was) devices = devices
+devices_back (Csr was) devices = devices
 
 -- the output without its last byte
 abbrev pub shortened : List ℕ → List ℕ
@@ -83,15 +108,12 @@ abbrev pub IsRestorableChange : Change → Type 0
 IsRestorableChange Nothing = Unit {0}
 IsRestorableChange (Memory addr width old) = addr % width_bytes width ≡ 0
 IsRestorableChange (Device device undo) = (device < 3) × NamesSlot (kind_at device) undo
-IsRestorableChange (System before) = Unit {0}
-
-abbrev pub IsOldRegister : Option OldRegister → Type 0
-IsOldRegister None = Unit {0}
-IsOldRegister (Some was) = was.register < 32
+IsRestorableChange (Trap was) = Unit {0}
+IsRestorableChange (Csr was) = Unit {0}
 
 -- what an undo step names exists
 pub record IsRestorable (past : Past) : Type 0 where
-  pub register : IsOldRegister past.reg
+  pub register : past.reg.register < 32
   pub change : IsRestorableChange past.change
 
 -- an instruction was executed, unless the output had no room for its byte
@@ -112,12 +134,13 @@ abbrev pub IsOfLoad : Change → Type 0
 IsOfLoad Nothing = Unit {0}
 IsOfLoad (Memory addr width old) = ⊥
 IsOfLoad (Device device undo) = Unit {0}
-IsOfLoad (System before) = ⊥
+IsOfLoad (Trap was) = ⊥
+IsOfLoad (Csr was) = ⊥
 
--- a register, if any, with its value
-abbrev pub register_before : Option ℕ → (ℕ → ℕ) → Option OldRegister
-register_before None regs = None
-register_before (Some register) regs = Some (record { register = register; value = regs register })
+-- a register with its value; x0 where there is none
+abbrev pub register_before : Option ℕ → (ℕ → ℕ) → OldRegister
+register_before None regs = record { register = 0; value = regs 0 }
+register_before (Some register) regs = record { register = register; value = regs register }
 
 -- what takes an instruction back that was found at the address of a state, and did this
 abbrev pub past_of : ℕ → Found → Arch → Performed → Past

@@ -1,5 +1,5 @@
 -- What a functional side stands for: a setup, the orders obeyed, and a position on their path.
-use Rattle.std.specs.Prelude.{◌≡◌, ◌⊎◌, ◌≤◌, ◌<◌, ℕ, zero, suc, ◌+◌, ◌-◌, ◌==◌, ◌||◌, if◌then◌else◌, Bool, true, false, IfSome, List, [], ◌∷◌, length, filter, nat_le, Option, Some, None}
+use Rattle.std.specs.Prelude.{◌≡◌, ◌⊎◌, ◌≤◌, ◌<◌, ℕ, zero, suc, ◌+◌, ◌-◌, ◌^◌, ◌==◌, ◌||◌, if◌then◌else◌, Bool, true, false, IfSome, List, [], ◌∷◌, length, filter, nat_le, Option, Some, None}
 use Rattle.fsim_base.specs.declared.access.RamRange.{RamRange}
 use Rattle.rollback_cmds.specs.declared.order.Order.{Order}
 use Rattle.rollback_cmds.specs.declared.order.Order.TheVariants.{Set, Commit, Interrupt, Time, Stop, Sync}
@@ -88,6 +88,13 @@ pub record CanReach {D : Type 0} (n : ℕ) (walk : Walk D) : Type 0 where
   pub back : n < walk.position → IsOnSomePath walk
   pub on : walk.position < n → IsStanding walk
   pub running : walk.position < n → walk.is_stopped ≡ false
+
+-- an order can take a walk to instruction `n`: it can be taken there, what is committed stays, and the journal has room up to there
+pub record CanGoTo {D : Type 0} (n : ℕ) (walk : Walk D) : Type 0 where
+  pub reach : CanReach n walk
+  pub from : walk.committed ≤ n
+  pub room : n ≤ walk.committed + walk.journal.room
+  pub bounded : n < 2 ^ 63
 
 -- a walk whose run is over: it is stopped at what is committed
 pub record IsOver {D : Type 0} (walk : Walk D) : Type 0 where

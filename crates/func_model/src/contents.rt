@@ -8,8 +8,8 @@ ghost use Rattle.mono_model.specs.Arch.{compare_of};
 ghost use Rattle.func_model.specs.Undo.{ended_in, is_device};
 
 use crate::found::Fetched;
-use crate::hart::{Hart, compare};
-use crate::performed::{Made, PastStep, Stepped};
+use crate::hart::{Hart, compare, trap_before};
+use crate::performed::{Interrupted, Made, PastStep, Stepped};
 use device_bus::{Bus, Device};
 use fsim_base::{Access, Halt, NoMemory, RamRange, Width};
 use machine_csr::Csrs;
@@ -106,7 +106,9 @@ impl<D: Device> Contents<D> {
     ghost use Rattle.func_model.specs.Contents.{ContentsStandFor, retired_in, output_in};
     ghost use Rattle.func_model.specs.Contents.{after_instruction, before};
     ghost use Rattle.func_model.specs.Undo.{undone, IsRestorable};
-    ghost use Rattle.func_model.specs.History.{step_undone, step_seq, IsMade};
+    ghost use Rattle.func_model.specs.History.{resumed, step_undone, step_seq, IsMade};
+    ghost use Rattle.func_model.specs.Hart.{FetchedFits, found_by};
+    ghost use Rattle.phys_mem.specs.Ram.{exec_of, text_of};
 
     /// Executes the next instruction with a time, and says how it leaves the run.
     fn advance(&mut self, time: u64, limit: u32) -> Stepped
@@ -149,6 +151,29 @@ impl<D: Device> Contents<D> {
         }
         self.hart.trap(TIMER_INTERRUPT, 0);
         1
+    }
+
+    /// Takes a pending timer interrupt, and gives what takes it back, where one was taken.
+    fn take_interrupt(&mut self, time: u64) -> Option<Interrupted>
+        ensures stands { (s : Setup) (a : Arch) → ContentsStandFor s a self.old
+            → ContentsStandFor s (before time a) self.new }
+        ensures back { (s : Setup) (a : Arch) → ContentsStandFor s a self.old
+            → resumed result (before time a) ≡ a }
+        ensures retired { retired_in self.new ≡ retired_in self.old }
+        ensures output { output_in self.new ≡ output_in self.old }
+        ensures room { self.new.hart.room ≡ self.old.hart.room }
+    {
+        if !takes_interrupts(&self.hart.csrs) {
+            return None;
+        }
+        let before = Interrupted {
+            pc: self.hart.pc,
+            trap: trap_before(&self.hart.csrs),
+        };
+        match self.interrupt(time) {
+            0 => None,
+            _ => Some(before),
+        }
     }
 
     /// What is reported of a run that ended so after `made` steps.
@@ -275,8 +300,37 @@ impl<D: Device> Contents<D> {
         ensures restorable { IsRestorable result.1 }
         ensures room { self.new.hart.room ≡ self.old.hart.room }
     {
-        let addr = self.hart.pc;
         let fetched = self.hart.fetch();
+        self.carry_out(fetched, number, epoch, time)
+    }
+
+    /// Executes what was fetched at the next address, with its number, epoch and time or none: what
+    /// is told of it, and what takes it back.
+    #[inline(always)]
+    fn carry_out(
+        &mut self,
+        fetched: Fetched,
+        number: u64,
+        epoch: u64,
+        time: Option<u64>,
+    ) -> (Entry, Past)
+        requires found { found_in fetched
+            ≡ found_by (exec_of self.old.hart.memory) (text_of self.old.hart.memory)
+            self.old.hart.pc }
+        requires fits { FetchedFits fetched }
+        requires count { retired_in self.old < 2 ^ 64 - 1 }
+        requires room { length (output_in self.old) < self.old.hart.room }
+        ensures stands { (s : Setup) (a : Arch) → ContentsStandFor s a self.old
+            → ContentsStandFor s (seq s time a) self.new }
+        ensures entry { (s : Setup) (a : Arch) → ContentsStandFor s a self.old
+            → result.0 ≡ entry_at s time a number epoch }
+        ensures back { (s : Setup) (a : Arch) → ContentsStandFor s a self.old
+            → undone (ram_range s.params) result.1 (seq s time a) ≡ a }
+        ensures number { result.1.number ≡ number }
+        ensures restorable { IsRestorable result.1 }
+        ensures room { self.new.hart.room ≡ self.old.hart.room }
+    {
+        let addr = self.hart.pc;
         let reg = self.hart.before(fetched.destination());
         let room = self.hart.room;
         let done = self.hart.execute(&mut self.bus, fetched, time, room);
@@ -344,14 +398,6 @@ impl<D: Device> Contents<D> {
         self.hart.sync();
     }
 
-    /// Whether the next instruction is a FENCE.I.
-    fn is_at_fence(&self) -> bool
-        ensures fence { (s : Setup) (a : Arch) → ContentsStandFor s a self.now
-            → result ≡ is_fence_i (found_next s a) }
-    {
-        self.hart.fetch().is_fence_i()
-    }
-
     /// Makes one step of a run alone, but for what a FENCE.I lets fetch see: a pending timer
     /// interrupt, then the next instruction, with the step's number as its time. The output's limit
     /// doesn't stop it.
@@ -365,18 +411,17 @@ impl<D: Device> Contents<D> {
         ensures restorable { IsRestorable result.past.instruction }
         ensures room { self.new.hart.room ≡ self.old.hart.room }
     {
-        let (pc, csrs) = (self.hart.pc, self.hart.csrs);
-        self.interrupt(number);
-        let is_fence = self.is_at_fence();
-        let (entry, instruction) = self.step(number, 0, Some(number));
+        let interrupted = self.take_interrupt(number);
+        let fetched = self.hart.fetch();
+        let is_fence = fetched.is_fence_i();
+        let (entry, instruction) = self.carry_out(fetched, number, 0, Some(number));
         Made {
             has_sent: entry.out.is_some(),
             halt: entry.halt,
             is_fence,
             past: PastStep {
                 instruction,
-                pc,
-                csrs,
+                interrupted,
             },
         }
     }
@@ -389,7 +434,9 @@ impl<D: Device> Contents<D> {
         ensures room { self.new.hart.room ≡ self.old.hart.room }
     {
         self.undo(past.instruction);
-        self.hart.pc = past.pc;
-        self.hart.csrs = past.csrs;
+        if let Some(before) = past.interrupted {
+            self.hart.pc = before.pc;
+            self.hart.put_trap(before.trap);
+        }
     }
 }

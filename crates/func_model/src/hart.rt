@@ -5,16 +5,18 @@ ghost use Rattle.mono_model.specs.Found.{is_csr_insn, is_mret_insn};
 ghost use Rattle.mono_model.specs.Result.{attempted, csr_value};
 ghost use Rattle.mono_model.specs.Sequence.{byte_in};
 ghost use Rattle.func_model.specs.Steps.{plain_with};
+ghost use Rattle.func_model.specs.Undo.{csr_back, flags_before, trap_before};
+ghost use Rattle.machine_csr.specs.Csr.{csr_written};
 
 use crate::found::Fetched;
 use crate::performed::{Performed, Stepped};
 use device_bus::{Bus, Device, Note};
 use fsim_base::{Access, Cause, Spot, Width, wrap_add};
-use machine_csr::{Csrs, reads_time};
+use machine_csr::{CsrWrite, Csrs, reads_time};
 use phys_mem::Ram;
 use rv_decode::{Insn, decode};
 use rv_exec::{Outcome, Reach, eval, extend};
-use undo_journal::{Change, OldRegister, Past};
+use undo_journal::{Change, OldCsr, OldRegister, OldTrap, Past};
 
 /// The registers, memory and output of the hart, changed in place by each instruction.
 #[derive(Drop)]
@@ -138,6 +140,59 @@ fn plain(change: Change) -> Performed
     }
 }
 
+/// What a trap changes, as it is before.
+pub fn trap_before(csrs: &Csrs) -> OldTrap
+    ensures before { result ≡ trap_before csrs.now }
+{
+    OldTrap {
+        mie: csrs.mie,
+        mpie: csrs.mpie,
+        mepc: csrs.mepc,
+        mcause: csrs.mcause,
+        mtval: csrs.mtval,
+    }
+}
+
+/// The flags, as they are before.
+fn flags_before(csrs: &Csrs) -> OldCsr
+    ensures before { result ≡ flags_before csrs.now }
+{
+    OldCsr::Flags {
+        mie: csrs.mie,
+        mpie: csrs.mpie,
+        mtie: csrs.mtie,
+    }
+}
+
+/// The addresses of the registers that are put back one by one.
+const MTVEC: u16 = 0x305;
+
+const MSCRATCH: u16 = 0x340;
+
+const MEPC: u16 = 0x341;
+
+const MCAUSE: u16 = 0x342;
+
+const MTVAL: u16 = 0x343;
+
+/// What a write changes, as it is before.
+#[tactic(auto, unfolding(machine_csr::specs::Csr::csr_written, machine_csr::specs::Csr::row_at))]
+fn csr_before(csrs: &Csrs, write: CsrWrite) -> OldCsr
+    ensures back { csr_back result (csr_written write csrs.now) ≡ csrs.now }
+{
+    let CsrWrite::Put { csr, .. } = write else {
+        return flags_before(csrs);
+    };
+    match csr {
+        MTVEC => OldCsr::Mtvec(csrs.mtvec),
+        MSCRATCH => OldCsr::Mscratch(csrs.mscratch),
+        MEPC => OldCsr::Mepc(csrs.mepc),
+        MCAUSE => OldCsr::Mcause(csrs.mcause),
+        MTVAL => OldCsr::Mtval(csrs.mtval),
+        _ => flags_before(csrs),
+    }
+}
+
 impl Hart {
     ghost use Rattle.device_bus.specs.Bus.{Devices};
     ghost use Rattle.fsim_base.specs.Cause.{cause_number};
@@ -160,8 +215,9 @@ impl Hart {
     ghost use Rattle.func_model.specs.Hart.{arch_of};
     ghost use Rattle.func_model.specs.Undo.{undone, TakesBack, IsRestorable, IsRestorableChange};
     ghost use Rattle.func_model.specs.Undo.{IsOfLoad, uncounted, devices_back, changed_back};
-    ghost use Rattle.func_model.specs.Undo.{register_before};
-    ghost use Rattle.undo_journal.specs.declared.past.Change.TheVariants.{System};
+    ghost use Rattle.func_model.specs.Undo.{register_before, trap_back, csr_back, flags_before};
+    ghost use Rattle.fsim_base.specs.declared.access.RamRange.{RamRange};
+    ghost use Rattle.undo_journal.specs.declared.past.Change.TheVariants.{Csr};
 
     /// What stands at the next address.
     #[tactic(auto, unfolding(crate::specs::Hart::found_by))]
@@ -208,20 +264,22 @@ impl Hart {
     #[tactic(auto, unfolding(crate::specs::Hart::arch_of, mono_model::specs::Arch::trapped))]
     fn fail(&mut self, access: Access, cause: Cause, mtval: u32) -> Performed
         ensures done { result ≡ failed_with access cause self.old.csrs }
+        ensures back { (range : RamRange) (d : Devices)
+            → TakesBack range result (arch_of self.old d) (arch_of self.new d) }
         ensures arch { (d : Devices)
             → arch_of self.new d
             ≡ trapped (cause_number cause) mtval self.old.pc (arch_of self.old d) }
         ensures memory { self.new.memory ≡ self.old.memory }
         ensures room { self.new.room ≡ self.old.room }
     {
-        let before = self.csrs;
+        let before = trap_before(&self.csrs);
         self.trap(cause.number(), mtval);
         Performed {
             stepped: Stepped::On,
             sent: None,
             access,
             cause: Some(cause),
-            change: Change::System(before),
+            change: Change::Trap(before),
         }
     }
 
@@ -520,18 +578,19 @@ impl Hart {
             → arch_of self.new d
             ≡ csr_made word insn time (csr_access self.old.csrs insn x (unwrap_or time 0) cmp)
             (arch_of self.old d) }
-        ensures change { result.change ≡ System self.old.csrs }
+        ensures back { (range : RamRange) (d : Devices)
+            → TakesBack range result (arch_of self.old d) (arch_of self.new d) }
         ensures memory { self.new.memory ≡ self.old.memory }
         ensures room { self.new.room ≡ self.old.room }
     {
         match self.csrs.access(insn, x, time.unwrap_or(0), cmp) {
             None => self.fail(Access::Nothing, Cause::IllegalInstruction, word),
             Some((value, write)) => {
-                let before = self.csrs;
+                let before = csr_before(&self.csrs, write);
                 self.csrs.apply(write);
                 let next = wrap_add(self.pc, 4);
                 self.finish(insn.dest(), csr_value(insn, time, value), next);
-                plain(Change::System(before))
+                plain(Change::Csr(before))
             }
         }
     }
@@ -540,15 +599,17 @@ impl Hart {
     #[tactic(auto, unfolding(crate::specs::Hart::arch_of))]
     fn leave(&mut self) -> Performed
         requires count { self.old.csrs.retired < 2 ^ 64 - 1 }
-        ensures done { result ≡ plain_with (System self.old.csrs) }
+        ensures done { result ≡ plain_with (Csr (flags_before self.old.csrs)) }
+        ensures back { (range : RamRange) (d : Devices)
+            → TakesBack range result (arch_of self.old d) (arch_of self.new d) }
         ensures arch { (d : Devices) → arch_of self.new d ≡ mret_made (arch_of self.old d) }
         ensures memory { self.new.memory ≡ self.old.memory }
         ensures room { self.new.room ≡ self.old.room }
     {
-        let before = self.csrs;
+        let before = flags_before(&self.csrs);
         let next = self.csrs.leave();
         self.finish(None, 0, next);
-        plain(Change::System(before))
+        plain(Change::Csr(before))
     }
 
     /// Executes an instruction with a time or none and an output limit.
@@ -640,15 +701,21 @@ impl Hart {
         self.memory.sync();
     }
 
-    /// The register that an instruction writes, if any, as it is before.
-    pub fn before(&self, destination: Option<u8>) -> Option<OldRegister>
+    /// The register that an instruction writes, as it is before; x0 where it writes none.
+    pub fn before(&self, destination: Option<u8>) -> OldRegister
         requires exists { IsDestination destination }
         ensures before { result ≡ register_before destination (λ r. slice_index self.now.regs r) }
     {
-        destination.map(|register| OldRegister {
-            register,
-            value: self.regs[register as usize],
-        })
+        match destination {
+            None => OldRegister {
+                register: 0,
+                value: self.regs[0],
+            },
+            Some(register) => OldRegister {
+                register,
+                value: self.regs[register as usize],
+            },
+        }
     }
 
     /// Takes back what an instruction changed beside its register and the output.
@@ -671,7 +738,40 @@ impl Hart {
                 bus.undo(device, undo);
                 self.uncount();
             }
-            Change::System(before) => self.csrs = before,
+            Change::Trap(before) => self.put_trap(before),
+            Change::Csr(before) => {
+                self.put_csr(before);
+                self.uncount();
+            }
+        }
+    }
+
+    /// Puts back what a trap changed of the control and status registers.
+    pub fn put_trap(&mut self, before: OldTrap)
+        ensures put { self.new ≡ record self.old { csrs = trap_back before self.old.csrs } }
+    {
+        self.csrs.mie = before.mie;
+        self.csrs.mpie = before.mpie;
+        self.csrs.mepc = before.mepc;
+        self.csrs.mcause = before.mcause;
+        self.csrs.mtval = before.mtval;
+    }
+
+    /// Puts back what an instruction changed of the control and status registers.
+    fn put_csr(&mut self, before: OldCsr)
+        ensures put { self.new ≡ record self.old { csrs = csr_back before self.old.csrs } }
+    {
+        match before {
+            OldCsr::Flags { mie, mpie, mtie } => {
+                self.csrs.mie = mie;
+                self.csrs.mpie = mpie;
+                self.csrs.mtie = mtie;
+            }
+            OldCsr::Mtvec(old) => self.csrs.mtvec = old,
+            OldCsr::Mscratch(old) => self.csrs.mscratch = old,
+            OldCsr::Mepc(old) => self.csrs.mepc = old,
+            OldCsr::Mcause(old) => self.csrs.mcause = old,
+            OldCsr::Mtval(old) => self.csrs.mtval = old,
         }
     }
 
@@ -695,9 +795,7 @@ impl Hart {
         if past.out {
             self.output.truncate(self.output.len().saturating_sub(1));
         }
-        if let Some(was) = past.reg {
-            self.regs[was.register as usize] = was.value;
-        }
+        self.regs[past.reg.register as usize] = past.reg.value;
         self.pc = past.addr;
         self.take_back(bus, past.change);
     }

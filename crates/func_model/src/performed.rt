@@ -1,6 +1,5 @@
 use fsim_base::{Access, Cause, Halt};
-use machine_csr::Csrs;
-use undo_journal::{Change, Past};
+use undo_journal::{Change, OldTrap, Past};
 
 /// How an instruction leaves the run.
 #[derive(Clone, Copy, Debug, PartialEq, Eq)]
@@ -27,15 +26,20 @@ pub struct Performed {
     pub change: Change,
 }
 
+/// What a timer interrupt changes, as it was before.
+#[derive(Clone, Copy, Debug, PartialEq, Eq)]
+pub struct Interrupted {
+    pub pc: u32,
+    pub trap: OldTrap,
+}
+
 /// What takes one step of a run alone back.
 #[derive(Clone, Copy, Debug, PartialEq, Eq)]
 pub struct PastStep {
     /// What takes its instruction back, to where its interrupt left off.
     pub instruction: Past,
-    /// The next address before the step.
-    pub pc: u32,
-    /// The control and status registers before the step, which a timer interrupt changes first.
-    pub csrs: Csrs,
+    /// What takes its timer interrupt back, where one was taken.
+    pub interrupted: Option<Interrupted>,
 }
 
 /// What one step of a run alone did.

@@ -39,7 +39,7 @@ impl<D: Device> Walk<D> {
     ghost use Rattle.mono_model.specs.Setup.{is_setup};
     ghost use Rattle.mono_model.specs.Path.{path, entry};
     ghost use Rattle.mono_model.specs.Demand.{number_of};
-    ghost use Rattle.func_model.specs.Walk.{IsOnPath, WalkStandsFor, IsOnSomePath, CanReach};
+    ghost use Rattle.func_model.specs.Walk.{IsOnPath, WalkStandsFor, IsOnSomePath, CanGoTo};
     ghost use Rattle.func_model.specs.Walk.{IsOver, IsSameBut, IsStanding, IsFresh, IsMoved};
     ghost use Rattle.func_model.specs.Walk.{IsForward, IsAtRest, IsProduced, IsObeyed, HasRoom};
     ghost use Rattle.func_model.specs.Walk.{bytes_before, given_at};
@@ -137,10 +137,7 @@ impl<D: Device> Walk<D> {
 
     /// Goes to instruction `n`, backwards by undoing or forwards by executing.
     fn go_to(&mut self, n: u64)
-        requires reach { CanReach n self.old }
-        requires from { self.old.committed ≤ n }
-        requires room { n ≤ self.old.committed + self.old.journal.room }
-        requires bounded { n < 2 ^ 63 }
+        requires able { CanGoTo n self.old }
         ensures holds { (s : RunSetup) (os : List SpecOrder) → WalkStandsFor s os self.old
             → IsOnPath s os self.new }
         ensures position { self.new.position ≡ n }
@@ -169,10 +166,7 @@ impl<D: Device> Walk<D> {
 
     /// Instruction `n` stands at `addr`.
     fn set(&mut self, n: u64, addr: u32)
-        requires reach { CanReach n self.old }
-        requires from { self.old.committed ≤ n }
-        requires room { n ≤ self.old.committed + self.old.journal.room }
-        requires bounded { n < 2 ^ 63 }
+        requires able { CanGoTo n self.old }
         requires epoch { self.old.epoch < 2 ^ 63 }
         ensures stands { (s : RunSetup) (os : List SpecOrder) → WalkStandsFor s os self.old
             → WalkStandsFor s (Set n addr ∷ os) self.new }
@@ -185,10 +179,7 @@ impl<D: Device> Walk<D> {
 
     /// The timer interrupt is taken before instruction `n`, and committed.
     fn interrupt(&mut self, n: u64)
-        requires reach { CanReach n self.old }
-        requires from { self.old.committed ≤ n }
-        requires room { n ≤ self.old.committed + self.old.journal.room }
-        requires bounded { n < 2 ^ 63 }
+        requires able { CanGoTo n self.old }
         requires epoch { self.old.epoch < 2 ^ 63 }
         requires within { bytes_before self.old n ≤ self.old.limit }
         ensures stands { (s : RunSetup) (os : List SpecOrder) → WalkStandsFor s os self.old
@@ -204,10 +195,7 @@ impl<D: Device> Walk<D> {
 
     /// Instruction `n` is given a time.
     fn serve(&mut self, n: u64, time: u64)
-        requires reach { CanReach n self.old }
-        requires from { self.old.committed ≤ n }
-        requires room { n ≤ self.old.committed + self.old.journal.room }
-        requires bounded { n < 2 ^ 63 }
+        requires able { CanGoTo n self.old }
         requires epoch { self.old.epoch < 2 ^ 63 }
         ensures stands { (s : RunSetup) (os : List SpecOrder) → WalkStandsFor s os self.old
             → WalkStandsFor s (Time n time ∷ os) self.new }
@@ -220,10 +208,7 @@ impl<D: Device> Walk<D> {
 
     /// The run has ended before instruction `n`.
     fn stop(&mut self, n: u64)
-        requires reach { CanReach n self.old }
-        requires from { self.old.committed ≤ n }
-        requires room { n ≤ self.old.committed + self.old.journal.room }
-        requires bounded { n < 2 ^ 63 }
+        requires able { CanGoTo n self.old }
         requires epoch { self.old.epoch < 2 ^ 63 }
         ensures stands { (s : RunSetup) (os : List SpecOrder) → WalkStandsFor s os self.old
             → WalkStandsFor s (Stop n ∷ os) self.new }
@@ -236,10 +221,7 @@ impl<D: Device> Walk<D> {
 
     /// Fetch sees memory as it stands before instruction `n`, which is committed.
     fn sync(&mut self, n: u64)
-        requires reach { CanReach n self.old }
-        requires from { self.old.committed ≤ n }
-        requires room { n ≤ self.old.committed + self.old.journal.room }
-        requires bounded { n < 2 ^ 63 }
+        requires able { CanGoTo n self.old }
         requires epoch { self.old.epoch < 2 ^ 63 }
         requires within { bytes_before self.old n ≤ self.old.limit }
         ensures stands { (s : RunSetup) (os : List SpecOrder) → WalkStandsFor s os self.old

@@ -5,7 +5,7 @@ mod journal;
 mod past;
 
 pub use journal::Journal;
-pub use past::{Change, OldRegister, Past};
+pub use past::{Change, OldCsr, OldRegister, OldTrap, Past};
 
 #[cfg(test)]
 mod tests;

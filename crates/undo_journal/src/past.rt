@@ -1,6 +1,5 @@
 use device_bus::DevUndo;
 use fsim_base::Width;
-use machine_csr::Csrs;
 
 /// The value of a register before an instruction that writes it.
 #[derive(Clone, Copy, Debug, PartialEq, Eq)]
@@ -18,9 +17,32 @@ pub enum Change {
     Memory { addr: u32, width: Width, old: u32 },
     /// That count, and the device at this place on the bus.
     Device { device: u32, undo: DevUndo },
-    /// The control and status registers, which were these before: an instruction of theirs, or a
-    /// trap.
-    System(Csrs),
+    /// What a trap changes of the control and status registers.
+    Trap(OldTrap),
+    /// That count, and what an instruction for control and status registers changes of them.
+    Csr(OldCsr),
+}
+
+/// What a trap changes of the control and status registers, as it was before.
+#[derive(Clone, Copy, Debug, PartialEq, Eq)]
+pub struct OldTrap {
+    pub mie: bool,
+    pub mpie: bool,
+    pub mepc: u32,
+    pub mcause: u32,
+    pub mtval: u32,
+}
+
+/// What an instruction for control and status registers changes of them, as it was before.
+#[derive(Clone, Copy, Debug, PartialEq, Eq)]
+pub enum OldCsr {
+    /// Flags of mstatus and of the register mie, or nothing.
+    Flags { mie: bool, mpie: bool, mtie: bool },
+    Mtvec(u32),
+    Mscratch(u32),
+    Mepc(u32),
+    Mcause(u32),
+    Mtval(u32),
 }
 
 /// What restores the state before one instruction.
@@ -32,7 +54,8 @@ pub struct Past {
     pub addr: u32,
     /// Whether it sent a byte to the output.
     pub out: bool,
-    /// The register that it writes, if it has one, with its value before, also where it traps.
-    pub reg: Option<OldRegister>,
+    /// The register that it writes, with its value before, also where it traps; x0 where it has
+    /// none.
+    pub reg: OldRegister,
     pub change: Change,
 }

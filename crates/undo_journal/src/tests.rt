@@ -1,14 +1,13 @@
 ghost use Rattle.std.specs.Prelude.{◌≡◌, ◌+◌, ◌<◌, length, All};
 
-use crate::{Change, Journal, OldRegister, Past};
+use crate::{Change, Journal, OldCsr, OldRegister, OldTrap, Past};
 use device_bus::DevUndo;
 use fsim_base::Width;
-use machine_csr::Csrs;
 use std::test::Fail;
 
-/// What a step changed: one of the four kinds in turn.
+/// What a step changed: one of the five kinds in turn.
 fn change(number: u64) -> Change {
-    match number % 4 {
+    match number % 5 {
         0 => Change::Nothing,
         1 => Change::Memory {
             addr: 0x8000_1000,
@@ -22,7 +21,14 @@ fn change(number: u64) -> Change {
                 old: 0x3333_3333,
             },
         },
-        _ => Change::System(Csrs::new()),
+        3 => Change::Trap(OldTrap {
+            mie: true,
+            mpie: false,
+            mepc: 0x8000_0020,
+            mcause: 11,
+            mtval: 0x4444_4444,
+        }),
+        _ => Change::Csr(OldCsr::Mtvec(0x8000_0040)),
     }
 }
 
@@ -33,10 +39,10 @@ fn past(number: u64) -> Past
     Past {
         number,
         addr: 0x8000_0010,
-        reg: Some(OldRegister {
+        reg: OldRegister {
             register: 5,
             value: 0x1111_1111,
-        }),
+        },
         change: change(number),
         out: number % 2 == 0,
     }

@@ -1,22 +1,26 @@
-use Rattle.std.proofs.Common.{Some, refl, ap}
-use Rattle.mono_model.specs.Arch.{Arch}
-use Rattle.func_model.specs.Hart.{arch_of}
+use Rattle.std.proofs.Common.{Some, refl, ap, ◌∙◌}
+use Rattle.mono_model.specs.Found.{is_fence_i}
+use Rattle.phys_mem.specs.Ram.{exec_of}
+use Rattle.func_model.specs.Hart.{arch_of, found_in}
 use Rattle.func_model.specs.Contents.{before}
+use Rattle.func_model.proofs.Advance.{met_found}
 use Rattle.func_model.proofs.Unmaking.{made_is}
 use Rattle.func_model.proofs.contents.Contents.make.Goals as goal
 
 pub returns-clause-stands : goal.returns-clause-stands
-returns-clause-stands g c = λ s a h. c.step.ensures.stands s (before c.args.number a) (c.interrupt.ensures.stands s a h)
+returns-clause-stands g c = λ s a h. c.carry_out.ensures.stands s (before c.args.number a) (c.take_interrupt-interrupted.ensures.stands s a h)
 
 pub returns-clause-made : goal.returns-clause-made
 unfolding arch_of
 returns-clause-made g c = λ s a h.
-    let ready = c.interrupt.ensures.stands s a h in
-    made_is s c.args.number a c.step.result.0 _
-    (c.step.ensures.entry s (before c.args.number a) ready)
+    let ready = c.take_interrupt-interrupted.ensures.stands s a h in
+    let side = c.take_interrupt-interrupted.new.self in
+    made_is s c.args.number a c.carry_out.result.0 _
+    (c.carry_out.ensures.entry s (before c.args.number a) ready)
     c.is_some.ensures
     refl
-    (c.is_at_fence-is_fence.ensures.fence s (before c.args.number a) ready)
-    (c.step.ensures.back s (before c.args.number a) ready)
-    (ap (λ (x : Arch). x.pc) h.arch)
-    (ap (λ (x : Arch). x.csrs) h.arch)
+    (c.is_fence_i-is_fence.ensures.fence
+    ∙ ap is_fence_i
+    (met_found s (exec_of side.hart.memory) (found_in c.fetch-fetched.result) (arch_of side.hart side.bus) (before c.args.number a) ready.exec ready.arch c.fetch-fetched.ensures.found))
+    (c.carry_out.ensures.back s (before c.args.number a) ready)
+    (c.take_interrupt-interrupted.ensures.back s a h)

@@ -38,3 +38,9 @@ returns-in-Unknown-clause-arch g c =
     rw c.in-Unknown.is
     (c.fail-in-Unknown.ensures.arch c.args.bus.now
     ∙ sym (unknown_behind (range_of c.args.self.now.memory) c.args.limit c.args.time c.in-Unknown.word (arch_of c.args.self.now c.args.bus.now)))
+
+pub returns-in-Refused-clause-back : goal.returns-in-Refused-clause-back
+returns-in-Refused-clause-back g c = c.fail.ensures.back (range_of c.args.self.now.memory) c.args.bus.now
+
+pub returns-in-Unknown-clause-back : goal.returns-in-Unknown-clause-back
+returns-in-Unknown-clause-back g c = c.fail-in-Unknown.ensures.back (range_of c.args.self.now.memory) c.args.bus.now

@@ -1,4 +1,5 @@
-use Rattle.std.proofs.Common.{◌≡◌, ap, sym, ◌∙◌}
+use Rattle.std.proofs.Common.{◌≡◌, ap, sym, subst, ◌∙◌}
+use Rattle.func_model.specs.Undo.{TakesBack}
 use Rattle.phys_mem.specs.Ram.{ram_of, range_of}
 use Rattle.mono_model.specs.Arch.{Arch}
 use Rattle.mono_model.specs.Effect.{counted}
@@ -29,3 +30,10 @@ returns-in-Some-clause-back g c =
     load_back (range_of c.args.self.now.memory) c.read-read.result.change _ (arch_of c.args.self.now c.args.bus.now) (arch_of c.finish.new.self c.read-read.new.bus)
     (ap (λ (d : Performed). d.change) c.plain.ensures.done) c.read-read.ensures.of_load
     (ap ram_of c.finish.ensures.memory ∙ ap (λ (h : Hart). ram_of h.memory) c.read-read.ensures.same) c.read-read.ensures.back counts c.read-read.ensures.exists
+
+pub returns-in-None-clause-back : goal.returns-in-None-clause-back
+returns-in-None-clause-back g c =
+    let range = range_of c.args.self.now.memory in
+    let P : Arch → Type 0 = λ x. TakesBack range c.fail.result x (arch_of c.fail.new.self c.read-read.new.bus) in
+    let devices = c.read-read.ensures.devices ∙ read_none range c.args.access.addr c.args.access.width c.read-read.result.raw c.args.bus.now c.in-None.is in
+    subst P (ap (λ (h : Hart). arch_of h c.read-read.new.bus) c.read-read.ensures.same ∙ ap (arch_of c.args.self.now) devices) (c.fail.ensures.back range c.read-read.new.bus)

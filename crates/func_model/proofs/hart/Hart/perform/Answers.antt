@@ -2,7 +2,8 @@ use Rattle.std.proofs.Common.{slice_index, ap, sym, ◌∙◌}
 use Rattle.machine_csr.specs.Trap.{return_address}
 use Rattle.mono_model.specs.Arch.{register_value}
 use Rattle.phys_mem.specs.Ram.{range_of}
-use Rattle.undo_journal.specs.declared.past.Change.TheVariants.{System}
+use Rattle.undo_journal.specs.declared.past.Change.TheVariants.{Csr}
+use Rattle.func_model.specs.Undo.{flags_before}
 use Rattle.func_model.specs.Hart.{arch_of}
 use Rattle.func_model.proofs.Concluded.{told_same, told_plain}
 use Rattle.func_model.proofs.Effects.{evaluated_behind, evaluated_result}
@@ -28,7 +29,7 @@ pub returns-then-is_mret-clause-told : goal.returns-then-is_mret-clause-told
 returns-then-is_mret-clause-told g c =
     told_same c.args.limit _ _ (arch_of c.args.self.now c.args.bus.now) c.leave.result
     (sym (mret_result_of (range_of c.args.self.now.memory) c.args.word c.args.insn c.args.time (arch_of c.args.self.now c.args.bus.now) (sym c.is_mret.ensures.mret ∙ c.if-is_mret.true)))
-    (told_plain c.args.limit 0 (return_address (arch_of c.args.self.now c.args.bus.now).csrs) (System c.args.self.now.csrs) (arch_of c.args.self.now c.args.bus.now) c.leave.result c.leave.ensures.done)
+    (told_plain c.args.limit 0 (return_address (arch_of c.args.self.now c.args.bus.now).csrs) (Csr (flags_before c.args.self.now.csrs)) (arch_of c.args.self.now c.args.bus.now) c.leave.result c.leave.ensures.done)
 
 pub returns-then-is_mret-clause-arch : goal.returns-then-is_mret-clause-arch
 returns-then-is_mret-clause-arch g c =
@@ -56,3 +57,9 @@ returns-clause-arch g c =
     (c.operand-x.ensures.value ∙ ap (λ s. register_value (λ r. slice_index c.args.self.now.regs r) s.0) c.sources-first.ensures.registers)
     (c.operand-y.ensures.value ∙ ap (λ s. register_value (λ r. slice_index c.args.self.now.regs r) s.1) c.sources-first.ensures.registers)
     c.reach.ensures.arch
+
+pub returns-then-is_csr-clause-back : goal.returns-then-is_csr-clause-back
+returns-then-is_csr-clause-back g c = c.access_csr.ensures.back (range_of c.args.self.now.memory) c.args.bus.now
+
+pub returns-then-is_mret-clause-back : goal.returns-then-is_mret-clause-back
+returns-then-is_mret-clause-back g c = c.leave.ensures.back (range_of c.args.self.now.memory) c.args.bus.now

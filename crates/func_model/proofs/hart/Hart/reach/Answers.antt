@@ -24,3 +24,6 @@ unfolding arch_of
 returns-in-Nothing-clause-back g c =
     plain_back (range_of c.args.self.now.memory) _ (arch_of c.args.self.now c.args.bus.now) (arch_of c.finish.new.self c.args.bus.now)
     (ap (λ (d : Performed). d.change) c.plain.ensures.done) (ap ram_of c.finish.ensures.memory) refl (ap (λ (x : Arch). x.csrs) (c.finish.ensures.arch c.args.bus.now))
+
+pub returns-in-Some-clause-back : goal.returns-in-Some-clause-back
+returns-in-Some-clause-back g c = c.fail.ensures.back (range_of c.args.self.now.memory) c.args.bus.now

@@ -1,4 +1,4 @@
-use Rattle.std.proofs.Common.{rules, ◌≡◌, is_some, true, false, Some, None, refl, ap, ◌∙◌}
+use Rattle.std.proofs.Common.{rules, ◌≡◌, is_some, true, false, Some, None, refl, ap, subst, ◌∙◌}
 use Rattle.undo_journal.specs.declared.past.Change.TheVariants.{Memory, Device}
 use Rattle.device_bus.specs.Bus.{find_of}
 use Rattle.mono_model.specs.Arch.{Arch, trapped}
@@ -6,7 +6,7 @@ use Rattle.phys_mem.specs.Ram.{ram_of, range_of, loaded}
 use Rattle.func_model.specs.Hart.{arch_of}
 use Rattle.func_model.specs.Steps.{concluded}
 use Rattle.func_model.specs.declared.performed.Performed.{Performed}
-use Rattle.func_model.specs.Undo.{memory_back, devices_back, IsRestorableChange}
+use Rattle.func_model.specs.Undo.{memory_back, devices_back, IsRestorableChange, TakesBack}
 use Rattle.func_model.proofs.TakenBack.{stored_back, concluded_back}
 use Rattle.func_model.proofs.Stores.{is_accepted, is_refused, store_ram, store_device, store_none, unstored}
 use Rattle.func_model.proofs.hart.Hart.store.Goals as goal
@@ -65,3 +65,21 @@ returns-clause-back g c =
       csrs = concluded_back c.args.limit c.args.access.next c.store-note.result.0 c.conclude.result _ _ c.conclude.ensures.stepped (c.conclude.ensures.arch c.store-note.new.self);
       exists = exists;
     }
+
+pub returns-in_default-find-clause-back : goal.returns-in_default-find-clause-back
+unfolding arch_of
+returns-in_default-find-clause-back g c =
+    let range = range_of c.args.self.now.memory in
+    let none : is_some (loaded range (ram_of c.args.self.now.memory) c.args.access.addr c.args.access.width) ≡ false = search rules in
+    let P : Arch → Type 0 = λ x. TakesBack range c.fail.result x (arch_of c.fail.new.self c.args.bus.now) in
+    subst P (unstored range c.args.access.addr c.args.access.width c.args.access.value (arch_of c.args.self.now c.args.bus.now) _ _ none c.set.ensures.ram c.set.ensures.text)
+    (c.fail.ensures.back range c.args.bus.now)
+
+pub returns-then-not-place-clause-back : goal.returns-then-not-place-clause-back
+unfolding arch_of
+returns-then-not-place-clause-back g c =
+    let range = range_of c.args.self.now.memory in
+    let none : is_some (loaded range (ram_of c.args.self.now.memory) c.args.access.addr c.args.access.width) ≡ false = search rules in
+    let P : Arch → Type 0 = λ x. TakesBack range c.fail-then-not-place.result x (arch_of c.fail-then-not-place.new.self c.args.bus.now) in
+    subst P (unstored range c.args.access.addr c.args.access.width c.args.access.value (arch_of c.args.self.now c.args.bus.now) _ _ none c.set.ensures.ram c.set.ensures.text)
+    (c.fail-then-not-place.ensures.back range c.args.bus.now)

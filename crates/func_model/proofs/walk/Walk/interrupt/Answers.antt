@@ -8,7 +8,7 @@ use Rattle.func_model.proofs.walk.Walk.interrupt.Goals as goal
 
 pub returns-clause-stands : goal.returns-clause-stands
 returns-clause-stands g c = λ s os h.
-    let done = c.commit.ensures.holds s os (c.go_to.ensures.holds s os h) (within_path s os c.args.self.now c.args.n h c.requires.reach.running c.requires.from c.requires.within) in
+    let done = c.commit.ensures.holds s os (c.go_to.ensures.holds s os h) (within_path s os c.args.self.now c.args.n h c.requires.able.reach.running c.requires.able.from c.requires.within) in
     let here = committed_position c.go_to.new.self c.commit.new.self c.args.n c.commit.ensures.others ∙ c.go_to.ensures.position in
     stands_at_number s _ os c.args.n _
     (settled_holds s _ os c.args.n (interrupted (path s os c.args.n)) c.commit.new.self c.interrupted.new.self None done (settles_interrupt s c.args.n os)

@@ -4,7 +4,7 @@ use Rattle.rollback_cmds.specs.declared.order.Order.TheVariants.{Set, Interrupt,
 use Rattle.func_model.specs.declared.walk.Walk.{Walk}
 use Rattle.func_model.specs.Walk.{WalkStandsFor}
 use Rattle.func_model.proofs.Bending.{commit_stands, commit_from, commit_within, commit_obeyed, committed_position, within_path}
-use Rattle.func_model.proofs.Reaching.{order_reach, commit_running}
+use Rattle.func_model.proofs.Reaching.{order_goes, commit_running}
 use Rattle.func_model.proofs.walk.Walk.obey.Goals as goal
 
 pub returns-in-Commit-clause-stands : goal.returns-in-Commit-clause-stands
@@ -20,17 +20,17 @@ pub returns-in-Commit-clause-moved : goal.returns-in-Commit-clause-moved
 returns-in-Commit-clause-moved g c =
     commit_obeyed c.args.order c.in-Commit.n c.args.self.now c.commit.new.self c.in-Commit.is c.commit.ensures.others c.commit.ensures.room
 
-pub set-requires-clause-reach : goal.set-requires-clause-reach
-set-requires-clause-reach g c = order_reach c.args.order (Set c.in-Set.n c.in-Set.addr) c.args.self.now c.in-Set.is c.requires.able c.requires.from c.requires.reach
+pub set-requires-clause-able : goal.set-requires-clause-able
+set-requires-clause-able g c = order_goes c.args.order (Set c.in-Set.n c.in-Set.addr) c.args.self.now c.in-Set.is c.requires.able c.requires.from c.requires.reach c.requires.room c.requires.bounded
 
-pub interrupt-requires-clause-reach : goal.interrupt-requires-clause-reach
-interrupt-requires-clause-reach g c = order_reach c.args.order (Interrupt c.in-Interrupt.n) c.args.self.now c.in-Interrupt.is c.requires.able c.requires.from c.requires.reach
+pub interrupt-requires-clause-able : goal.interrupt-requires-clause-able
+interrupt-requires-clause-able g c = order_goes c.args.order (Interrupt c.in-Interrupt.n) c.args.self.now c.in-Interrupt.is c.requires.able c.requires.from c.requires.reach c.requires.room c.requires.bounded
 
-pub serve-requires-clause-reach : goal.serve-requires-clause-reach
-serve-requires-clause-reach g c = order_reach c.args.order (Time c.in-Time.n c.in-Time.v) c.args.self.now c.in-Time.is c.requires.able c.requires.from c.requires.reach
+pub serve-requires-clause-able : goal.serve-requires-clause-able
+serve-requires-clause-able g c = order_goes c.args.order (Time c.in-Time.n c.in-Time.v) c.args.self.now c.in-Time.is c.requires.able c.requires.from c.requires.reach c.requires.room c.requires.bounded
 
-pub stop-requires-clause-reach : goal.stop-requires-clause-reach
-stop-requires-clause-reach g c = order_reach c.args.order (Stop c.in-Stop.n) c.args.self.now c.in-Stop.is c.requires.able c.requires.from c.requires.reach
+pub stop-requires-clause-able : goal.stop-requires-clause-able
+stop-requires-clause-able g c = order_goes c.args.order (Stop c.in-Stop.n) c.args.self.now c.in-Stop.is c.requires.able c.requires.from c.requires.reach c.requires.room c.requires.bounded
 
-pub sync-requires-clause-reach : goal.sync-requires-clause-reach
-sync-requires-clause-reach g c = order_reach c.args.order (Sync c.in-Sync.n) c.args.self.now c.in-Sync.is c.requires.able c.requires.from c.requires.reach
+pub sync-requires-clause-able : goal.sync-requires-clause-able
+sync-requires-clause-able g c = order_goes c.args.order (Sync c.in-Sync.n) c.args.self.now c.in-Sync.is c.requires.able c.requires.from c.requires.reach c.requires.room c.requires.bounded

@@ -12,17 +12,17 @@ use Rattle.func_model.proofs.Advance.{met_found}
 use Rattle.func_model.proofs.Compared.{compare_kept, compare_in, compare_for}
 use Rattle.func_model.proofs.Undone.{fetched_exists}
 use Rattle.func_model.proofs.Stepping.{Executed, executed_at, executed_seq, entry_told, back_from}
-use Rattle.func_model.proofs.contents.Contents.step.Given as given
-use Rattle.func_model.proofs.contents.Contents.step.Goals as goal
+use Rattle.func_model.proofs.contents.Contents.carry_out.Given as given
+use Rattle.func_model.proofs.contents.Contents.carry_out.Goals as goal
 
 -- the instruction as it was executed at the state that the contents stand for
 executed : (g : given.Over) (c : goal.After-is_some g) (s : Setup) (a : Arch) → ContentsStandFor s a c.args.self.now →
-    Executed s c.args.time c.args.self.now.hart.room a (found_in c.fetch-fetched.result) c.execute-done.result (arch_of c.execute-done.new.self c.execute-done.new.bus)
+    Executed s c.args.time c.args.self.now.hart.room a (found_in c.args.fetched) c.execute-done.result (arch_of c.execute-done.new.self c.execute-done.new.bus)
 unfolding arch_of
 executed g c s a h =
-    executed_at s c.args.time c.args.self.now.hart.room (range_of c.args.self.now.hart.memory) (found_in c.fetch-fetched.result) (arch_of c.args.self.now.hart c.args.self.now.bus) a
+    executed_at s c.args.time c.args.self.now.hart.room (range_of c.args.self.now.hart.memory) (found_in c.args.fetched) (arch_of c.args.self.now.hart c.args.self.now.bus) a
     (arch_of c.execute-done.new.self c.execute-done.new.bus) c.execute-done.result h.arch h.range
-    (met_found s (exec_of c.args.self.now.hart.memory) (found_in c.fetch-fetched.result) (arch_of c.args.self.now.hart c.args.self.now.bus) a h.exec h.arch c.fetch-fetched.ensures.found)
+    (met_found s (exec_of c.args.self.now.hart.memory) (found_in c.args.fetched) (arch_of c.args.self.now.hart c.args.self.now.bus) a h.exec h.arch c.requires.found)
     c.execute-done.ensures.told c.execute-done.ensures.arch c.requires.room
 
 -- mtimecmp behind it
@@ -35,7 +35,7 @@ compared g c s a h =
 -- the undo step, whole
 past_is : (g : given.Over) (c : goal.After-is_some g) →
     (record { number = c.args.number; addr = c.args.self.now.hart.pc; reg = c.before-reg.result; change = c.execute-done.result.change; out = c.is_some.result })
-    ≡ past_of c.args.number (found_in c.fetch-fetched.result) (arch_of c.args.self.now.hart c.args.self.now.bus) c.execute-done.result
+    ≡ past_of c.args.number (found_in c.args.fetched) (arch_of c.args.self.now.hart c.args.self.now.bus) c.execute-done.result
 unfolding arch_of
 past_is g c = λ i. record {
   number = c.args.number;
@@ -48,7 +48,7 @@ past_is g c = λ i. record {
 pub returns-clause-stands : goal.returns-clause-stands
 unfolding arch_of
 returns-clause-stands g c = λ s a h.
-    let made = executed_seq s c.args.time c.args.self.now.hart.room a (found_in c.fetch-fetched.result) c.execute-done.result (arch_of c.execute-done.new.self c.execute-done.new.bus) (executed g c s a h) in
+    let made = executed_seq s c.args.time c.args.self.now.hart.room a (found_in c.args.fetched) c.execute-done.result (arch_of c.execute-done.new.self c.execute-done.new.bus) (executed g c s a h) in
     record {
       arch = made;
       exec = c.execute-done.ensures.exec ∙ h.exec;
@@ -59,11 +59,11 @@ returns-clause-stands g c = λ s a h.
 pub returns-clause-back : goal.returns-clause-back
 unfolding arch_of
 returns-clause-back g c = λ s a h.
-    back_from s c.args.time c.args.self.now.hart.room c.args.number (range_of c.args.self.now.hart.memory) (found_in c.fetch-fetched.result)
-    (result_of (range_of c.args.self.now.hart.memory) (found_in c.fetch-fetched.result) c.args.time (arch_of c.args.self.now.hart c.args.self.now.bus))
+    back_from s c.args.time c.args.self.now.hart.room c.args.number (range_of c.args.self.now.hart.memory) (found_in c.args.fetched)
+    (result_of (range_of c.args.self.now.hart.memory) (found_in c.args.fetched) c.args.time (arch_of c.args.self.now.hart c.args.self.now.bus))
     (arch_of c.args.self.now.hart c.args.self.now.bus) a (arch_of c.execute-done.new.self c.execute-done.new.bus) c.execute-done.result _ h.arch h.range (past_is g c)
     c.execute-done.ensures.told c.execute-done.ensures.arch c.execute-done.ensures.back c.requires.room
-    (executed_seq s c.args.time c.args.self.now.hart.room a (found_in c.fetch-fetched.result) c.execute-done.result (arch_of c.execute-done.new.self c.execute-done.new.bus) (executed g c s a h))
+    (executed_seq s c.args.time c.args.self.now.hart.room a (found_in c.args.fetched) c.execute-done.result (arch_of c.execute-done.new.self c.execute-done.new.bus) (executed g c s a h))
 
 pub returns-clause-entry : goal.returns-clause-entry
 unfolding arch_of
@@ -72,12 +72,12 @@ returns-clause-entry g c = λ s a h.
       number = c.args.number;
       epoch = c.args.epoch;
       addr = a.pc;
-      word = word_in (found_in c.fetch-fetched.result);
+      word = word_in (found_in c.args.fetched);
       access = c.execute-done.result.access;
       next = c.execute-done.new.self.pc;
       cause = c.execute-done.result.cause;
-      class = class_in (found_in c.fetch-fetched.result);
-      unserved = is_time_read (found_in c.fetch-fetched.result) c.execute-done.result.access && is_none c.args.time;
+      class = class_in (found_in c.args.fetched);
+      unserved = is_time_read (found_in c.args.fetched) c.execute-done.result.access && is_none c.args.time;
       out = c.execute-done.result.sent;
       halt = ended_in c.execute-done.result.stepped;
       irq_on = c.execute-done.new.self.csrs.mie && c.execute-done.new.self.csrs.mtie;
@@ -97,5 +97,5 @@ returns-clause-entry g c = λ s a h.
       irq_on = c.takes_interrupts.ensures.on i;
       cmp = compared g c s a h i;
     } in
-    same ∙ entry_told s c.args.time c.args.self.now.hart.room c.args.number c.args.epoch a (found_in c.fetch-fetched.result) c.execute-done.result
+    same ∙ entry_told s c.args.time c.args.self.now.hart.room c.args.number c.args.epoch a (found_in c.args.fetched) c.execute-done.result
     (arch_of c.execute-done.new.self c.execute-done.new.bus) (executed g c s a h)
