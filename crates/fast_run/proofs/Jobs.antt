@@ -6,18 +6,19 @@ use Rattle.mono_model.specs.declared.params.Params.{Params}
 use Rattle.mono_model.specs.declared.setup.Setup.{Setup}
 use Rattle.mono_model.specs.Setup.{ram_range}
 use Rattle.split_core.specs.declared.event.Event.{Event}
+use Rattle.back_debug.specs.declared.script.Command.{Command}
 use Rattle.report_text.specs.declared.status.Status.{Status}
 use Rattle.report_text.specs.declared.status.Status.TheVariants.{Memory}
 use Rattle.fast_cli.specs.declared.line.Options.{Options}
 use Rattle.fast_run.specs.declared.job.Job.{Job}
-use Rattle.fast_run.specs.declared.job.Job.TheVariants.{Func, Run, Sched}
+use Rattle.fast_run.specs.declared.job.Job.TheVariants.{Back, Func, Run, Sched}
 use Rattle.fast_run.specs.declared.files.NamedFile.{NamedFile}
 use Rattle.fast_run.specs.Files.{input_of, input_under}
 use Rattle.fast_run.specs.Gives.{◌>>=◌, Gives}
 use Rattle.machine_file.specs.File.{params_of}
 use Rattle.gen_image.specs.Soak.{soak_image}
 use Rattle.gen_image.specs.Machine.{soak_machine}
-use Rattle.fast_run.specs.Job.{bytes_at, default_options, func_job, image_in, machine_in, plan_in, run_job, sched_job, setup_for, soak_setup}
+use Rattle.fast_run.specs.Job.{back_job, bytes_at, default_options, func_job, image_in, machine_in, plan_in, run_job, sched_job, script_in, setup_for, soak_setup}
 use Rattle.mono_model.specs.Plain.{plain_params}
 use Rattle.fast_run.specs.Reading.{AreWithin}
 
@@ -112,6 +113,33 @@ module _ (options : Options) (contents : List (List ℕ)) where
       stage-done (machine_in (bytes_at contents 1)) params sched-machine machine
       ∙ stage-done (image_in (ram_range params) (bytes_at contents 0)) image (sched-image params) loaded
       ∙ stage-refused (plan_in (bytes_at contents 2)) status (sched-plan params image) refused other
+
+  back-script : ℕ → LoadedImage → List Command → Result Job Status
+  back-script history image commands = Ok (Back (setup_for plain_params options image (bytes_at contents 2)) history commands)
+
+  back-image : ℕ → LoadedImage → Result Job Status
+  unfolding back-script
+  back-image history image = script_in (bytes_at contents 1) >>= back-script history image
+
+  pub back-made : (history : ℕ) (image : LoadedImage) (commands : List Command) (input : List ℕ) → image_in (ram_range plain_params) (bytes_at contents 0) ≡ Ok image →
+      script_in (bytes_at contents 1) ≡ Ok commands → input ≡ bytes_at contents 2 → back_job history options contents ≡ Ok (Back (setup_for plain_params options image input) history commands)
+  unfolding back_job back-image back-script
+  back-made history image commands input loaded scripted same =
+      stage-done (image_in (ram_range plain_params) (bytes_at contents 0)) image (back-image history) loaded
+      ∙ stage-done (script_in (bytes_at contents 1)) commands (back-script history image) scripted
+      ∙ ap (λ bytes. Ok (Back (setup_for plain_params options image bytes) history commands)) (sym same)
+
+  pub back-no_image : (history : ℕ) (status : Status) → (status ≢ Memory → image_in (ram_range plain_params) (bytes_at contents 0) ≡ Err status) → status ≢ Memory →
+      back_job history options contents ≡ Err status
+  unfolding back_job back-image back-script
+  back-no_image history status refused = stage-refused (image_in (ram_range plain_params) (bytes_at contents 0)) status (back-image history) refused
+
+  pub back-no_script : (history : ℕ) (image : LoadedImage) (status : Status) → image_in (ram_range plain_params) (bytes_at contents 0) ≡ Ok image →
+      (status ≢ Memory → script_in (bytes_at contents 1) ≡ Err status) → status ≢ Memory → back_job history options contents ≡ Err status
+  unfolding back_job back-image back-script
+  back-no_script history image status loaded refused other =
+      stage-done (image_in (ram_range plain_params) (bytes_at contents 0)) image (back-image history) loaded
+      ∙ stage-refused (script_in (bytes_at contents 1)) status (back-script history image) refused other
 
 -- the soak program of a seed on its machine
 abbrev soak-run : Setup → Result Job Status

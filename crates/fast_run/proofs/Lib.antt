@@ -9,3 +9,4 @@ pub mod Settling
 pub mod Words
 pub mod Refusals
 pub mod Sweeps
+pub mod Scripts

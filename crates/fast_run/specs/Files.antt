@@ -27,7 +27,8 @@ files_of (Run image machine threads options) =
 files_of (Sched image machine plan options) =
     file role.Image image ∷ file role.Machine machine ∷ file role.Plan plan ∷ input_of options
 files_of (Soak seed) = []
-files_of (Back image script history options) = []
+files_of (Back image script history options) =
+    file role.Image image ∷ file role.Script script ∷ input_of options
 files_of (Inorder image machine plan options) = []
 files_of (Sweep image machines options) =
     file role.Image image ∷ map (file role.Machine) machines ++ input_of options

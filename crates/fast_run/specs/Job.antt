@@ -14,11 +14,11 @@ use Rattle.fast_cli.specs.Ranges.{HasRanges}
 use Rattle.gen_image.specs.Soak.{soak_image}
 use Rattle.gen_image.specs.Machine.{soak_machine}
 use Rattle.fast_run.specs.declared.job.Job.{Job}
-use Rattle.fast_run.specs.declared.job.Job.TheVariants.{Func, Run, Sched, Sweep}
+use Rattle.fast_run.specs.declared.job.Job.TheVariants.{Back, Func, Run, Sched, Sweep}
 use Rattle.fast_run.specs.declared.sweep_files.SweepFiles.{SweepFiles}
 use Rattle.fast_run.specs.Gives.{◌>>=◌}
 pub use Rattle.fast_run.specs.Stages.{setup_for, bytes_at}
-unfoldable pub use Rattle.fast_run.specs.Stages.{machine_in, image_in, plan_in}
+unfoldable pub use Rattle.fast_run.specs.Stages.{machine_in, image_in, plan_in, script_in}
 use Rattle.fast_run.specs.SweepFiles.{swept}
 
 -- the plain machine runs an image without a machine file
@@ -41,6 +41,13 @@ sched_job options contents = do
   events ← plan_in (bytes_at contents 2)
   Ok (Sched (setup_for params options image (bytes_at contents 3)) events)
 
+-- a script over the run of the plain machine is tested behind the image
+unfoldable pub back_job : ℕ → Options → List (List ℕ) → Result Job Status
+back_job history options contents = do
+  image ← image_in (ram_range plain_params) (bytes_at contents 0)
+  commands ← script_in (bytes_at contents 1)
+  Ok (Back (setup_for plain_params options image (bytes_at contents 2)) history commands)
+
 -- a line that has no options
 unfoldable pub default_options : Options
 default_options = record { ring = 64; cycles = 10000000; output = 16777216; input = None }
@@ -56,7 +63,8 @@ job_of (line.Func image options) sets contents = func_job options contents
 job_of (line.Run image machine threads options) sets contents = run_job options contents
 job_of (line.Sched image machine plan options) sets contents = sched_job options contents
 job_of (line.Soak seed) sets contents = Ok (Run (soak_setup seed))
-job_of (line.Back image script history options) sets contents = Err (Later (codes "back"))
+job_of (line.Back image script history options) sets contents =
+    back_job history options contents
 job_of (line.Inorder image machine plan options) sets contents = Err (Later (codes "inorder"))
 job_of (line.Sweep image machines options) sets contents = do
   files ← swept machines options sets contents
@@ -68,7 +76,7 @@ is_still (line.Func image options) = true
 is_still (line.Run image machine threads options) = threads == 1
 is_still (line.Sched image machine plan options) = true
 is_still (line.Soak seed) = false
-is_still (line.Back image script history options) = false
+is_still (line.Back image script history options) = true
 is_still (line.Inorder image machine plan options) = false
 is_still (line.Sweep image machines options) = false
 
@@ -83,6 +91,7 @@ abbrev pub CanBegin : Job → Type 0
 CanBegin (Func s) = is_setup s ≡ true
 CanBegin (Run s) = is_setup s ≡ true
 CanBegin (Sched s plan) = is_setup s ≡ true
+CanBegin (Back s history script) = is_setup s ≡ true
 CanBegin (Sweep files) = CanSweep files
 
 -- the job is a single run
@@ -90,6 +99,7 @@ abbrev pub is_single : Job → Bool
 is_single (Func s) = true
 is_single (Run s) = true
 is_single (Sched s plan) = true
+is_single (Back s history script) = true
 is_single (Sweep files) = false
 
 -- how many sets of devices a job takes
@@ -97,4 +107,5 @@ abbrev pub sets_for : Job → ℕ
 sets_for (Func s) = 1
 sets_for (Run s) = 1
 sets_for (Sched s plan) = 1
+sets_for (Back s history script) = 1
 sets_for (Sweep files) = length files.machines

@@ -13,8 +13,9 @@ use Rattle.report_text.specs.declared.status.Status.{Status}
 use Rattle.report_text.specs.declared.status.Status.TheVariants.{Pass, Fail, Limit, OutputFull}
 use Rattle.report_text.specs.declared.status.Status.TheVariants.{Running, Shown}
 use Rattle.report_text.specs.FuncText.{func_text}
+use Rattle.back_debug.specs.Session.{session_text, start_position}
 use Rattle.fast_run.specs.declared.job.Job.{Job}
-use Rattle.fast_run.specs.declared.job.Job.TheVariants.{Func, Run, Sched, Sweep}
+use Rattle.fast_run.specs.declared.job.Job.TheVariants.{Back, Func, Run, Sched, Sweep}
 use Rattle.fast_run.specs.SweepFiles.{sweep_lines}
 
 -- the answer to an end
@@ -36,18 +37,21 @@ planned_cycle s plan = reach s (map event_in plan)
 
 -- The answer to a job: how its run ended. After as many cycles as its limit each run on the machine
 -- has ended, and it stands still from its end on; the cycle that a plan leads to may come before. A
--- sweep tells the ends of its runs in its lines.
+-- debugger and a sweep tell the ends of their runs in their lines.
 abbrev pub job_status : Job → Status
 job_status (Func s) = status_for (whole_run s).end
 job_status (Run s) = status_for (mono s s.cycles).end
 job_status (Sched s plan) = status_for (mono s (planned_cycle s plan)).end
+job_status (Back s history script) = Shown
 job_status (Sweep files) = Shown
 
--- what is written of it: the output of its run and the report, or the lines of a sweep
+-- what is written of it: the output of its run and the report, what the commands of a script show,
+-- or the lines of a sweep
 abbrev pub job_text : Job → List ℕ
 job_text (Func s) = func_text s
 job_text (Run s) = text s s.cycles
 job_text (Sched s plan) = text s (planned_cycle s plan)
+job_text (Back s history script) = session_text history s script start_position
 job_text (Sweep files) = sweep_lines files
 
 pub record Outcome : Type 0 where
@@ -62,6 +66,7 @@ abbrev pub may_go_on : Job → Bool
 may_go_on (Func s) = false
 may_go_on (Run s) = false
 may_go_on (Sched s plan) = true
+may_go_on (Back s history script) = false
 may_go_on (Sweep files) = false
 
 abbrev pub MayEnd : Job → Type 0

@@ -7,8 +7,11 @@ use Rattle.mono_model.specs.declared.params.Params.{Params}
 use Rattle.mono_model.specs.declared.setup.Setup.{Setup}
 use Rattle.machine_file.specs.File.{machine_fault, params_of}
 use Rattle.split_core.specs.declared.event.Event.{Event}
+use Rattle.back_debug.specs.declared.script.Command.{Command}
+use Rattle.back_debug.specs.Script.{commands_of, first_bad_line}
 use Rattle.report_text.specs.declared.status.Status.{Status}
 use Rattle.report_text.specs.declared.status.Status.TheVariants.{Image, Machine, BadPlan}
+use Rattle.report_text.specs.declared.status.Status.TheVariants.{BadScript}
 use Rattle.fast_cli.specs.declared.line.Options.{Options}
 use Rattle.fast_run.specs.Gives.{unless}
 use Rattle.fast_run.specs.Plan.{plan_events, first_bad}
@@ -24,6 +27,10 @@ image_in ram bytes = unless (option_map Image (image_fault bytes ram)) (image_of
 -- the events of a plan
 unfoldable pub plan_in : List ℕ → Result (List Event) Status
 plan_in bytes = unless (option_map BadPlan (first_bad bytes)) (plan_events bytes)
+
+-- the commands of a debugger's script
+unfoldable pub script_in : List ℕ → Result (List Command) Status
+script_in bytes = unless (option_map BadScript (first_bad_line bytes)) (commands_of bytes)
 
 -- the setup of an image: a machine, the limits that the options give, and what the console reads
 abbrev pub setup_for : Params → Options → LoadedImage → List ℕ → Setup

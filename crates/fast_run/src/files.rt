@@ -45,6 +45,16 @@ pub fn files_of(alloc: Global, line: &Line) -> Result<Vec<NamedFile>, NoMemory>
             push(alloc, Role::Plan, plan, &mut files)?;
             push_input(alloc, options, &mut files)?;
         }
+        Line::Back {
+            image,
+            script,
+            options,
+            ..
+        } => {
+            push(alloc, Role::Image, image, &mut files)?;
+            push(alloc, Role::Script, script, &mut files)?;
+            push_input(alloc, options, &mut files)?;
+        }
         Line::Sweep {
             image,
             machines,
@@ -54,7 +64,7 @@ pub fn files_of(alloc: Global, line: &Line) -> Result<Vec<NamedFile>, NoMemory>
             push_machines(alloc, machines.as_slice(), &mut files)?;
             push_input(alloc, options, &mut files)?;
         }
-        Line::Soak { .. } | Line::Back { .. } | Line::Inorder { .. } => {}
+        Line::Soak { .. } | Line::Inorder { .. } => {}
     }
     Ok(files)
 }

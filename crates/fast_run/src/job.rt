@@ -4,8 +4,8 @@ ghost use Rattle.fast_cli.specs.Ranges.{HasRanges, IsInRange};
 ghost use Rattle.fast_run.specs.Files.{files_of};
 ghost use Rattle.fast_run.specs.Gives.{Gives};
 ghost use Rattle.fast_run.specs.declared.job.Job.{Job as AnyJob};
-ghost use Rattle.fast_run.specs.Job.{bytes_at, default_options, func_job, job_of, run_job};
-ghost use Rattle.fast_run.specs.Job.{sched_job};
+ghost use Rattle.fast_run.specs.Job.{back_job, bytes_at, default_options, func_job, job_of};
+ghost use Rattle.fast_run.specs.Job.{run_job, sched_job};
 ghost use Rattle.fast_run.specs.Job.{CanBegin, is_single, is_still, sets_for, soak_setup};
 ghost use Rattle.fast_run.specs.Reading.{AreWithin};
 
@@ -13,8 +13,10 @@ use crate::image::read_image;
 use crate::machine::{ram_of, read_machine};
 use crate::plan::Plan;
 use crate::refusal::Refusal;
+use crate::script::read_script;
 use crate::setup::setup_for;
 use crate::sweep_files::{SweepFiles, sweep_files};
+use back_debug::Script;
 use fast_cli::{Line, Options};
 use fsim_base::Bytes;
 use gen_image::{soak_image, soak_params};
@@ -31,12 +33,14 @@ pub enum Job {
     Run(Setup),
     /// The events of a plan, and the way to the next cycle boundary.
     Sched(Setup, Plan),
+    /// The commands of a debugger's script, over a run that remembers so many steps.
+    Back(Setup, u32, Script),
     /// The run on each of many machines to its end.
     Sweep(SweepFiles),
 }
 
 /// The job of a line with the bytes of its files and so many sets of devices, or the first refusal:
-/// of the machine file, then of the image, then of the plan.
+/// of the machine file, then of the image, then of the plan or the script.
 pub fn job_of(alloc: Global, line: &Line, sets: usize, contents: Vec<Bytes>) -> Result<Job, Refusal>
     requires sets { 1 ≤ sets }
     requires ranges { IsInRange line.now }
@@ -51,7 +55,11 @@ pub fn job_of(alloc: Global, line: &Line, sets: usize, contents: Vec<Bytes>) -> 
         Line::Run { options, .. } => run_job(alloc, options, contents),
         Line::Sched { options, .. } => sched_job(alloc, options, contents),
         Line::Soak { seed } => soak_job(alloc, *seed),
-        Line::Back { .. } => Err(later(alloc, b"back")),
+        Line::Back {
+            history,
+            options,
+            ..
+        } => back_job(alloc, *history, options, contents),
         Line::Inorder { .. } => Err(later(alloc, b"inorder")),
         Line::Sweep {
             machines,
@@ -102,6 +110,27 @@ fn sched_job(alloc: Global, options: &Options, contents: Vec<Bytes>) -> Result<J
     let plan = Plan::read(alloc, bytes_at(contents.as_slice(), 2))?;
     let input = take_at(alloc, contents, 3);
     Ok(Job::Sched(setup_for(params, options, image, input), plan))
+}
+
+/// A debugger's script for the sequential run of an image on the plain machine; the files are
+/// image, script and input.
+fn back_job(
+    alloc: Global,
+    history: u32,
+    options: &Options,
+    contents: Vec<Bytes>,
+) -> Result<Job, Refusal>
+    requires ranges { HasRanges options.now }
+    requires input { length (bytes_at contents.items 2) ≤ 16777216 }
+    ensures job { Gives (back_job history options.now contents.items) result }
+    ensures can { IfOk result (λ job. CanBegin job) }
+    ensures alone { IfOk result (λ job. is_single job ≡ true) }
+{
+    let params = Params::plain();
+    let image = read_image(alloc, bytes_at(contents.as_slice(), 0), ram_of(&params))?;
+    let script = read_script(alloc, bytes_at(contents.as_slice(), 1))?;
+    let input = take_at(alloc, contents, 2);
+    Ok(Job::Back(setup_for(params, options, image, input), history, script))
 }
 
 /// How many blocks the soak program has.

@@ -16,6 +16,7 @@ mod program;
 mod read;
 mod refusal;
 mod run;
+mod script;
 mod setup;
 mod sweep;
 mod sweep_files;

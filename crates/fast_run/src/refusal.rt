@@ -1,6 +1,7 @@
 ghost use Rattle.std.specs.Prelude.{◌≡◌};
 ghost use Rattle.report_text.specs.declared.status.Status.TheVariants.{Memory as NoMemoryLeft};
 
+use back_debug::ScriptFault;
 use elf_image::ImageFault;
 use fsim_base::NoMemory;
 use fsim_ports::Sink;
@@ -113,6 +114,19 @@ impl From<MachineFault> for Refusal {
         match fault {
             MachineFault::Memory => Refusal::new(Status::Memory),
             fault => Refusal::new(Status::Machine(fault)),
+        }
+    }
+}
+
+impl From<ScriptFault> for Refusal {
+    ghost use Rattle.fast_run.specs.Refusal.{refused_script};
+
+    ghost from_gives = { λ fault refusal. refusal ≡ refused_script fault };
+
+    fn from(fault: ScriptFault) -> Refusal {
+        match fault {
+            ScriptFault::BadLine(line) => Refusal::new(Status::BadScript(line)),
+            ScriptFault::Memory => Refusal::new(Status::Memory),
         }
     }
 }

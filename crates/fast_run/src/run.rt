@@ -9,6 +9,7 @@ use crate::finish::{finish_alone, finish_timed};
 use crate::job::Job;
 use crate::plan::Plan;
 use crate::refusal::Refusal;
+use crate::script::run_script;
 use crate::sweep::run_sweep;
 use device_bus::Device;
 use fast_threads::Session;
@@ -36,6 +37,9 @@ pub fn run<K: Sink, D: Device>(alloc: Global, job: &Job, devices: Vec<D>, sink: 
         Job::Func(setup) => run_alone(alloc, setup, devices, sink),
         Job::Run(setup) => run_to_end(alloc, setup, devices, sink),
         Job::Sched(setup, plan) => run_plan(alloc, setup, plan, devices, sink),
+        Job::Back(setup, history, script) => {
+            run_script(alloc, setup, *history, script, devices, sink)
+        }
         Job::Sweep(_) => unreachable!(),
     }
 }
@@ -58,7 +62,9 @@ pub fn run_in_threads<R: Threads + Wait + Sync, K: Sink, G: Gate + Sync, D: Devi
 {
     match job {
         Job::Run(setup) => run_session(rt, alloc, setup, first_set(devices), sink, gate),
-        Job::Func(_) | Job::Sched(_, _) => run(alloc, job, first_set(devices), sink),
+        Job::Func(_) | Job::Sched(_, _) | Job::Back(_, _, _) => {
+            run(alloc, job, first_set(devices), sink)
+        }
         Job::Sweep(files) => run_sweep(rt, alloc, files, devices, sink),
     }
 }

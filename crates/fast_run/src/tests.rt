@@ -6,6 +6,7 @@ mod gates;
 mod hostile;
 mod programs;
 mod reports;
+mod sessions;
 mod sweeps;
 mod words;
 

@@ -27,11 +27,12 @@ fn files_of(alloc: Global) -> Result<MemoryFiles, Fail> {
     files.add("old", b"version = 1\nl2.ways = 1\n")?;
     files.add("bad", b"CPX")?;
     files.add("spaced", b"C P\r\nOTKSx")?;
+    files.add("script", b"r\r\n\ns 1\ns 0\nx")?;
     Ok(files)
 }
 
 /// Lines and their refusals, in the order in which these are tested.
-const REFUSED: [(&str, u8, &str); 29] = [
+const REFUSED: [(&str, u8, &str); 36] = [
     ("func none", 13, "fast: missing: image\n"),
     ("func none --input none", 13, "fast: missing: image\n"),
     ("func pass --input none", 13, "fast: missing: input\n"),
@@ -73,6 +74,13 @@ const REFUSED: [(&str, u8, &str); 29] = [
         18,
         "fast: bad plan: 2\n",
     ),
+    ("back none none", 13, "fast: missing: image\n"),
+    ("back short none", 13, "fast: missing: script\n"),
+    ("back short bad --input none", 13, "fast: missing: input\n"),
+    ("back short bad", 11, "fast: image: short\n"),
+    ("back pass bad", 21, "fast: bad script: 1\n"),
+    ("back pass script", 21, "fast: bad script: 4\n"),
+    ("back pass script --input bad", 21, "fast: bad script: 4\n"),
 ];
 
 #[test]
@@ -131,7 +139,7 @@ fn files_are_read_to_their_limits(rt: HostRuntime) -> Result<(), Fail> {
 }
 
 #[test]
-fn machine_files_and_plans_are_read_to_their_limits(rt: HostRuntime) -> Result<(), Fail> {
+fn machine_files_plans_and_scripts_are_read_to_their_limits(rt: HostRuntime) -> Result<(), Fail> {
     let alloc = rt.alloc();
     let mut files = MemoryFiles::new(alloc);
     files.add("pass", image_of(alloc, &SMALLEST_PASS)?.as_slice())?;
@@ -145,12 +153,22 @@ fn machine_files_and_plans_are_read_to_their_limits(rt: HostRuntime) -> Result<(
     let words = ["sched", "pass", "most", "long"];
     check(&rt, alloc, &words, &mut files, 17, answer)?;
     assert!(rt; opens(alloc, &["sched", "pass", "most", "plan"], &mut files));
+    let answer = "fast: too long: script 65536\n";
+    check(
+        &rt,
+        alloc,
+        &["back", "pass", "more"],
+        &mut files,
+        17,
+        answer,
+    )?;
+    assert!(rt; opens(alloc, &["back", "pass", "most"], &mut files));
     Ok(())
 }
 
 /// Lines, the roles of their files in the order in which these are read, and the answer where no
 /// read fails. Each file takes one read for its bytes and one for its end.
-const READ: [(&str, &[&str], u8); 3] = [
+const READ: [(&str, &[&str], u8); 4] = [
     ("func echo --input in", &["image", "input"], 0),
     (
         "run echo eight --input in",
@@ -161,6 +179,11 @@ const READ: [(&str, &[&str], u8); 3] = [
         "sched echo eight nothing --input in",
         &["image", "machine", "plan", "input"],
         4,
+    ),
+    (
+        "back echo again --input in",
+        &["image", "script", "input"],
+        5,
     ),
 ];
 

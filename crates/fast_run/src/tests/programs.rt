@@ -276,7 +276,7 @@ const MACHINES: [(&str, &str); 12] = [
     ),
 ];
 
-/// Programs, machine files, an input and plans.
+/// Programs, machine files, an input, plans and a script.
 pub fn files_of_runs(alloc: Global) -> Result<MemoryFiles, Fail> {
     let mut files = MemoryFiles::new(alloc);
     for (name, words) in PROGRAMS {
@@ -294,6 +294,7 @@ pub fn files_of_runs(alloc: Global) -> Result<MemoryFiles, Fail> {
     files.add("rounds", repeated(alloc, b"OCPKTS", 200)?.as_slice())?;
     files.add("whole", repeated(alloc, b"OCPKTS", 20_000)?.as_slice())?;
     files.add("orders", vec![in alloc; b'O'; 1_048_576]?.as_slice())?;
+    files.add("again", b"s 4\nb 1\ns 1\nr\n")?;
     Ok(files)
 }
 

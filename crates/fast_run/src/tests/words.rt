@@ -42,14 +42,10 @@ const REFUSED: [&str; 30] = [
 ];
 
 /// Lines of commands that aren't run yet, and the answer.
-const LATER: [(&str, &str); 3] = [
-    ("back a s", "fast: later: back\n"),
-    ("back a s --history 2", "fast: later: back\n"),
-    ("inorder a m p", "fast: later: inorder\n"),
-];
+const LATER: [(&str, &str); 1] = [("inorder a m p", "fast: later: inorder\n")];
 
 /// Lines of commands that are run, by the file that they lack.
-const LINES: [(&str, &str); 11] = [
+const LINES: [(&str, &str); 13] = [
     ("run n m", "fast: missing: image\n"),
     ("run a n", "fast: missing: machine\n"),
     ("run --ring=8 a n", "fast: missing: machine\n"),
@@ -64,6 +60,8 @@ const LINES: [(&str, &str); 11] = [
     ("sched a n p", "fast: missing: machine\n"),
     ("sched a m p --input i", "fast: missing: plan\n"),
     ("sched a m a --input i", "fast: missing: input\n"),
+    ("back a s --history 2", "fast: missing: script\n"),
+    ("back a m --input i", "fast: missing: input\n"),
 ];
 
 #[test]
