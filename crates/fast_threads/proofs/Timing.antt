@@ -21,7 +21,7 @@ use Rattle.time_model.specs.declared.state.TimeState.{TimeState}
 use Rattle.time_model.specs.declared.turn.Turn.{Turn}
 use Rattle.time_model.specs.declared.turn.Turn.TheVariants.{Moved, Ordered, Want, CycleEnd, Halted}
 use Rattle.time_model.specs.Turns.{turn_told}
-use Rattle.time_model.specs.Standing.{TimeSideStandsFor, IsStep, IsMade, IsRight, is_over, wants_in}
+use Rattle.time_model.specs.Standing.{TimeSideStandsFor, IsStep, IsMade, IsRight, is_told_out, wants_in}
 use Rattle.time_model.proofs.Owing.{stands_wants}
 use Rattle.trace_ring.specs.Ring.{IsNamed}
 use Rattle.trace_ring.specs.Ends.{TimeAt, time_start, time_pushed, time_taken}
@@ -149,7 +149,7 @@ module _ (end : TimeAt) (side new : TimeState) (hand : Option Order) (is_halted 
       let Q : Option Order → Type 0 = λ o. IsTimeAt end new o is_halted in
       subst Q (none ∙ sym told) (subst P (sym same) is)
 
-  goes : IsMade end.setup is.steps side new turn → is_over (place end.setup is.steps) ≡ false → Stepped
+  goes : IsMade end.setup is.steps side new turn → is_told_out (place end.setup is.steps) ≡ false → Stepped
   goes it on =
       let s = end.setup in
       let p = place s is.steps in
@@ -165,7 +165,7 @@ module _ (end : TimeAt) (side new : TimeState) (hand : Option Order) (is_halted 
         over = λ halts. cc (is.over halts, on);
       })
 
-  by_over : (b : Bool) → is_over (place end.setup is.steps) ≡ b → (needs_entry (place end.setup is.steps) && is_none side.held) ≡ false → Stepped
+  by_over : (b : Bool) → is_told_out (place end.setup is.steps) ≡ b → (needs_entry (place end.setup is.steps) && is_none side.held) ≡ false → Stepped
   by_over true over fed = let it = made.rests over in stays (ap order_told it.0) it.1
   by_over false on fed = goes (made.goes fed on) on
 
@@ -174,7 +174,7 @@ module _ (end : TimeAt) (side new : TimeState) (hand : Option Order) (is_halted 
       let parts = and_parts (needs_entry (place end.setup is.steps)) (is_none side.held) lacks in
       let it = made.waits parts.0 (none_held side.held parts.1) in
       stays (ap order_told it.0) it.1
-  by_lack false fed = by_over (is_over (place end.setup is.steps)) refl fed
+  by_lack false fed = by_over (is_told_out (place end.setup is.steps)) refl fed
 
   stepped : Stepped
   stepped = by_lack (needs_entry (place end.setup is.steps) && is_none side.held) refl
@@ -187,7 +187,7 @@ module _ (end : TimeAt) (side new : TimeState) (hand : Option Order) (is_halted 
   pub time_moves : (what : Turn) → turn ≡ what → order_told what ≡ None → IsTimeAt end new hand is_halted
   time_moves what same told = time_with end new (order_told turn) hand is_halted (ap order_told same ∙ told ∙ sym none) stepped
 
-  halts_over : turn ≡ Halted → (b : Bool) → is_over (place end.setup is.steps) ≡ b → (needs_entry (place end.setup is.steps) && is_none side.held) ≡ false → IsTimeAt end new hand true
+  halts_over : turn ≡ Halted → (b : Bool) → is_told_out (place end.setup is.steps) ≡ b → (needs_entry (place end.setup is.steps) && is_none side.held) ≡ false → IsTimeAt end new hand true
   halts_over halts true over fed =
       let it = made.rests over in
       let P : TimeState → Type 0 = λ t. IsTimeAt end t hand true in
@@ -200,7 +200,7 @@ module _ (end : TimeAt) (side new : TimeState) (hand : Option Order) (is_halted 
       let it = made.waits parts.0 (none_held side.held parts.1) in
       let e : Want ≡ Halted = sym it.0 ∙ halts in
       cc e
-  halts_lack halts false fed = halts_over halts (is_over (place end.setup is.steps)) refl fed
+  halts_lack halts false fed = halts_over halts (is_told_out (place end.setup is.steps)) refl fed
 
   -- the run is over
   pub time_halts : turn ≡ Halted → IsTimeAt end new hand true

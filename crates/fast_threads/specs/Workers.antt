@@ -10,7 +10,7 @@ use Rattle.mono_model.specs.Demand.{place, told}
 use Rattle.side_laws.specs.Along.{IsAlong}
 use Rattle.func_model.specs.declared.walk.Walk.{Walk}
 use Rattle.time_model.specs.declared.state.TimeState.{TimeState}
-use Rattle.time_model.specs.Standing.{TimeSideStandsFor, is_over}
+use Rattle.time_model.specs.Standing.{TimeSideStandsFor, is_told_out}
 use Rattle.trace_ring.specs.Ring.{IsNamed, Follows}
 use Rattle.trace_ring.specs.Orders.{IsInPlace}
 use Rattle.trace_ring.specs.Ends.{FuncAt, TimeAt}
@@ -80,4 +80,4 @@ pub record IsTimeAt (end : TimeAt) (side : TimeState) (hand : Option Order)
   -- the one in hand is the next to push
   pub next : IfSome hand (λ o. IsInPlace end.setup end.pushed o)
   -- it is told halted only where the run is over
-  pub over : is_halted ≡ true → is_over (place end.setup steps) ≡ true
+  pub over : is_halted ≡ true → is_told_out (place end.setup steps) ≡ true

@@ -9,7 +9,7 @@ use Rattle.mono_model.specs.declared.setup.Setup.{Setup}
 use Rattle.mono_model.specs.Setup.{ram_range}
 use Rattle.machine_csr.specs.Trap.{timer_pending, timer_interrupt}
 use Rattle.mono_model.specs.Arch.{Arch, synced, trapped, compare_of}
-use Rattle.mono_model.specs.Found.{Found, refused, unknown, known, found_at, is_fence_i}
+use Rattle.mono_model.specs.Found.{Found, found_at, is_fence_i}
 use Rattle.mono_model.specs.Result.{Result, executed}
 use Rattle.fsim_base.specs.declared.cause.Cause.{Cause}
 use Rattle.mono_model.specs.Effect.{effect, note_of, is_fence_result}

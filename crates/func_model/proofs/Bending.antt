@@ -1,5 +1,5 @@
 -- An order that is obeyed bends the path.
-use Rattle.std.proofs.Common.{◌≡◌, ◌<◌, ℕ, ◌+◌, ◌≤◌, Bool, true, false, List, [], ◌∷◌, length, Option, refl, ap, sym, ◌∙◌, subst, arith}
+use Rattle.std.proofs.Common.{◌≡◌, ◌⊎◌, inl, inr, ◌<◌, ℕ, ◌+◌, ◌≤◌, Bool, true, false, List, [], ◌∷◌, length, Option, refl, ap, sym, ◌∙◌, subst, arith}
 use Rattle.rollback_cmds.specs.declared.order.Order.{Order}
 use Rattle.rollback_cmds.specs.declared.order.Order.TheVariants.{Set, Commit, Interrupt, Time, Stop, Sync}
 use Rattle.rollback_cmds.specs.Order.{opens_epoch_of}
@@ -12,10 +12,11 @@ use Rattle.mono_model.specs.Demand.{number_of}
 use Rattle.func_model.specs.declared.contents.Contents.{Contents}
 use Rattle.func_model.specs.declared.walk.Walk.{Walk}
 use Rattle.func_model.specs.Contents.{ContentsStandFor}
-use Rattle.func_model.specs.Walk.{LeadsBack, IsOnPath, WalkStandsFor, IsSameBut, IsMoved, IsObeyed, HasRoom, given_at, committed_of, bytes_before}
+use Rattle.func_model.specs.Walk.{LeadsBack, IsOnPath, WalkStandsFor, IsStanding, IsOver, IsSameBut, IsMoved, IsObeyed, HasRoom, given_at, committed_of, bytes_before}
 use Rattle.mono_model.proofs.Path.{path_below, path_at_set, path_at_interrupt, path_at_time, path_at_sync, path_commit, path_stop}
 use Rattle.func_model.proofs.Leading.{leads_along}
 use Rattle.func_model.proofs.Outputs.{bytes_before_is}
+use Rattle.func_model.proofs.Reaching.{commit_running}
 use Rattle.func_model.proofs.Walking.{ends_at, by_side}
 
 -- how an order leaves the path: below its number as it was, at its number as it was but for the address
@@ -187,3 +188,46 @@ commit_obeyed {D} order n old walk is same room =
       room = room;
       limit = ap (λ (w : Walk D). w.limit) same;
     })
+
+-- what an order to commit asks for
+pub record MayCommit {D : Type 0} (order : Order) (walk : Walk D) : Type 0 where
+  pub from : walk.committed ≤ number_of order
+  pub reach : walk.is_stopped ≡ true → number_of order ≤ walk.position
+  pub within : HasRoom order walk walk.limit
+
+-- where it is obeyed, the walk stands for one order more
+pub committed_stands : {D : Type 0} (s : Setup) (os : List Order) (order : Order) (n : ℕ) (walk next : Walk D) → order ≡ Commit n → MayCommit order walk → WalkStandsFor s os walk →
+    (length (path s os n).output ≤ s.output → IsOnPath s os next) → next ≡ record walk { journal = next.journal; committed = n } → WalkStandsFor s (order ∷ os) next
+committed_stands {D} s os order n walk next is may h holds same =
+    let P : Order → Type 0 = λ o. WalkStandsFor {D = D} s (o ∷ os) next in
+    let from = commit_from order n walk.committed is may.from in
+    let within = within_path s os walk n h (commit_running order n walk is may.reach) from (commit_within order n walk is may.within) in
+    subst P (sym is)
+    (commit_stands s os n walk next h (holds within) (committed_position walk next n same) (ap (λ (w : Walk D). w.is_stopped) same) (ap (λ (w : Walk D). w.committed) same))
+
+-- and one whose run is over stays so
+pub committed_able : {D : Type 0} (order : Order) (n : ℕ) (walk next : Walk D) → order ≡ Commit n → MayCommit order walk → (IsStanding walk ⊎ IsOver walk) →
+    ((s : Setup) (os : List Order) → IsOnPath s os walk → length (path s os n).output ≤ s.output → IsOnPath s os next) →
+    next ≡ record walk { journal = next.journal; committed = n } → IsStanding next ⊎ IsOver next
+committed_able {D} order n walk next is may able holds same =
+    let P : Order → Type 0 = λ o. walk.is_stopped ≡ true → number_of o ≤ walk.position in
+    let reach : walk.is_stopped ≡ true → n ≤ walk.position = subst P is may.reach in
+    elim able [
+      | inl standing ↦ inl (record {
+        setup = standing.setup;
+        orders = order ∷ standing.orders;
+        stands = committed_stands standing.setup standing.orders order n walk next is may standing.stands
+            (holds standing.setup standing.orders standing.stands.holds) same;
+      })
+      | inr over ↦ inr (record {
+        stopped = ap (λ (w : Walk D). w.is_stopped) same ∙ over.stopped;
+        here = omega (
+          arith,
+          commit_from order n walk.committed is may.from,
+          reach over.stopped,
+          over.here,
+          ap (λ (w : Walk D). w.position) same,
+          ap (λ (w : Walk D). w.committed) same,
+        );
+      })
+    ]

@@ -3,7 +3,6 @@ use Rattle.std.proofs.Common.{◌≡◌, ℕ, Bool, true, false, if◌then◌els
 use Rattle.fsim_base.specs.declared.access.RamRange.{RamRange}
 use Rattle.device_bus.specs.declared.undo.Note.{Note}
 use Rattle.device_bus.specs.declared.undo.Note.TheVariants as note
-use Rattle.device_bus.specs.Bus.{Devices}
 use Rattle.undo_journal.specs.declared.past.Change.{Change}
 use Rattle.undo_journal.specs.declared.past.Change.TheVariants.{Nothing, Memory, Device, Trap, Csr}
 use Rattle.machine_csr.specs.declared.csrs.Csrs.{Csrs}

@@ -1,5 +1,5 @@
 -- The run alone from one position to the next, and what leads back.
-use Rattle.std.proofs.Common.{◌≡◌, ℕ, zero, suc, ◌+◌, ◌-◌, ◌≤◌, ◌<◌, ◌==◌, ◌&&◌, nat_le, Bool, true, false, if◌then◌else◌, List, [], ◌∷◌, ◌++◌, length, drop, Option, Some, None, is_some, is_none, refl, ap, sym, ◌∙◌, subst, add-one, arith}
+use Rattle.std.proofs.Common.{◌≡◌, ℕ, zero, suc, ◌+◌, ◌≤◌, ◌<◌, ◌==◌, ◌&&◌, nat_le, Bool, true, false, if◌then◌else◌, List, [], ◌∷◌, ◌++◌, length, drop, Option, Some, None, is_some, is_none, refl, ap, sym, ◌∙◌, subst, add-one, arith}
 use Rattle.std.proofs.lemmas.Grind.{common_steps}
 use Rattle.fsim_base.specs.declared.instruction.Halt.{Halt}
 use Rattle.fsim_base.specs.declared.instruction.Halt.TheVariants as halt
@@ -12,16 +12,16 @@ use Rattle.mono_model.specs.declared.final_state.End.TheVariants as end
 use Rattle.mono_model.specs.declared.setup.Setup.{Setup}
 use Rattle.mono_model.specs.Setup.{ram_range}
 use Rattle.mono_model.specs.Arch.{Arch, compare_of, trapped, interrupted, synced}
-use Rattle.mono_model.specs.Found.{Found, is_fence_i}
+use Rattle.mono_model.specs.Found.{is_fence_i}
 use Rattle.mono_model.specs.Result.{Result}
 use Rattle.mono_model.specs.Effect.{note_of, with_note, is_fence_result}
 use Rattle.mono_model.specs.Sequence.{found_next, result_at, seq, byte_in, halt_in}
 use Rattle.mono_model.specs.Final.{end_of, has_ended}
-use Rattle.mono_model.specs.Alone.{Alone, alone, alone_step, after_interrupt, instruction, has_no_room, with_fence, end_after, is_pending}
+use Rattle.mono_model.specs.Alone.{Alone, alone, after_interrupt, instruction, has_no_room, with_fence, end_after, is_pending}
 use Rattle.mono_model.proofs.Next.{alone-suc}
 use Rattle.func_model.specs.declared.performed.PastStep.{PastStep}
 use Rattle.func_model.specs.Contents.{before}
-use Rattle.func_model.specs.History.{walk, IsReached, has_next, end_at, fences, step_seq, step_undone, end_by}
+use Rattle.func_model.specs.History.{walk, IsReached, has_next, end_at, fences, step_seq, end_by}
 use Rattle.func_model.specs.Trail.{IsPlace, IsBackOver, StepsLeadBack}
 use Rattle.func_model.proofs.Advance.{fence_plain, result_same}
 use Rattle.func_model.proofs.Running.{alone_goes_on, stay_step, if_arch, if_steps}
@@ -92,7 +92,7 @@ unfolding synced
 fence_output s true a = refl
 fence_output s false a = refl
 
-seq_output : (s : Setup) (number : ℕ) (b : Arch) → (seq s (Some number) b).output ≡ with_note (note_of (result_at s (Some number) b) b) b.output
+pub seq_output : (s : Setup) (number : ℕ) (b : Arch) → (seq s (Some number) b).output ≡ with_note (note_of (result_at s (Some number) b) b) b.output
 unfolding seq
 seq_output s number b = effect_output (found_next s b) (result_at s (Some number) b) (Some number) b.pc b
 

@@ -1,8 +1,10 @@
 -- A trail that makes a step, ends, and goes back.
-use Rattle.std.proofs.Common.{◌≡◌, ℕ, zero, suc, ◌+◌, ◌-◌, ◌≤◌, ◌<◌, ◌==◌, ◌&&◌, max, ◌^◌, nat_le, Bool, true, false, if◌then◌else◌, List, [], ◌∷◌, ◌++◌, length, drop, take, Option, Some, None, IfSome, is_some, refl, ap, sym, ◌∙◌, subst, add-one, arith, length-append, length-drop}
+use Rattle.std.proofs.Common.{◌≡◌, ℕ, suc, ◌+◌, ◌-◌, ◌≤◌, ◌<◌, ◌==◌, ◌&&◌, max, ◌^◌, nat_le, Bool, true, false, if◌then◌else◌, List, [], ◌∷◌, ◌++◌, length, take, Option, Some, None, IfSome, is_some, refl, ap, sym, ◌∙◌, subst, add-one, arith, length-append, length-drop}
 use Rattle.circular_buffer.specs.Buffer.{Buffer, buffer, keep_last, last_item}
 use Rattle.circular_buffer.proofs.Items.{pops_last}
-use Rattle.fsim_base.specs.declared.instruction.Halt.{Halt}
+use Rattle.device_bus.specs.declared.undo.Note.{Note}
+use Rattle.device_bus.specs.declared.undo.Note.TheVariants as note
+use Rattle.mono_model.specs.Effect.{with_note}
 use Rattle.mono_model.specs.declared.final_state.End.{End}
 use Rattle.mono_model.specs.declared.final_state.End.TheVariants as end
 use Rattle.mono_model.specs.declared.setup.Setup.{Setup}
@@ -17,11 +19,11 @@ use Rattle.func_model.specs.declared.contents.Contents.{Contents}
 use Rattle.func_model.specs.declared.trail.Trail.{Trail}
 use Rattle.func_model.specs.Contents.{ContentsStandFor, output_in, retired_in, before}
 use Rattle.func_model.specs.Undo.{IsRestorable}
-use Rattle.func_model.specs.History.{walk, end_at, fences, floor, step_seq, step_undone, end_by, IsMade}
+use Rattle.func_model.specs.History.{walk, floor, step_seq, step_undone, end_by, IsMade}
 use Rattle.func_model.specs.Trail.{IsPlace, IsBackOver, StepsLeadBack, TrailStandsFor, IsOnTrail, IsTold, IsBack}
 use Rattle.func_model.proofs.Running.{alone_adds, stands_retired}
 use Rattle.func_model.proofs.Walking.{stands_output}
-use Rattle.func_model.proofs.Trailing.{steps_more, steps_less, steps_later, room_is, before_output, note_at, full_ends, ended_ends, Next, goes_on}
+use Rattle.func_model.proofs.Trailing.{steps_more, steps_less, steps_later, room_is, before_output, seq_output, note_at, full_ends, ended_ends, Next, goes_on}
 
 pub both_on : (b c : Bool) → b ≡ true → c ≡ true → (b && c) ≡ true
 both_on b c on also = rw (on, also) refl
@@ -83,6 +85,23 @@ no_room_is {D} s trail is_full made g =
     ∙ ap (λ (l : ℕ). nat_le l (length (output_in trail.contents)) && is_some (byte_in (note_at s trail.at a))) (sym g.stands.limit)
     ∙ ap (λ (b : Bool). b && is_some (byte_in (note_at s trail.at a))) (sym g.full)
     ∙ ap (λ (b : Bool). is_full && b) (sym g.made_is.sent)
+
+-- a byte that was sent is the output's last one
+one_more : (what : Note) (output : List ℕ) → is_some (byte_in what) ≡ true → length (with_note what output) ≡ length output + 1
+one_more note.Nothing output sent = cc
+one_more (note.Out byte) output sent = length-append output (byte ∷ [])
+one_more (note.End halt) output sent = cc
+
+pub sent_one : {D : Type 0} (s : Setup) (trail : Trail D) (made : Made) (contents : Contents D) → TrailStandsFor s trail → IsMade s trail.at (walk s trail.at) made →
+    ContentsStandFor s (step_seq s trail.at (walk s trail.at)) contents → made.has_sent ≡ true → length (output_in contents) ≡ length (output_in trail.contents) + 1
+sent_one {D} s trail made contents h is_made stands sent =
+    let a : Arch = walk s trail.at in
+    let behind : output_in contents ≡ with_note (note_at s trail.at a) (before trail.at a).output =
+    stands_output s (step_seq s trail.at a) contents stands ∙ seq_output s trail.at (before trail.at a) in
+    let output : (before trail.at a).output ≡ output_in trail.contents = before_output trail.at a ∙ sym (stands_output s a trail.contents h.contents) in
+    ap (length {A = ℕ}) behind
+    ∙ one_more (note_at s trail.at a) (before trail.at a).output (sym is_made.sent ∙ sent)
+    ∙ ap (λ (o : List ℕ). length o + 1) output
 
 -- the output is full: the step is taken back
 pub stopped_full : {D : Type 0} (s : Setup) (trail : Trail D) (is_full : Bool) (made : Made) (contents : Contents D) → Going s trail is_full made → (is_full && made.has_sent) ≡ true →

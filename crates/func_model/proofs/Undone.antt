@@ -18,7 +18,7 @@ use Rattle.func_model.specs.declared.found.Fetched.{Fetched}
 use Rattle.func_model.specs.declared.found.Fetched.TheVariants as fetched
 use Rattle.func_model.specs.Hart.{found_in, FetchedFits, IsDestination}
 use Rattle.func_model.specs.Steps.{is_full, stepped_by, behind, Told}
-use Rattle.func_model.specs.Undo.{registers_back, shortened, undone, uncounted, csrs_back, is_executed, IsRestorable, TakesBack, register_before, past_of}
+use Rattle.func_model.specs.Undo.{registers_back, shortened, undone, uncounted, is_executed, IsRestorable, TakesBack, register_before, past_of}
 use Rattle.func_model.proofs.Evaluated.{destination_exists}
 
 -- an output that isn't full lets the instruction be executed

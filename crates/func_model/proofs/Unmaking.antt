@@ -1,12 +1,11 @@
 -- A step of the run alone is taken back, its interrupt included.
-use Rattle.std.proofs.Common.{◌≡◌, ℕ, Bool, true, false, if◌then◌else◌, Some, Option, is_some, refl, ap, sym, ◌∙◌}
+use Rattle.std.proofs.Common.{◌≡◌, ℕ, Bool, true, false, if◌then◌else◌, Some, is_some, refl, ap, sym, ◌∙◌}
 use Rattle.machine_csr.specs.Trap.{timer_pending}
 use Rattle.mono_model.specs.declared.setup.Setup.{Setup}
 use Rattle.mono_model.specs.Setup.{ram_range}
 use Rattle.mono_model.specs.Arch.{Arch, compare_of, trapped, interrupted}
-use Rattle.mono_model.specs.Effect.{note_of}
 use Rattle.mono_model.specs.Found.{is_fence_i}
-use Rattle.mono_model.specs.Sequence.{found_next, result_at, seq, entry_at}
+use Rattle.mono_model.specs.Sequence.{found_next, entry_at}
 use Rattle.trace_entry.specs.declared.Entry.{Entry}
 use Rattle.func_model.specs.declared.performed.Interrupted.{Interrupted}
 use Rattle.func_model.specs.declared.performed.Made.{Made}

@@ -1,5 +1,5 @@
 -- What a run alone that remembers its last steps stands for: a setup, and a number of steps.
-use Rattle.std.specs.Prelude.{◌≡◌, ℕ, ◌+◌, ◌^◌, ◌<◌, ◌≤◌, ◌↔◌, Bool, true, false, IsTrue, suc, if◌then◌else◌, List, [], ◌∷◌, length, Option, Some, None, IfNone, IfSome}
+use Rattle.std.specs.Prelude.{◌≡◌, ℕ, ◌+◌, ◌^◌, ◌<◌, ◌≤◌, ◌↔◌, Bool, false, suc, if◌then◌else◌, List, [], ◌∷◌, length, Option, IfNone, IfSome}
 use Rattle.mono_model.specs.declared.final_state.End.{End}
 use Rattle.mono_model.specs.declared.final_state.End.TheVariants.{Running}
 use Rattle.mono_model.specs.declared.setup.Setup.{Setup}

@@ -1,8 +1,6 @@
 ghost use Rattle.std.specs.Prelude.{◌≡◌, ◌<◌, ◌≤◌, ◌+◌, ◌-◌, ◌^◌, Some, IfOk, is_none, length};
 ghost use Rattle.std.specs.Prelude.{◌&&◌, map, true, if◌then◌else◌};
-ghost use Rattle.mono_model.specs.Final.{end_of};
 ghost use Rattle.mono_model.specs.Result.{is_time_load, is_time_read};
-ghost use Rattle.mono_model.specs.Found.{is_fence_i};
 ghost use Rattle.func_model.specs.Hart.{found_in};
 ghost use Rattle.mono_model.specs.Arch.{compare_of};
 ghost use Rattle.func_model.specs.Undo.{ended_in, is_device};
@@ -13,7 +11,7 @@ use crate::performed::{Interrupted, Made, PastStep, Stepped};
 use device_bus::{Bus, Device};
 use fsim_base::{Access, Halt, NoMemory, RamRange, Width};
 use machine_csr::Csrs;
-use mono_model::{End, Final, Setup, Stats};
+use mono_model::{End, Final, Setup, Stats, end_of};
 use phys_mem::Ram;
 use std::alloc::Global;
 use trace_entry::Entry;
@@ -24,16 +22,6 @@ const TIMER_INTERRUPT: u32 = 0x8000_0007;
 
 /// The address of the low half of the timer's time; the high half stands behind it.
 const TIME: u32 = 0x0200_bff8;
-
-/// The end that the program asked for.
-pub fn end_of(halt: Halt) -> End
-    ensures end { result ≡ end_of halt }
-{
-    match halt {
-        Halt::Pass => End::Pass,
-        Halt::Fail(code) => End::Fail(code),
-    }
-}
 
 /// How the program ended the run, where it did.
 fn halt_in(stepped: Stepped) -> Option<Halt>

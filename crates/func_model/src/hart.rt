@@ -12,6 +12,7 @@ use crate::found::Fetched;
 use crate::performed::{Performed, Stepped};
 use device_bus::{Bus, Device, Note};
 use fsim_base::{Access, Cause, Spot, Width, wrap_add};
+use machine_csr::address::{MCAUSE, MEPC, MSCRATCH, MTVAL, MTVEC};
 use machine_csr::{CsrWrite, Csrs, reads_time};
 use phys_mem::Ram;
 use rv_decode::{Insn, decode};
@@ -163,17 +164,6 @@ fn flags_before(csrs: &Csrs) -> OldCsr
         mtie: csrs.mtie,
     }
 }
-
-/// The addresses of the registers that are put back one by one.
-const MTVEC: u16 = 0x305;
-
-const MSCRATCH: u16 = 0x340;
-
-const MEPC: u16 = 0x341;
-
-const MCAUSE: u16 = 0x342;
-
-const MTVAL: u16 = 0x343;
 
 /// What a write changes, as it is before.
 #[tactic(auto, unfolding(machine_csr::specs::Csr::csr_written, machine_csr::specs::Csr::row_at))]
@@ -463,22 +453,16 @@ impl Hart {
         } = access;
         if let Some(old) = self.memory.set(addr, width, value) {
             self.finish(None, 0, next);
+            let spot = Spot::Ram;
             return Performed {
-                access: Access::Store {
-                    addr,
-                    width,
-                    spot: Spot::Ram,
-                },
+                access: Access::Store { addr, width, spot },
                 ..plain(Change::Memory { addr, width, old })
             };
         }
         let Some(place) = bus.find(addr, width) else {
             let spot = Spot::Nowhere;
-            return self.fail(
-                Access::Store { addr, width, spot },
-                Cause::StoreAccess,
-                addr,
-            );
+            let tried = Access::Store { addr, width, spot };
+            return self.fail(tried, Cause::StoreAccess, addr);
         };
         let spot = Spot::Device;
         let made = Access::Store { addr, width, spot };

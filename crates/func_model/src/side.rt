@@ -116,7 +116,10 @@ impl<D: Device> FuncSide<D> {
         ensures none { IsNone result ↔ IsAtRest self.old }
         ensures same { IfNone result (self.new ≡ self.old) }
     {
-        self.walk.produce()
+        if self.walk.is_stopped || self.walk.journal.is_full() {
+            return None;
+        }
+        Some(self.walk.step())
     }
 
     /// Obeys an order of the timing side. Each but Commit goes to instruction `n`, backwards by
@@ -135,7 +138,14 @@ impl<D: Device> FuncSide<D> {
         ensures moved { IsObeyed order self.old self.new }
         ensures committed_never_falls { self.old.committed ≤ self.new.committed }
     {
-        self.walk.obey(order);
+        match order {
+            Order::Set { n, addr } => self.walk.set(n, addr),
+            Order::Commit { n } => self.walk.commit(n),
+            Order::Interrupt { n } => self.walk.interrupt(n),
+            Order::Time { n, v } => self.walk.serve(n, v),
+            Order::Stop { n } => self.walk.stop(n),
+            Order::Sync { n } => self.walk.sync(n),
+        }
     }
 
     /// Runs alone, without a timing side: one instruction a step, with the step's number as its

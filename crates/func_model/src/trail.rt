@@ -3,12 +3,12 @@ ghost use Rattle.std.specs.Prelude.{IfOk, IfNone, IfSome, IsTrue};
 ghost use Rattle.mono_model.specs.Final.{has_ended};
 ghost use Rattle.func_model.specs.History.{end_by};
 
-use crate::contents::{Contents, end_of};
+use crate::contents::Contents;
 use crate::performed::PastStep;
 use circular_buffer::HeapCircularBuffer;
 use device_bus::Device;
 use fsim_base::{Halt, NoMemory};
-use mono_model::{End, Setup};
+use mono_model::{End, Setup, end_of};
 use std::alloc::Global;
 
 /// Whether a run that stands so has ended.
@@ -96,9 +96,8 @@ impl<D: Device> Trail<D> {
         if has_ended(self.end) {
             return Some(self.end);
         }
-        let is_full = self.contents.output().len() >= self.limit as usize;
         let made = self.contents.make(self.at);
-        if is_full && made.has_sent {
+        if made.has_sent && self.contents.output().len() > self.limit as usize {
             self.contents.unmake(made.past);
             return Some(End::OutputFull);
         }

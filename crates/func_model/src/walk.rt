@@ -1,11 +1,10 @@
-ghost use Rattle.std.specs.Prelude.{◌≡◌, ◌↔◌, ◌⊎◌, ◌<◌, ◌≤◌, ◌+◌, ◌^◌, ℕ, Option, Some, None, true};
-ghost use Rattle.std.specs.Prelude.{false, map, IfOk, IfSome, IfNone, IsNone, length};
+ghost use Rattle.std.specs.Prelude.{◌≡◌, ◌<◌, ◌≤◌, ◌+◌, ◌^◌, Option, Some, None, true, false, map};
+ghost use Rattle.std.specs.Prelude.{IfOk, length};
 
 use crate::contents::Contents;
 use device_bus::Device;
 use fsim_base::NoMemory;
 use mono_model::Setup;
-use rollback_cmds::Order;
 use std::alloc::Global;
 use trace_entry::Entry;
 use undo_journal::Journal;
@@ -25,7 +24,7 @@ pub struct Walk<D: Device> {
     /// An instruction, by its number, and the time that it was given.
     pub given: Option<(u64, u64)>,
     pub is_stopped: bool,
-    /// How many bytes of output have room in a run without a timing side.
+    /// How many bytes of output have room: of what is committed, and in a run alone.
     pub limit: u32,
 }
 
@@ -38,10 +37,8 @@ impl<D: Device> Walk<D> {
     ghost use Rattle.device_bus.specs.Bus.{device_order};
     ghost use Rattle.mono_model.specs.Setup.{is_setup};
     ghost use Rattle.mono_model.specs.Path.{path, entry};
-    ghost use Rattle.mono_model.specs.Demand.{number_of};
     ghost use Rattle.func_model.specs.Walk.{IsOnPath, WalkStandsFor, IsOnSomePath, CanGoTo};
-    ghost use Rattle.func_model.specs.Walk.{IsOver, IsSameBut, IsStanding, IsFresh, IsMoved};
-    ghost use Rattle.func_model.specs.Walk.{IsForward, IsAtRest, IsProduced, IsObeyed, HasRoom};
+    ghost use Rattle.func_model.specs.Walk.{IsSameBut, IsStanding, IsFresh, IsMoved};
     ghost use Rattle.func_model.specs.Walk.{bytes_before, given_at};
 
     /// The walk at the start of a run. All memory of the run is taken here.
@@ -77,7 +74,7 @@ impl<D: Device> Walk<D> {
     }
 
     /// Executes the next instruction, and notes what takes it back, unless it is committed.
-    fn step(&mut self) -> Entry
+    pub fn step(&mut self) -> Entry
         requires standing { IsStanding self.old }
         requires running { self.old.is_stopped ≡ false }
         requires room { self.old.position < self.old.committed + self.old.journal.room }
@@ -152,7 +149,7 @@ impl<D: Device> Walk<D> {
 
     /// Makes `n` the number of the first instruction that isn't committed. What is below can't be
     /// taken back any more.
-    fn commit(&mut self, n: u64)
+    pub fn commit(&mut self, n: u64)
         requires from { self.old.committed ≤ n }
         ensures holds { (s : RunSetup) (os : List SpecOrder) → IsOnPath s os self.old
             → length (path s os n).output ≤ s.output → IsOnPath s os self.new }
@@ -165,7 +162,7 @@ impl<D: Device> Walk<D> {
     }
 
     /// Instruction `n` stands at `addr`.
-    fn set(&mut self, n: u64, addr: u32)
+    pub fn set(&mut self, n: u64, addr: u32)
         requires able { CanGoTo n self.old }
         requires epoch { self.old.epoch < 2 ^ 63 }
         ensures stands { (s : RunSetup) (os : List SpecOrder) → WalkStandsFor s os self.old
@@ -178,7 +175,7 @@ impl<D: Device> Walk<D> {
     }
 
     /// The timer interrupt is taken before instruction `n`, and committed.
-    fn interrupt(&mut self, n: u64)
+    pub fn interrupt(&mut self, n: u64)
         requires able { CanGoTo n self.old }
         requires epoch { self.old.epoch < 2 ^ 63 }
         requires within { bytes_before self.old n ≤ self.old.limit }
@@ -194,7 +191,7 @@ impl<D: Device> Walk<D> {
     }
 
     /// Instruction `n` is given a time.
-    fn serve(&mut self, n: u64, time: u64)
+    pub fn serve(&mut self, n: u64, time: u64)
         requires able { CanGoTo n self.old }
         requires epoch { self.old.epoch < 2 ^ 63 }
         ensures stands { (s : RunSetup) (os : List SpecOrder) → WalkStandsFor s os self.old
@@ -207,7 +204,7 @@ impl<D: Device> Walk<D> {
     }
 
     /// The run has ended before instruction `n`.
-    fn stop(&mut self, n: u64)
+    pub fn stop(&mut self, n: u64)
         requires able { CanGoTo n self.old }
         requires epoch { self.old.epoch < 2 ^ 63 }
         ensures stands { (s : RunSetup) (os : List SpecOrder) → WalkStandsFor s os self.old
@@ -220,7 +217,7 @@ impl<D: Device> Walk<D> {
     }
 
     /// Fetch sees memory as it stands before instruction `n`, which is committed.
-    fn sync(&mut self, n: u64)
+    pub fn sync(&mut self, n: u64)
         requires able { CanGoTo n self.old }
         requires epoch { self.old.epoch < 2 ^ 63 }
         requires within { bytes_before self.old n ≤ self.old.limit }
@@ -232,45 +229,5 @@ impl<D: Device> Walk<D> {
         self.commit(n);
         self.contents.sync();
         self.epoch += 1;
-    }
-
-    /// The next entry of the path; None exactly where the journal is full or the walk is stopped.
-    pub fn produce(&mut self) -> Option<Entry>
-        requires standing { self.old.is_stopped ≡ false → IsStanding self.old }
-        requires bounded { self.old.position < 2 ^ 63 }
-        ensures produced { (s : RunSetup) (os : List SpecOrder) → WalkStandsFor s os self.old
-            → IsProduced s os self.old self.new result }
-        ensures moved { IfSome result (λ e. IsForward self.old self.new) }
-        ensures none { IsNone result ↔ IsAtRest self.old }
-        ensures same { IfNone result (self.new ≡ self.old) }
-    {
-        if self.is_stopped || self.journal.is_full() {
-            return None;
-        }
-        Some(self.step())
-    }
-
-    /// Obeys an order.
-    pub fn obey(&mut self, order: Order)
-        requires able { IsStanding self.old ⊎ IsOver self.old }
-        requires reach { self.old.is_stopped ≡ true → number_of order ≤ self.old.position }
-        requires from { self.old.committed ≤ number_of order }
-        requires room { number_of order ≤ self.old.committed + self.old.journal.room }
-        requires bounded { number_of order < 2 ^ 63 }
-        requires epoch { self.old.epoch < 2 ^ 63 }
-        requires within { HasRoom order self.old self.old.limit }
-        ensures stands { (s : RunSetup) (os : List SpecOrder) → WalkStandsFor s os self.old
-            → WalkStandsFor s (order ∷ os) self.new }
-        ensures moved { IsObeyed order self.old self.new }
-        ensures committed_never_falls { self.old.committed ≤ self.new.committed }
-    {
-        match order {
-            Order::Set { n, addr } => self.set(n, addr),
-            Order::Commit { n } => self.commit(n),
-            Order::Interrupt { n } => self.interrupt(n),
-            Order::Time { n, v } => self.serve(n, v),
-            Order::Stop { n } => self.stop(n),
-            Order::Sync { n } => self.sync(n),
-        }
     }
 }

@@ -2,7 +2,7 @@
 //! and return.
 #![tactic(auto)]
 
-mod address;
+pub mod address;
 mod csrs;
 mod form;
 

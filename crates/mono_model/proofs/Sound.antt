@@ -8,7 +8,7 @@ use Rattle.branch_predictor.specs.Params as predictor
 use Rattle.cache_timing.specs.Params as caches
 use Rattle.cache_timing.specs.declared.params.CacheParams.{CacheParams}
 use Rattle.mono_model.specs.Ranges.{is_between, is_power_between, is_ram, is_cache}
-use Rattle.mono_model.specs.Setup.{ram_range, predictor_params, icache_params, dcache_params, l2_params, caches_params, is_version, are_core, are_units, is_predictor, are_caches, are_params, is_setup}
+use Rattle.mono_model.specs.Setup.{ram_range, predictor_params, icache_params, dcache_params, l2_params, caches_params, is_version, are_core, are_units, is_predictor, are_caches, are_params, input_limit, output_limit, cycle_limit, ring_limit, is_setup}
 use Rattle.mono_model.specs.Sound.{IsSetup}
 use Rattle.mono_model.specs.declared.params.Params.{Params}
 use Rattle.mono_model.specs.declared.setup.Setup.{Setup}
@@ -143,10 +143,10 @@ unfolding is_setup
 setup_facts s is =
     let p = s.params in
     let sound : Bool = is_sound s.image (ram_range p) in
-    let input : Bool = nat_le (length s.input) 16777216 in
-    let cycles : Bool = is_between 1 1099511627776 s.cycles in
-    let output : Bool = nat_le s.output 16777216 in
-    let (five, ring) = and_parts (sound && are_params p && input && cycles && output) (is_between 1 65536 s.ring) is in
+    let input : Bool = nat_le (length s.input) input_limit in
+    let cycles : Bool = is_between 1 cycle_limit s.cycles in
+    let output : Bool = nat_le s.output output_limit in
+    let (five, ring) = and_parts (sound && are_params p && input && cycles && output) (is_between 1 ring_limit s.ring) is in
     let (four, sent) = and_parts (sound && are_params p && input && cycles) output five in
     let (three, limit) = and_parts (sound && are_params p && input) cycles four in
     let (two, given) = and_parts (sound && are_params p) input three in
@@ -161,12 +161,12 @@ setup_facts s is =
       window = core.1.1;
       predictor = predictor_is p parts.predictor;
       caches = caches_are p parts.caches;
-      input = leb-true (length s.input) 16777216 given;
-      some_cycle = (between 1 1099511627776 s.cycles limit).0;
-      cycles = (between 1 1099511627776 s.cycles limit).1;
-      output = leb-true s.output 16777216 sent;
-      some_ring = (between 1 65536 s.ring ring).0;
-      ring = (between 1 65536 s.ring ring).1;
+      input = leb-true (length s.input) input_limit given;
+      some_cycle = (between 1 cycle_limit s.cycles limit).0;
+      cycles = (between 1 cycle_limit s.cycles limit).1;
+      output = leb-true s.output output_limit sent;
+      some_ring = (between 1 ring_limit s.ring ring).0;
+      ring = (between 1 ring_limit s.ring ring).1;
     }
 
 -- the test of a setup, from that of its parameters and the other facts
@@ -179,8 +179,8 @@ all_true a b first second = ap (λ x. x && b) first ∙ second
 is_from : (low high n : ℕ) → (low ≤ n) × (n ≤ high) → is_between low high n ≡ true
 is_from low high n inside = all_true (nat_le low n) (nat_le n high) (at_most low n inside.0) (at_most n high inside.1)
 
-pub is_setup-from : (s : Setup) → IsSound s.image (ram_range s.params) → are_params s.params ≡ true → length s.input ≤ 16777216 → (1 ≤ s.cycles) × (s.cycles ≤ 1099511627776) →
-    s.output ≤ 16777216 → (1 ≤ s.ring) × (s.ring ≤ 65536) → is_setup s ≡ true
+pub is_setup-from : (s : Setup) → IsSound s.image (ram_range s.params) → are_params s.params ≡ true → length s.input ≤ input_limit → (1 ≤ s.cycles) × (s.cycles ≤ cycle_limit) →
+    s.output ≤ output_limit → (1 ≤ s.ring) × (s.ring ≤ ring_limit) → is_setup s ≡ true
 unfolding is_setup
 is_setup-from s image params input cycles output ring =
-    all_true _ _ (all_true _ _ (all_true _ _ (all_true _ _ (all_true _ _ (test-from_IsSound s.image (ram_range s.params) image) params) (at_most (length s.input) 16777216 input)) (is_from 1 1099511627776 s.cycles cycles)) (at_most s.output 16777216 output)) (is_from 1 65536 s.ring ring)
+    all_true _ _ (all_true _ _ (all_true _ _ (all_true _ _ (all_true _ _ (test-from_IsSound s.image (ram_range s.params) image) params) (at_most (length s.input) input_limit input)) (is_from 1 cycle_limit s.cycles cycles)) (at_most s.output output_limit output)) (is_from 1 ring_limit s.ring ring)

@@ -211,7 +211,8 @@ number_of (Time n v) = n
 number_of (Stop n) = n
 number_of (Sync n) = n
 
--- the number in the order that opens an epoch; 0 for epoch 0 and where no order opens it
+-- the number in an order, if it is an opening and no epoch is left to be opened before the one that is asked for; else
+-- that of a later one
 abbrev pub opening_number : Bool → ℕ → ℕ → ℕ → ℕ
 opening_number true zero number later = number
 opening_number true (suc left) number later = later
@@ -222,6 +223,7 @@ abbrev pub opening_in : List Order → ℕ → ℕ
 opening_in [] left = 0
 opening_in (o ∷ os) left = opening_number (opens_epoch_of o) left (number_of o) (opening_in os (if opens_epoch_of o then left - 1 else left))
 
+-- the number in the order that opens an epoch, at which it begins; 0 for epoch 0 and where no order opens it
 unfoldable pub first : Setup → ℕ → ℕ
 first s zero = 0
 first s (suc epoch) = opening_in (orders s) epoch

@@ -4,7 +4,7 @@ use Rattle.elf_image.specs.Sound.{IsSound}
 use Rattle.branch_predictor.specs.Params as predictor
 use Rattle.cache_timing.specs.Params as caches
 use Rattle.mono_model.specs.declared.setup.Setup.{Setup}
-use Rattle.mono_model.specs.Setup.{ram_range, predictor_params, caches_params}
+use Rattle.mono_model.specs.Setup.{ram_range, predictor_params, caches_params, input_limit, output_limit, cycle_limit, ring_limit}
 
 -- Of a setup that a run may have:
 pub record IsSetup (s : Setup) : Type 0 where
@@ -18,9 +18,9 @@ pub record IsSetup (s : Setup) : Type 0 where
   pub predictor : predictor.IsInRange (predictor_params s.params)
   pub caches : caches.AreInRange (caches_params s.params)
   -- the input, and the bounds of the run
-  pub input : length s.input ≤ 16777216
+  pub input : length s.input ≤ input_limit
   pub some_cycle : 1 ≤ s.cycles
-  pub cycles : s.cycles ≤ 1099511627776
-  pub output : s.output ≤ 16777216
+  pub cycles : s.cycles ≤ cycle_limit
+  pub output : s.output ≤ output_limit
   pub some_ring : 1 ≤ s.ring
-  pub ring : s.ring ≤ 65536
+  pub ring : s.ring ≤ ring_limit

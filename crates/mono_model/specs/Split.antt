@@ -11,7 +11,7 @@ use Rattle.mono_model.specs.Path.{path, entry, openings}
 use Rattle.mono_model.specs.Demand.{At, interrupting, committing, completing, issuing, trying, ending, stopping, halted, Place, place_start, step, told, needs_entry}
 
 pub record Split : Type 0 where
-  -- the functional side: the orders obeyed, the newest first; its position; its committed number; the entry in hand
+  -- the functional side: the orders obeyed, the newest first; its position; its committed number; the computed entry
   pub obeyed : List Order
   pub position : ℕ
   pub committed_number : ℕ

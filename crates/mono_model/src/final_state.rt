@@ -1,3 +1,7 @@
+ghost use Rattle.std.specs.Prelude.{◌≡◌};
+ghost use Rattle.mono_model.specs.Final.{end_of};
+
+use fsim_base::Halt;
 use machine_csr::Csrs;
 
 /// How a run stands or ended.
@@ -13,6 +17,16 @@ pub enum End {
     OutputFull,
     /// The run has not ended.
     Running,
+}
+
+/// The end that a store to the finisher brings.
+pub fn end_of(halt: Halt) -> End
+    ensures end { result ≡ end_of halt }
+{
+    match halt {
+        Halt::Pass => End::Pass,
+        Halt::Fail(code) => End::Fail(code),
+    }
 }
 
 /// What is counted in a run.

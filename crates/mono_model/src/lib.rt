@@ -9,6 +9,6 @@ mod final_state;
 mod params;
 mod setup;
 
-pub use final_state::{End, Final, Stats};
+pub use final_state::{End, Final, Stats, end_of};
 pub use params::Params;
 pub use setup::Setup;

@@ -7,11 +7,13 @@ use Rattle.std.proofs.lemmas.List.{length-set, get_or-set_same, get_or-set_other
 use Rattle.reservation_stations.specs.declared.mask.Mask.{Mask}
 use Rattle.reservation_stations.specs.declared.station.Mark.{Mark}
 use Rattle.reservation_stations.specs.declared.row.Row.{Row}
+use Rattle.reservation_stations.specs.declared.row.News.{News}
+use Rattle.reservation_stations.specs.declared.row.News.TheVariants.{HasValue, Retires}
 use Rattle.reservation_stations.specs.Mask.{holds, is_index}
 use Rattle.reservation_stations.specs.declared.waits.Waits.{Waits}
 use Rattle.reservation_stations.specs.Waits.{waits_on}
 use Rattle.reservation_stations.specs.AreTables.{row_at, free_row}
-use Rattle.reservation_stations.specs.Changes.{without, Releases, Forgets, EachChanges}
+use Rattle.reservation_stations.specs.Changes.{without, Releases, Forgets, Hears, EachChanges}
 use Rattle.reservation_stations.specs.Covers.{AreCovered, Notes, dependents_of, no_indices}
 
 -- those below a bound have changed, and the others stand as they were
@@ -75,6 +77,16 @@ both_true : (b c : Bool) → (b && c) ≡ true → b ≡ true
 both_true true c is = refl
 both_true false c is = cc
 
+-- what news of an index leaves of a row
+pub record HeardKeeps (index : ℕ) (old new : Row) : Type 0 where
+  pub mark : new.mark ≡ old.mark
+  pub turn : new.turn ≡ old.turn
+  pub waits : (other : ℕ) → waits_on new.waits other ≡ (waits_on old.waits other && not (other == index))
+
+pub heard_keeps : (news : News) (index : ℕ) (old new : Row) → Hears news index old new → HeardKeeps index old new
+heard_keeps HasValue index old new is = record { mark = ap (λ (e : Row). e.mark) is.kept; turn = ap (λ (e : Row). e.turn) is.kept; waits = is.waits }
+heard_keeps Retires index old new is = record { mark = ap (λ (e : Row). e.mark) is.kept; turn = ap (λ (e : Row). e.turn) is.kept; waits = is.waits }
+
 -- a row that doesn't depend on an index stands as it is
 module _ (rows : List Row) (dependents : List Mask) (index : ℕ) (covers : AreCovered rows dependents) where
   no_wait : (k : ℕ) → k < length rows → holds (dependents_of dependents index) k ≡ false → (other : ℕ) → waits_on (row_at rows k).waits other ≡ (waits_on (row_at rows k).waits other && not (other == index))
@@ -124,11 +136,9 @@ module _ (rows : List Row) (dependents : List Mask) (index : ℕ) (covers : AreC
     pub known_within : (place : ℕ) → holds mask place ≡ true → place < length rows
     known_within place is = covers.within index place (ap (λ (m : Mask). holds m place) (sym is_mask) ∙ is)
 
-    pub mask_released : (k : ℕ) → k < length rows → holds mask k ≡ false → Releases index (row_at rows k) (row_at rows k)
-    mask_released k within none = still_released k within (ap (λ (m : Mask). holds m k) (sym is_mask) ∙ none)
-
-    pub mask_forgotten : (k : ℕ) → k < length rows → holds mask k ≡ false → Forgets index (row_at rows k) (row_at rows k)
-    mask_forgotten k within none = still_forgotten k within (ap (λ (m : Mask). holds m k) (sym is_mask) ∙ none)
+    pub mask_heard : (news : News) (k : ℕ) → k < length rows → holds mask k ≡ false → Hears news index (row_at rows k) (row_at rows k)
+    mask_heard HasValue k within none = still_released k within (ap (λ (m : Mask). holds m k) (sym is_mask) ∙ none)
+    mask_heard Retires k within none = still_forgotten k within (ap (λ (m : Mask). holds m k) (sym is_mask) ∙ none)
 
   not_itself : (b : Bool) → (b && not (index == index)) ≡ false
   not_itself true = rw (eq-eqb index index refl) refl

@@ -1,6 +1,8 @@
 -- How single rows and the table of producers change.
 use Rattle.std.specs.Prelude.{◌≡◌, ℕ, ◌<◌, ◌&&◌, ◌==◌, not, if◌then◌else◌, Option, Some, None, List, length, slice_set, get_or}
 use Rattle.reservation_stations.specs.declared.row.Row.{Row}
+use Rattle.reservation_stations.specs.declared.row.News.{News}
+use Rattle.reservation_stations.specs.declared.row.News.TheVariants.{HasValue, Retires}
 use Rattle.reservation_stations.specs.Waits.{waits_on}
 use Rattle.reservation_stations.specs.AreTables.{row_at}
 
@@ -19,6 +21,11 @@ pub record Forgets (index : ℕ) (old new : Row) : Type 0 where
   pub kept : record new { waits = old.waits; displaced = old.displaced } ≡ old
   pub waits : (other : ℕ) → waits_on new.waits other ≡ (waits_on old.waits other && not (other == index))
   pub displaced : new.displaced ≡ without index old.displaced
+
+-- what news of an index makes of a row
+abbrev pub Hears : News → ℕ → Row → Row → Type 0
+Hears HasValue = Releases
+Hears Retires = Forgets
 
 -- each row changes in this way
 pub record EachChanges (R : Row → Row → Type 0) (old new : List Row) : Type 0 where

@@ -1,6 +1,15 @@
 use crate::station::Mark;
 use crate::waits::Waits;
 
+/// What a station hears of an index that it depends on.
+#[derive(Clone, Copy, Debug, PartialEq, Eq)]
+pub enum News {
+    /// Its station's destination has a value.
+    HasValue,
+    /// Its station retires.
+    Retires,
+}
+
 /// What an index of the window keeps of the station that holds it.
 #[derive(Clone, Copy, Debug, PartialEq, Eq)]
 pub struct Row {
@@ -20,7 +29,7 @@ impl Row {
     ghost use Rattle.std.specs.Prelude.{◌≡◌, ◌↔◌, ◌+◌, ◌-◌, ◌%◌, ◌<◌, ℕ, false, IsTrue};
     ghost use Rattle.reservation_stations.specs.Waits.{waits_on};
     ghost use Rattle.reservation_stations.specs.AreTables.{free_row};
-    ghost use Rattle.reservation_stations.specs.Changes.{Releases, Forgets};
+    ghost use Rattle.reservation_stations.specs.Changes.{Releases, Forgets, Hears};
     ghost use Rattle.reservation_stations.specs.Places.{IsReady, place_in};
 
     /// The row of an index that no station held yet.
@@ -71,6 +80,16 @@ impl Row {
         self.release(index);
         if self.displaced == Some(index) {
             self.displaced = None;
+        }
+    }
+
+    /// Its station hears of an index.
+    pub fn hear(&mut self, index: u32, news: News)
+        ensures heard { Hears news index self.old self.new }
+    {
+        match news {
+            News::HasValue => self.release(index),
+            News::Retires => self.forget(index),
         }
     }
 }

@@ -1,7 +1,7 @@
 use crate::mask::Mask;
-use crate::row::Row;
+use crate::row::{News, Row};
 use crate::station::Mark;
-use crate::tables::{drop_producer, forget, note, note_ready, release, set_producer, uncounted};
+use crate::tables::{drop_producer, note, note_ready, set_producer, tell, uncounted};
 use crate::waits::Waits;
 use circular_buffer::HeapCircularBuffer;
 use fsim_base::NoMemory;
@@ -202,11 +202,12 @@ impl Stations {
             self.rows[index as usize].mark = Mark::Faulted;
         } else {
             self.rows[index as usize].mark = Mark::Done;
-            release(
+            tell(
                 &mut self.rows,
                 &mut self.ready,
                 &self.dependents,
                 index,
+                News::HasValue,
                 self.retired,
             );
         }
@@ -224,11 +225,12 @@ impl Stations {
             ..
         } = self.rows[index as usize];
         let _ = self.order.pop_front();
-        forget(
+        tell(
             &mut self.rows,
             &mut self.ready,
             &self.dependents,
             index,
+            News::Retires,
             self.retired,
         );
         self.rows[index as usize].mark = Mark::Done;

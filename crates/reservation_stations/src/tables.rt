@@ -2,13 +2,13 @@
 ghost use Rattle.std.specs.Prelude.{◌≡◌, ◌<◌, ◌≤◌, ◌+◌, vec_len, if◌then◌else◌};
 ghost use Rattle.std.specs.Option.{ForSome};
 ghost use Rattle.reservation_stations.specs.Readiness.{is_waiting};
-ghost use Rattle.reservation_stations.specs.Changes.{Releases, Forgets, EachChanges, without};
+ghost use Rattle.reservation_stations.specs.Changes.{Hears, EachChanges, without};
 ghost use Rattle.reservation_stations.specs.Changes.{with_producer, producer_at};
 ghost use Rattle.reservation_stations.specs.Covers.{AreCovered, Notes};
 ghost use Rattle.reservation_stations.specs.Places.{KeepsReady, NotesReady};
 
 use crate::mask::Mask;
-use crate::row::Row;
+use crate::row::{News, Row};
 use crate::station::Mark;
 
 /// Notes an index among those that depend on another one, if one is given.
@@ -22,63 +22,33 @@ pub fn note(dependents: &mut Vec<Mask>, on: Option<u32>, index: u32)
     }
 }
 
-/// Lets every row wait no longer for an index, and puts the places of those that wait for nothing
-/// else into the ready ones, where so many stations retired. Only those that depend on it wait for
-/// it.
-pub fn release(
+/// Tells each row the news of an index, and puts the places of those that wait for nothing else into
+/// the ready ones, where so many stations retired before. Only those that depend on it know it.
+pub fn tell(
     rows: &mut Vec<Row>,
     ready: &mut Mask,
     dependents: &Vec<Mask>,
     index: u32,
+    news: News,
     retired: u8,
 )
     requires within { index < vec_len rows.old }
     requires limit { vec_len rows.old ≤ 256 }
     requires covered { AreCovered rows.old.items dependents.now.items }
-    ensures released { EachChanges (Releases index) rows.old.items rows.new.items }
-    ensures ready { KeepsReady retired rows.old.items ready.old rows.new.items ready.new }
-{
-    let waiting = dependents[index as usize];
-    let indices = rows.len() as u32;
-    let mut from = 0;
-    while from < indices {
-        let Some(place) = waiting.next(from, indices) else {
-            return;
-        };
-        let row = &mut rows[place as usize];
-        row.release(index);
-        note_ready(ready, row, retired);
-        from = place + 1;
-    }
-}
-
-/// Lets every row forget an index whose station retires, and puts the places of those that wait for
-/// nothing else into the ready ones, where so many stations retired before. Only those that depend
-/// on it know it.
-pub fn forget(
-    rows: &mut Vec<Row>,
-    ready: &mut Mask,
-    dependents: &Vec<Mask>,
-    index: u32,
-    retired: u8,
-)
-    requires within { index < vec_len rows.old }
-    requires limit { vec_len rows.old ≤ 256 }
-    requires covered { AreCovered rows.old.items dependents.now.items }
-    ensures forgotten { EachChanges (Forgets index) rows.old.items rows.new.items }
+    ensures told { EachChanges (Hears news index) rows.old.items rows.new.items }
     ensures ready { KeepsReady retired rows.old.items ready.old rows.new.items ready.new }
 {
     let knowing = dependents[index as usize];
     let indices = rows.len() as u32;
     let mut from = 0;
     while from < indices {
-        let Some(place) = knowing.next(from, indices) else {
+        let Some(dependent) = knowing.next(from, indices) else {
             return;
         };
-        let row = &mut rows[place as usize];
-        row.forget(index);
+        let row = &mut rows[dependent as usize];
+        row.hear(index, news);
         note_ready(ready, row, retired);
-        from = place + 1;
+        from = dependent + 1;
     }
 }
 

@@ -9,7 +9,7 @@ use Rattle.mono_model.specs.Split.{Split, tick, event_at, may_tick, is_halted, t
 use Rattle.mono_model.proofs.Next.{place-suc}
 use Rattle.time_model.specs.declared.state.TimeState.{TimeState}
 use Rattle.time_model.specs.declared.turn.Turn.{Turn}
-use Rattle.time_model.specs.Standing.{IsStep, IsMade, is_over}
+use Rattle.time_model.specs.Standing.{IsStep, IsMade, is_told_out}
 use Rattle.time_model.specs.Turns.{turn_told}
 use Rattle.split_core.specs.Events.{order_told}
 use Rattle.split_core.specs.declared.state.SplitState.{SplitState}
@@ -86,20 +86,20 @@ module _ {D : Type 0} (s : Setup) (x : Split) (state : SplitState D) (h : SplitS
         let is = made.waits parts.0 (none_is state.time.held parts.1) in
         let lacking : (needs_entry x.place && is_none x.held) ≡ true =
         ap (λ (p : Place). needs_entry p && is_none x.held) h.place ∙ ap (λ (o : Option Entry). needs_entry there && is_none o) (sym h.held) ∙ lacks in
-        stays (may_not_lack (is_none x.hand) (is_over x.place) (needs_entry x.place && is_none x.held) lacking) (ap order_told is.0) is.1
+        stays (may_not_lack (is_none x.hand) (is_told_out x.place) (needs_entry x.place && is_none x.held) lacking) (ap order_told is.0) is.1
 
-    rests : is_over there ≡ true → Stepped
+    rests : is_told_out there ≡ true → Stepped
     rests over =
         let is = made.rests over in
-        stays (may_not_over (is_none x.hand) (is_over x.place) (needs_entry x.place && is_none x.held) (ap is_over h.place ∙ over)) (ap order_told is.0) is.1
+        stays (may_not_over (is_none x.hand) (is_told_out x.place) (needs_entry x.place && is_none x.held) (ap is_told_out h.place ∙ over)) (ap order_told is.0) is.1
 
-    goes : (needs_entry there && is_none state.time.held) ≡ false → is_over there ≡ false → Stepped
+    goes : (needs_entry there && is_none state.time.held) ≡ false → is_told_out there ≡ false → Stepped
     goes fed on =
         let is : IsMade s h.behind state.time time turn = made.goes fed on in
         let fed_x : (needs_entry x.place && is_none x.held) ≡ false =
         ap (λ (p : Place). needs_entry p && is_none x.held) h.place ∙ ap (λ (o : Option Entry). needs_entry there && is_none o) (sym h.held) ∙ fed in
         let may : may_tick x ≡ true =
-        may_by (is_none x.hand) (is_over x.place) (needs_entry x.place && is_none x.held) (ap is_none hand_none) (ap is_over h.place ∙ on) fed_x in
+        may_by (is_none x.hand) (is_told_out x.place) (needs_entry x.place && is_none x.held) (ap is_none hand_none) (ap is_told_out h.place ∙ on) fed_x in
         let next : place s (suc h.behind) ≡ step s x.place = place-suc s h.behind ∙ ap (step s) (sym h.place) in
         let told : told_by there (place s (suc h.behind)) ≡ told_by x.place (step s x.place) =
         ap (λ (p : Place). told_by p (place s (suc h.behind))) (sym h.place) ∙ ap (told_by x.place) next in
@@ -133,10 +133,10 @@ module _ {D : Type 0} (s : Setup) (x : Split) (state : SplitState D) (h : SplitS
         let P : Option Order → Type 0 = λ o. SplitStandsFor s (event_at s tick x) (record state { time = time; hand = o }) in
         subst P (sym told) (by_lack (needs_entry there && is_none state.time.held) refl)
       where
-        by_over : (lacks : (needs_entry there && is_none state.time.held) ≡ false) (b : Bool) → is_over there ≡ b → Stepped
+        by_over : (lacks : (needs_entry there && is_none state.time.held) ≡ false) (b : Bool) → is_told_out there ≡ b → Stepped
         by_over fed true is = rests is
         by_over fed false is = goes fed is
 
         by_lack : (b : Bool) → (needs_entry there && is_none state.time.held) ≡ b → Stepped
         by_lack true is = waits is
-        by_lack false is = by_over is (is_over there) refl
+        by_lack false is = by_over is (is_told_out there) refl

@@ -10,7 +10,7 @@ use Rattle.machine_laws.proofs.Owing.{place_owes}
 use Rattle.timing_laws.specs.Seen.{seen_at}
 use Rattle.time_model.specs.declared.state.TimeState.{TimeState}
 use Rattle.time_model.specs.At.{at_in}
-use Rattle.time_model.specs.Standing.{TimeSideStandsFor, owed_in, wants_in, is_over}
+use Rattle.time_model.specs.Standing.{TimeSideStandsFor, owed_in, wants_in, is_told_out}
 use Rattle.time_model.specs.Turning.{over_in}
 use Rattle.time_model.proofs.Bool.{and_if, and_swap}
 
@@ -33,7 +33,7 @@ stands_wants s k side h =
     ∙ ap (λ (at : At). ((place s k).owed == 0) && is_try at && is_none side.held) h.at
     ∙ ap (λ (b : Bool). b && is_none side.held) (and_if ((place s k).owed == 0) (is_try (place s k).run.at))
 
-pub stands_over : (s : Setup) (k : ℕ) (side : TimeState) → TimeSideStandsFor s k side → over_in side ≡ is_over (place s k)
+pub stands_over : (s : Setup) (k : ℕ) (side : TimeState) → TimeSideStandsFor s k side → over_in side ≡ is_told_out (place s k)
 stands_over s k side h =
     ap (λ (b : Bool). b && is_halted (at_in side.at)) (stands_owed s k side h)
     ∙ ap (λ (at : At). ((place s k).owed == 0) && is_halted at) h.at

@@ -23,7 +23,7 @@ use Rattle.time_model.specs.declared.state.TimeState.{TimeState}
 use Rattle.time_model.specs.declared.turn.Turn.{Turn}
 use Rattle.time_model.specs.declared.turn.Turn.TheVariants as turn
 use Rattle.time_model.specs.At.{at_in}
-use Rattle.time_model.specs.Standing.{TimeSideStandsFor, IsStanding, owed_in, wants_in, is_over, IsMade, IsStep}
+use Rattle.time_model.specs.Standing.{TimeSideStandsFor, IsStanding, owed_in, wants_in, is_told_out, IsMade, IsStep}
 use Rattle.time_model.specs.Turning.{MayTry, IsTurned, IsTold, over_in, held_by, turned_by}
 use Rattle.time_model.proofs.Bool.{if_not}
 use Rattle.time_model.proofs.Owing.{stands_owed, stands_wants, stands_over}
@@ -52,7 +52,7 @@ module _ (s : Setup) (k : ℕ) (side : TimeState) (h : TimeSideStandsFor s k sid
   needs_of : wants_in side ≡ true → needs_entry (place s k) ≡ true
   needs_of wants = (and_parts (needs_entry (place s k)) (is_none side.held) (sym (stands_wants s k side h) ∙ wants)).0
 
-  not_over : needs_entry (place s k) ≡ true → is_over (place s k) ≡ false
+  not_over : needs_entry (place s k) ≡ true → is_told_out (place s k) ≡ false
   not_over needs = ap (λ (b : Bool). b && (place s k).owed == 0) (needs_on (place s k) needs)
 
   pub waiting_step : wants_in side ≡ true → IsStep s k side side turn.Want
@@ -69,7 +69,7 @@ module _ (s : Setup) (k : ℕ) (side : TimeState) (h : TimeSideStandsFor s k sid
     goes = λ more on. let off = stands_over s k side h in cc;
   }
 
-  pub going_step : (new : TimeState) (what : Turn) → wants_in side ≡ false → over_in side ≡ false → (is_over (place s k) ≡ false → IsMade s k side new what) → IsStep s k side new what
+  pub going_step : (new : TimeState) (what : Turn) → wants_in side ≡ false → over_in side ≡ false → (is_told_out (place s k) ≡ false → IsMade s k side new what) → IsStep s k side new what
   going_step new what free on made = record {
     waits = λ needs none. absurd (wanting needs none (sym (stands_wants s k side h) ∙ free));
     rests = λ over. let off = stands_over s k side h in cc;
@@ -82,7 +82,7 @@ module _ (s : Setup) (k : ℕ) (side : TimeState) (h : TimeSideStandsFor s k sid
 
 -- a side stands behind each step
 pub stands_after : (old new : TimeState) (what : Turn) → IsStanding old → ((s : Setup) (k : ℕ) → is_setup s ≡ true → TimeSideStandsFor s k old → IsStep s k old new what) → IsStanding new
-stands_after old new what is step = by_tests (needs_entry p) refl (is_none old.held) refl (is_over p) refl
+stands_after old new what is step = by_tests (needs_entry p) refl (is_none old.held) refl (is_told_out p) refl
   where
     s : Setup
     s = is.setup
@@ -100,7 +100,7 @@ stands_after old new what is step = by_tests (needs_entry p) refl (is_none old.h
     none_held None e = refl
     none_held (Some e) none = cc
 
-    by_tests : (a : Bool) → needs_entry (place is.setup is.steps) ≡ a → (b : Bool) → is_none old.held ≡ b → (c : Bool) → is_over (place is.setup is.steps) ≡ c → IsStanding new
+    by_tests : (a : Bool) → needs_entry (place is.setup is.steps) ≡ a → (b : Bool) → is_none old.held ≡ b → (c : Bool) → is_told_out (place is.setup is.steps) ≡ c → IsStanding new
     by_tests a needs b none true over = same (made.rests over).1
     by_tests true needs true none false on = same (made.waits needs (none_held old.held none)).1
     by_tests true needs false none false on = record { setup = is.setup; sound = is.sound; steps = suc is.steps; stands = (made.goes (λ i. needs i && none i) on).stands }

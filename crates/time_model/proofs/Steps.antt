@@ -29,13 +29,13 @@ use Rattle.time_model.specs.declared.state.TimeState.{TimeState}
 use Rattle.time_model.specs.declared.turn.Turn.{Turn}
 use Rattle.time_model.specs.At.{at_in}
 use Rattle.time_model.specs.Turns.{turn_told}
-use Rattle.time_model.specs.Standing.{TimeSideStandsFor, owed_in, is_over, IsMade}
+use Rattle.time_model.specs.Standing.{TimeSideStandsFor, owed_in, is_told_out, IsMade}
 use Rattle.time_model.specs.Turning.{IsTurned, IsTold, turned_by, turned_at, behind_first, owed_by, epoch_by, kept_by}
 use Rattle.machine_laws.proofs.Owing.{place_owes}
 use Rattle.time_model.proofs.Small.{epoch_small}
 
 -- a run that isn't over goes on
-pub goes_on : (p : Place) → Owes p → is_over p ≡ false → is_halted p.run.at ≡ false
+pub goes_on : (p : Place) → Owes p → is_told_out p ≡ false → is_halted p.run.at ≡ false
 goes_on p owes on = by_test (is_halted p.run.at) refl owes
   where
     by_test : (b : Bool) → is_halted p.run.at ≡ b → Owes p → is_halted p.run.at ≡ false
@@ -44,12 +44,12 @@ goes_on p owes on = by_test (is_halted p.run.at) refl owes
     by_test true is (owes_one some m o os orders opens still) = still
 
 -- what the next step makes
-pub next_stepped : (s : Setup) (k : ℕ) → is_over (place s k) ≡ false → Stepped (place s k) (place s (suc k))
+pub next_stepped : (s : Setup) (k : ℕ) → is_told_out (place s k) ≡ false → Stepped (place s k) (place s (suc k))
 next_stepped s k on =
     subst (λ (q : Place). Stepped (place s k) q) (sym (place-suc s k)) (step_stepped s (place s k) (goes_on (place s k) (place_owes s k) on) (place_owes s k))
 
 -- only a try appends
-pub none_appended : (s : Setup) (k : ℕ) → is_over (place s k) ≡ false → needs_entry (place s k) ≡ false → has_appended (place s k) (place s (suc k)) ≡ false
+pub none_appended : (s : Setup) (k : ℕ) → is_told_out (place s k) ≡ false → needs_entry (place s k) ≡ false → has_appended (place s k) (place s (suc k)) ≡ false
 none_appended s k on needs = by_test x.appends refl
   where
     x : Stepped (place s k) (place s (suc k))
@@ -172,7 +172,7 @@ kept_is false true h = refl
 kept_is false false h = refl
 
 -- a step that is made
-pub step_made : (s : Setup) (k : ℕ) (old mid : TimeState) (orders : Orders) (turn : Turn) → is_setup s ≡ true → TimeSideStandsFor s k old → is_over (place s k) ≡ false → IsTold s k old mid orders →
+pub step_made : (s : Setup) (k : ℕ) (old mid : TimeState) (orders : Orders) (turn : Turn) → is_setup s ≡ true → TimeSideStandsFor s k old → is_told_out (place s k) ≡ false → IsTold s k old mid orders →
     mid.epoch ≡ old.epoch → turn ≡ turn_told orders.first (at_in old.at) →
     IsMade s k old (record mid { owed = owed_by orders; epoch = epoch_by orders.first mid.epoch; held = kept_by orders.first mid.held }) turn
 unfolding seen_at

@@ -17,7 +17,7 @@ use Rattle.mono_model.specs.Fetch.{may_fetch}
 use Rattle.mono_model.specs.Demand.{turn, step, place, told, needs_entry, needed_entry}
 use Rattle.time_model.specs.declared.state.TimeState.{TimeState}
 use Rattle.time_model.specs.declared.turn.Turn.{Turn}
-use Rattle.time_model.specs.Standing.{TimeSideStandsFor, is_over, IsStep, IsRight}
+use Rattle.time_model.specs.Standing.{TimeSideStandsFor, is_told_out, IsStep, IsRight}
 use Rattle.time_model.specs.Trial.{trial, refused_fetch}
 
 -- four steps come before the first try
@@ -29,7 +29,7 @@ needs_none (suc (suc zero)) early = refl
 needs_none (suc (suc (suc zero))) early = refl
 needs_none (suc (suc (suc (suc k)))) early = absurd (omega arith)
 
-goes_on : (k : ℕ) → k < 4 → is_over (place trial k) ≡ false
+goes_on : (k : ℕ) → k < 4 → is_told_out (place trial k) ≡ false
 unfolding place step turn machine_start interrupt_phase commit_phase commits leaving complete_phase completes issue_phase wants_time walk may_fetch start
 goes_on zero early = refl
 goes_on (suc zero) early = refl

@@ -41,8 +41,8 @@ unfoldable pub wants_in : TimeState → Bool
 wants_in side = is_none side.owed && is_try (at_in side.at) && is_none side.held
 
 -- the run is over and all is told
-abbrev pub is_over : Place → Bool
-is_over p = is_halted p.run.at && p.owed == 0
+abbrev pub is_told_out : Place → Bool
+is_told_out p = is_halted p.run.at && p.owed == 0
 
 -- one step of the demand run was made
 pub record IsMade (s : Setup) (k : ℕ) (old new : TimeState) (turn : Turn) : Type 0 where
@@ -50,12 +50,12 @@ pub record IsMade (s : Setup) (k : ℕ) (old new : TimeState) (turn : Turn) : Ty
   pub held : new.held ≡ held_after (told_by (place s k) (place s (suc k))) (place s k) (place s (suc k)) old.held
   pub turn_is : turn ≡ turn_told (told_by (place s k) (place s (suc k))) (place s k).run.at
 
--- What a step makes of the side: it waits for the entry that its place needs, stands still at the end, and is made
--- elsewhere.
+-- What a step makes of the side: nothing while the entry that its place needs isn't held, nothing where the run is over,
+-- and in every other case one step of the demand run.
 pub record IsStep (s : Setup) (k : ℕ) (old new : TimeState) (turn : Turn) : Type 0 where
   pub waits : needs_entry (place s k) ≡ true → old.held ≡ None → (turn ≡ Want) × (new ≡ old)
-  pub rests : is_over (place s k) ≡ true → (turn ≡ Halted) × (new ≡ old)
-  pub goes : (needs_entry (place s k) && is_none old.held) ≡ false → is_over (place s k) ≡ false → IsMade s k old new turn
+  pub rests : is_told_out (place s k) ≡ true → (turn ≡ Halted) × (new ≡ old)
+  pub goes : (needs_entry (place s k) && is_none old.held) ≡ false → is_told_out (place s k) ≡ false → IsMade s k old new turn
 
 -- an entry may be handed to a side: where it is of the side's epoch, it is the one that the side's place needs
 pub record IsRight (entry : Entry) (side : TimeState) : Type 0 where

@@ -69,7 +69,7 @@ impl TimeState {
     }
 
     /// Whether the run is over, and all is told.
-    fn is_over(&self) -> bool
+    fn is_told_out(&self) -> bool
         ensures over { result ≡ over_in self.now }
     {
         self.owed.is_none() && matches!(self.at, At::Halted)
@@ -256,7 +256,7 @@ impl TimeState {
         if self.wants() {
             return Some(Turn::Want);
         }
-        if self.is_over() {
+        if self.is_told_out() {
             return Some(Turn::Halted);
         }
         let orders = self.due();

@@ -1,6 +1,5 @@
 ghost use Rattle.std.specs.Prelude.{◌≡◌, ◌-◌, ◌<◌, ◌^◌, List};
 ghost use Rattle.rv_decode.specs.Decode.{decode_of};
-ghost use Rattle.mono_model.specs.Final.{end_of};
 ghost use Rattle.mono_model.specs.Found.{found_word, is_fence_i, is_fence_i_insn};
 ghost use Rattle.mono_model.specs.Demand.{commit_order};
 ghost use Rattle.rollback_cmds.specs.declared.order.Order.{Order as SpecOrder};
@@ -10,8 +9,8 @@ ghost use Rattle.timing_core.specs.Leaving.{ending_in, ended_by};
 
 use crate::orders::Orders;
 use crate::state::TimingCore;
-use fsim_base::{Halt, bits};
-use mono_model::End;
+use fsim_base::bits;
+use mono_model::{End, end_of};
 use reorder_buffer::{Slot, SlotState};
 use rollback_cmds::Order;
 use rv_decode::{Insn, decode};
@@ -49,16 +48,6 @@ pub enum Ending {
 pub struct Committed {
     pub left: u32,
     pub ending: Ending,
-}
-
-/// The end that a store to the finisher brings.
-fn end_of(halt: Halt) -> End
-    ensures end { result ≡ end_of halt }
-{
-    match halt {
-        Halt::Pass => End::Pass,
-        Halt::Fail(code) => End::Fail(code),
-    }
 }
 
 fn is_fence_i_insn(insn: Insn) -> bool

@@ -10,7 +10,6 @@ use Rattle.func_model.specs.Undo.{past_of, register_before, ended_in}
 use Rattle.func_model.specs.Contents.{ContentsStandFor}
 use Rattle.func_model.proofs.Advance.{met_found}
 use Rattle.func_model.proofs.Compared.{compare_kept, compare_in, compare_for}
-use Rattle.func_model.proofs.Undone.{fetched_exists}
 use Rattle.func_model.proofs.Stepping.{Executed, executed_at, executed_seq, entry_told, back_from}
 use Rattle.func_model.proofs.contents.Contents.carry_out.Given as given
 use Rattle.func_model.proofs.contents.Contents.carry_out.Goals as goal

@@ -1,4 +1,4 @@
-use Rattle.std.proofs.Common.{Some, refl, ap, ◌∙◌}
+use Rattle.std.proofs.Common.{refl, ap, ◌∙◌}
 use Rattle.mono_model.specs.Found.{is_fence_i}
 use Rattle.phys_mem.specs.Ram.{exec_of}
 use Rattle.func_model.specs.Hart.{arch_of, found_in}

@@ -4,7 +4,7 @@ use Rattle.mono_model.specs.Arch.{Arch, compare_of}
 use Rattle.mono_model.specs.declared.setup.Setup.{Setup}
 use Rattle.func_model.specs.Hart.{arch_of}
 use Rattle.func_model.specs.Undo.{trap_before}
-use Rattle.func_model.specs.Contents.{ContentsStandFor, before}
+use Rattle.func_model.specs.Contents.{ContentsStandFor}
 use Rattle.func_model.proofs.Compared.{compare_for}
 use Rattle.func_model.proofs.Advance.{before_idle, off_idle}
 use Rattle.func_model.proofs.Unmaking.{idle_back, resumed_back}

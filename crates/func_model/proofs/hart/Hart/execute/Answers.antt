@@ -1,8 +1,7 @@
-use Rattle.std.proofs.Common.{ℕ, ap, sym, ◌∙◌}
+use Rattle.std.proofs.Common.{sym, ◌∙◌}
 use Rattle.fsim_base.specs.Number.{wrap_sum}
 use Rattle.fsim_base.specs.declared.access.Access.TheVariants as access
 use Rattle.fsim_base.specs.declared.cause.Cause.TheVariants.{IllegalInstruction}
-use Rattle.mono_model.specs.Arch.{trapped}
 use Rattle.phys_mem.specs.Ram.{range_of}
 use Rattle.func_model.specs.Hart.{arch_of}
 use Rattle.func_model.proofs.Concluded.{told_same, told_failed}

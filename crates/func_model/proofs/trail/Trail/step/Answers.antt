@@ -4,9 +4,9 @@ use Rattle.func_model.specs.declared.trail.Trail.{Trail}
 use Rattle.func_model.specs.Contents.{output_in}
 use Rattle.func_model.specs.History.{walk, step_seq}
 use Rattle.func_model.specs.Trail.{IsTold}
-use Rattle.func_model.proofs.Trails.{Going, retired_below, room_ahead, over, stopped_full, fenced, noted, both_on, left_off, right_off}
+use Rattle.func_model.proofs.Trails.{Going, sent_one, retired_below, room_ahead, over, stopped_full, fenced, noted, both_on, left_off, right_off}
 use Rattle.func_model.proofs.trail.Trail.step.Goals as goal
-use Rattle.func_model.proofs.trail.Trail.step.Goals.{else-is_full-via-then-is_full+else-made, else-is_full-via-else-is_full}
+use Rattle.func_model.proofs.trail.Trail.step.Goals.{else-made-via-else-made, else-made-via-then-made+else-output-self}
 
 pub returns-then-has_ended : goal.returns-then-has_ended
 returns-then-has_ended g c = record { told = λ s h. over s c.args.self.now h (sym c.has_ended.ensures.ended ∙ c.if-has_ended.true) }
@@ -17,11 +17,12 @@ make-made-requires-clause-count g c = retired_below c.args.self.now c.requires.s
 pub make-made-requires-clause-room : goal.make-made-requires-clause-room
 make-made-requires-clause-room g c = room_ahead c.args.self.now c.requires.standing
 
-pub returns-then-made : goal.returns-then-made
-returns-then-made g c = record {
+pub returns-then-output-self : goal.returns-then-output-self
+returns-then-output-self g c = record {
   told = λ s h.
       let trail : Trail g.row.D.Denot = c.args.self.now in
-      let is_full : nat_le trail.limit (length (output_in trail.contents)) ≡ true = grind (arith, common_steps, c.if-is_full.true, c.output.ensures.output) in
+      let one = sent_one s trail c.make-made.result c.make-made.new.self h (c.make-made.ensures.made s (walk s trail.at) h.contents) (c.make-made.ensures.stands s (walk s trail.at) h.contents) c.if-made.true in
+      let is_full : nat_le trail.limit (length (output_in trail.contents)) ≡ true = grind (arith, common_steps, c.if-output-self.true, c.output.ensures.output, one) in
       let going : Going s trail (nat_le trail.limit (length (output_in trail.contents))) c.make-made.result = record {
         stands = h;
         going = sym c.has_ended.ensures.ended ∙ c.if-has_ended.false;
@@ -37,10 +38,11 @@ pub returns-then-made-2 : goal.returns-then-made-2
 returns-then-made-2 g c = record {
   told = λ s h.
       let trail : Trail g.row.D.Denot = c.args.self.now in
-      let has_room : (nat_le trail.limit (length (output_in trail.contents)) && c.make-made.result.has_sent) ≡ false = elim c.else-is_full.branch [
-        | else-is_full-via-then-is_full+else-made w ↦ right_off _ c.make-made.result.has_sent w.if-made.false
-        | else-is_full-via-else-is_full w ↦
-            let off : nat_le trail.limit (length (output_in trail.contents)) ≡ false = grind (arith, common_steps, w.if-is_full.false, c.output.ensures.output) in
+      let has_room : (nat_le trail.limit (length (output_in trail.contents)) && c.make-made.result.has_sent) ≡ false = elim c.else-made.branch [
+        | else-made-via-else-made w ↦ right_off _ c.make-made.result.has_sent w.if-made.false
+        | else-made-via-then-made+else-output-self w ↦
+            let one = sent_one s trail c.make-made.result c.make-made.new.self h (c.make-made.ensures.made s (walk s trail.at) h.contents) (c.make-made.ensures.stands s (walk s trail.at) h.contents) w.if-made.true in
+            let off : nat_le trail.limit (length (output_in trail.contents)) ≡ false = grind (arith, common_steps, w.if-output-self.false, w.output.ensures.output, one) in
             left_off _ c.make-made.result.has_sent off
       ] in
       let going : Going s trail (nat_le trail.limit (length (output_in trail.contents))) c.make-made.result = record {
@@ -59,10 +61,11 @@ pub returns : goal.returns
 returns g c = record {
   told = λ s h.
       let trail : Trail g.row.D.Denot = c.args.self.now in
-      let has_room : (nat_le trail.limit (length (output_in trail.contents)) && c.make-made.result.has_sent) ≡ false = elim c.else-is_full.branch [
-        | else-is_full-via-then-is_full+else-made w ↦ right_off _ c.make-made.result.has_sent w.if-made.false
-        | else-is_full-via-else-is_full w ↦
-            let off : nat_le trail.limit (length (output_in trail.contents)) ≡ false = grind (arith, common_steps, w.if-is_full.false, c.output.ensures.output) in
+      let has_room : (nat_le trail.limit (length (output_in trail.contents)) && c.make-made.result.has_sent) ≡ false = elim c.else-made.branch [
+        | else-made-via-else-made w ↦ right_off _ c.make-made.result.has_sent w.if-made.false
+        | else-made-via-then-made+else-output-self w ↦
+            let one = sent_one s trail c.make-made.result c.make-made.new.self h (c.make-made.ensures.made s (walk s trail.at) h.contents) (c.make-made.ensures.stands s (walk s trail.at) h.contents) w.if-made.true in
+            let off : nat_le trail.limit (length (output_in trail.contents)) ≡ false = grind (arith, common_steps, w.if-output-self.false, w.output.ensures.output, one) in
             left_off _ c.make-made.result.has_sent off
       ] in
       let going : Going s trail (nat_le trail.limit (length (output_in trail.contents))) c.make-made.result = record {

@@ -1,4 +1,4 @@
-use Rattle.std.proofs.Common.{◌≡◌, ℕ, List, [], ◌∷◌, get_or, rules, refl}
+use Rattle.std.proofs.Common.{ℕ, List, [], ◌∷◌, rules, refl}
 use Rattle.reservation_stations.proofs.Bits.{is_set-shifted, each_halved}
 use Rattle.reservation_stations.proofs.mask.Mask.shift.Goals as goal
 

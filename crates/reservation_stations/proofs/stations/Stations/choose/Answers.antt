@@ -1,5 +1,4 @@
 use Rattle.std.proofs.Common.{◌≡◌, ℕ, ◌<◌, ◌≤◌, Bool, false, IsTrue, IfSome, IfNone, subst}
-use Rattle.reservation_stations.specs.Readiness.{can_begin_at}
 use Rattle.reservation_stations.specs.Places.{IsReady}
 use Rattle.reservation_stations.proofs.Reading.{ready_at}
 use Rattle.reservation_stations.proofs.Places.{none_on}

@@ -1,4 +1,4 @@
-use Rattle.std.proofs.Common.{◌≡◌, ℕ, ◌+◌, ◌%◌, ◌<◌, length, arith, refl, ◌∙◌, ap, subst, ◌||◌}
+use Rattle.std.proofs.Common.{ℕ, ◌+◌, ◌%◌, ◌<◌, length, arith, refl, ap, ◌||◌}
 use Rattle.circular_buffer.specs.Buffer.{Buffer}
 use Rattle.reservation_stations.specs.Mask.{is_index}
 use Rattle.reservation_stations.specs.Readiness.{Window}

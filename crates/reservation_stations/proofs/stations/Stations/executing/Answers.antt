@@ -1,5 +1,4 @@
 use Rattle.std.proofs.Common.{◌≡◌, ℕ, ◌<◌, ◌≤◌, Bool, false, IsTrue, IfSome, IfNone, subst}
-use Rattle.reservation_stations.specs.Readiness.{executes_at}
 use Rattle.reservation_stations.specs.Places.{IsIssued}
 use Rattle.reservation_stations.proofs.Reading.{executing_at}
 use Rattle.reservation_stations.proofs.Places.{none_on}

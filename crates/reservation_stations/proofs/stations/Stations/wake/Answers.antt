@@ -1,8 +1,7 @@
-use Rattle.std.proofs.Common.{◌≡◌, ◌∙◌, ap, sym, subst, arith, refl}
+use Rattle.std.proofs.Common.{◌≡◌, ◌∙◌, ap, sym, arith, refl}
 use Rattle.std.specs.Prelude.{slice_set}
 use Rattle.std.proofs.lemmas.List.{get_or_read}
 use Rattle.reservation_stations.specs.declared.row.Row.{Row}
-use Rattle.reservation_stations.specs.declared.station.Mark.{Mark}
 use Rattle.reservation_stations.specs.declared.station.Mark.TheVariants.{Issued, Done, Faulted}
 use Rattle.reservation_stations.specs.Readiness.{Window, mark_of}
 use Rattle.reservation_stations.specs.AreTables.{row_at, free_row}
@@ -39,8 +38,8 @@ pub index_mut-requires-else-faulted : goal.index_mut-requires-else-faulted
 index_mut-requires-else-faulted c =
     omega (arith, c.self.inside.rows.ok, (held_with c.self.invariant.0 c.self.view_is c.args.index Issued c.requires.issued).0)
 
-pub release-requires : goal.release-requires
-release-requires c = record {
+pub tell-requires : goal.tell-requires
+tell-requires c = record {
   within = omega (arith, c.self.inside.rows.ok, (held_with c.self.invariant.0 c.self.view_is c.args.index Issued c.requires.issued).0);
   limit = omega (arith, c.self.inside.rows.ok, c.self.invariant.0.every_index, c.self.invariant.0.limit);
   covered = covered_marked c.self.inside.rows.items c.self.inside.dependents.items c.args.index c.self.invariant.1 c.index_mut-else-faulted.result.now Done
@@ -61,11 +60,11 @@ invariant_of-self-else-faulted c =
     c.self.invariant.2 found.1 held.0 read (ap (λ (e : Row). e.mark) read ∙ held.1) refl refl
     (c.place-place.ensures.place ∙ ap (place_in c.self.inside.retired) (first ∙ sym read)) c.remove.ensures.removed
     in (
-      AreTables-freed c.self.invariant.0 c.self.view_is index c.requires.issued row c.index_mut-else-faulted.ensures.value c.release.new.rows.items c.release.ensures.released,
+      AreTables-freed c.self.invariant.0 c.self.view_is index c.requires.issued row c.index_mut-else-faulted.ensures.value c.tell.new.rows.items c.tell.ensures.told,
       covered_released (slice_set rows index (record row { mark = Done })) c.self.inside.dependents.items index
-          (covered_marked rows c.self.inside.dependents.items index c.self.invariant.1 row Done held.0 c.index_mut-else-faulted.ensures.value) c.release.new.rows.items c.release.ensures.released,
+          (covered_marked rows c.self.inside.dependents.items index c.self.invariant.1 row Done held.0 c.index_mut-else-faulted.ensures.value) c.tell.new.rows.items c.tell.ensures.told,
       freed_placed (Releases index) (λ a b r. ap (λ (e : Row). e.mark) r.kept) c.self.inside.retired c.self.inside.order.items (slice_set rows index (record row { mark = Done }))
-          c.release.new.rows.items c.self.inside.ready c.remove.new.self c.release.new.ready placed c.release.ensures.released c.release.ensures.ready,
+          c.tell.new.rows.items c.self.inside.ready c.remove.new.self c.tell.new.ready placed c.tell.ensures.told c.tell.ensures.ready,
     )
 
 pub returns-then-faulted : goal.returns-then-faulted
@@ -78,5 +77,5 @@ pub returns-else-faulted : goal.returns-else-faulted
 returns-else-faulted c = record {
   woken = rw c.if-faulted.false
       (seen-freed c.self.invariant.0 c.self.view_is c.args.index c.requires.issued c.index_mut-else-faulted.result.now c.index_mut-else-faulted.ensures.value
-      c.release.new.rows.items c.release.ensures.released);
+      c.tell.new.rows.items c.tell.ensures.told);
 }

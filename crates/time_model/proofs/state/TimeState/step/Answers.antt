@@ -14,9 +14,9 @@ use Rattle.time_model.proofs.state.TimeState.step.Goals as goal
 pub returns-then-wants : goal.returns-then-wants
 returns-then-wants c = record { made = λ s k sound h. waiting_step s k c.args.self.now h (sym c.wants.ensures.wants ∙ c.if-wants.true) }
 
-pub returns-then-is_over : goal.returns-then-is_over
-returns-then-is_over c = record {
-  made = λ s k sound h. resting_step s k c.args.self.now h (sym c.wants.ensures.wants ∙ c.if-wants.false) (sym c.is_over.ensures.over ∙ c.if-is_over.true);
+pub returns-then-is_told_out : goal.returns-then-is_told_out
+returns-then-is_told_out c = record {
+  made = λ s k sound h. resting_step s k c.args.self.now h (sym c.wants.ensures.wants ∙ c.if-wants.false) (sym c.is_told_out.ensures.over ∙ c.if-is_told_out.true);
 }
 
 pub returns-in_err-order : goal.returns-in_err-order
@@ -28,7 +28,7 @@ returns-in_err-order c = record {
       let turn = turn_untold (at_in old.at) in
       let turn_is = ap (λ (o : Option Order). turn_told o (at_in old.at)) (sym c.in_err-order.was ∙ c.tell.ensures.told) in
       let epoch = ap (λ (side : TimeState). side.epoch) c.due-orders.ensures.others in
-      going_step s k old h c.tell.new.self turn (sym c.wants.ensures.wants ∙ c.if-wants.false) (sym c.is_over.ensures.over ∙ c.if-is_over.false)
+      going_step s k old h c.tell.new.self turn (sym c.wants.ensures.wants ∙ c.if-wants.false) (sym c.is_told_out.ensures.over ∙ c.if-is_told_out.false)
       (λ on. subst (λ (new : TimeState). IsMade s k old new turn) (sym c.tell.ensures.owed)
       (step_made s k old c.due-orders.new.self told turn sound h on (c.due-orders.ensures.due s k sound h) epoch turn_is)));
 }
@@ -41,7 +41,7 @@ returns c = record {
       let turn = Ordered c.in_ok-order.order in
       let turn_is = ap (λ (o : Option Order). turn_told o (at_in old.at)) (sym c.in_ok-order.was ∙ c.tell.ensures.told) in
       let epoch = ap (λ (side : TimeState). side.epoch) c.due-orders.ensures.others in
-      going_step s k old h c.tell.new.self turn (sym c.wants.ensures.wants ∙ c.if-wants.false) (sym c.is_over.ensures.over ∙ c.if-is_over.false)
+      going_step s k old h c.tell.new.self turn (sym c.wants.ensures.wants ∙ c.if-wants.false) (sym c.is_told_out.ensures.over ∙ c.if-is_told_out.false)
       (λ on. subst (λ (new : TimeState). IsMade s k old new turn) (sym c.tell.ensures.owed)
       (step_made s k old c.due-orders.new.self told turn sound h on (c.due-orders.ensures.due s k sound h) epoch turn_is));
 }
