@@ -3,7 +3,7 @@ mod Always
 mod Moving
 mod Issuing
 mod Staging
-mod Stages
+pub mod Stages
 pub mod Numbering
 mod Making
 pub mod Telling

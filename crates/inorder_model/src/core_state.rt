@@ -1,0 +1,268 @@
+ghost use Rattle.std.specs.Prelude.{◌≡◌, true, false, map, IfOk};
+ghost use Rattle.split_core.specs.Events.{order_told};
+
+use crate::bounds::{most_rounds, most_steps};
+use crate::side::InorderSide;
+use circular_buffer::HeapCircularBuffer;
+use device_bus::Device;
+use fsim_base::NoMemory;
+use func_model::FuncSide;
+use mono_model::{Final, Setup};
+use rollback_cmds::{ORDER_ROOM, Order};
+use split_core::Event;
+use std::alloc::Global;
+use time_model::Turn;
+use trace_entry::Entry;
+
+/// Both sides, and what is under way between them.
+#[derive(Drop)]
+pub struct CoreState<D: Device> {
+    pub func: FuncSide<D>,
+    pub time: InorderSide,
+    /// Entries on their way to the timing side, the oldest first.
+    pub entries: HeapCircularBuffer<Entry>,
+    /// Orders on their way to the functional side, the oldest first.
+    pub listed_orders: HeapCircularBuffer<Order>,
+    /// The entry that was computed and not pushed yet.
+    pub computed: Option<Entry>,
+    /// The order that was told and not sent yet.
+    pub hand: Option<Order>,
+    /// A boundary is never further than so many rounds.
+    pub rounds: u32,
+    /// No run has more steps of the timing side.
+    pub steps: u64,
+    /// Whether the functional side was stopped for the report.
+    pub is_over: bool,
+}
+
+impl<D: Device> CoreState<D> {
+    ghost use Rattle.std.specs.Prelude.{if◌then◌else◌};
+    ghost use Rattle.device_bus.specs.Bus.{device_order};
+    ghost use Rattle.mono_model.specs.Split.{compute, push, obey, tick, take, send};
+    ghost use Rattle.mono_model.specs.Split.{is_place_boundary};
+    ghost use Rattle.split_core.specs.Events.{event_in};
+    ghost use Rattle.lane_model.specs.Split.{lane_split_start, lane_event_at, lane_played};
+    ghost use Rattle.lane_laws.specs.Rounds.{lane_round, lane_to_boundary};
+    ghost use Rattle.inorder_model.specs.Standing.{IsInorder};
+    ghost use Rattle.inorder_model.specs.Core.{LaneSplitStandsFor, LaneLeads, LaneLeadsToEnd};
+    ghost use Rattle.inorder_model.specs.Core.{TellsLaneBoundary, IsLaneStanding};
+    ghost use Rattle.inorder_model.specs.Core.{IsAtLaneBoundary, LaneReports, LaneGoesBack};
+
+    /// Both sides at the start of a run, with nothing under way. All memory of the run is taken
+    /// here.
+    pub fn new(alloc: Global, setup: &Setup, devices: Vec<D>) -> Result<CoreState<D>, NoMemory>
+        requires sound { IsInorder setup.now }
+        requires order { map D.kind devices.items ≡ device_order }
+        ensures stands { IfOk result (λ state. LaneSplitStandsFor setup.now
+            (lane_split_start setup.now) state) }
+    {
+        let func = FuncSide::new(alloc, setup, devices)?;
+        let time = InorderSide::new(alloc, setup)?;
+        let Ok(entries) = HeapCircularBuffer::with_capacity(alloc, setup.ring as usize) else {
+            return Err(NoMemory);
+        };
+        let Ok(listed_orders) = HeapCircularBuffer::with_capacity(alloc, ORDER_ROOM) else {
+            return Err(NoMemory);
+        };
+        Ok(CoreState {
+            func,
+            time,
+            entries,
+            listed_orders,
+            computed: None,
+            hand: None,
+            rounds: most_rounds(setup),
+            steps: most_steps(setup),
+            is_over: false,
+        })
+    }
+
+    /// The functional side computes the entry at its position, if none is computed and it isn't at
+    /// rest.
+    fn compute(&mut self)
+        requires standing { IsLaneStanding self.old }
+        ensures computed { LaneLeads (λ s. lane_event_at s compute) self.old self.new }
+    {
+        if self.computed.is_none() {
+            self.computed = self.func.produce();
+        }
+    }
+
+    /// The computed entry goes to the end of the entries under way, if it has room there.
+    fn push(&mut self)
+        ensures pushed { LaneLeads (λ s. lane_event_at s push) self.old self.new }
+    {
+        if let Some(entry) = self.computed {
+            if self.entries.try_push_back(entry).is_ok() {
+                self.computed = None;
+            }
+        }
+    }
+
+    /// The functional side obeys the oldest order under way, if there is one. Where that opens an
+    /// epoch, the computed entry is of no use any more.
+    fn obey(&mut self)
+        requires standing { IsLaneStanding self.old }
+        ensures obeyed { LaneLeads (λ s. lane_event_at s obey) self.old self.new }
+    {
+        if let Some(order) = self.listed_orders.pop_front() {
+            self.func.obey(order);
+            if order.opens_epoch() {
+                self.computed = None;
+            }
+        }
+    }
+
+    /// The timing side makes a step, if no order is in hand.
+    fn tick(&mut self)
+        ensures stepped { LaneLeads (λ s. lane_event_at s tick) self.old self.new }
+    {
+        if self.hand.is_none() {
+            self.hand = order_told(self.time.step());
+        }
+    }
+
+    /// The timing side takes the oldest entry under way, if it wants one and there is one.
+    fn take(&mut self)
+        requires standing { IsLaneStanding self.old }
+        ensures taken { LaneLeads (λ s. lane_event_at s take) self.old self.new }
+    {
+        if self.time.wants() {
+            if let Some(entry) = self.entries.pop_front() {
+                self.time.take(&entry);
+            }
+        }
+    }
+
+    /// The order in hand goes to the end of the orders under way, if it has room there.
+    fn send(&mut self)
+        ensures sent { LaneLeads (λ s. lane_event_at s send) self.old self.new }
+    {
+        if let Some(order) = self.hand {
+            if self.listed_orders.try_push_back(order).is_ok() {
+                self.hand = None;
+            }
+        }
+    }
+
+    /// Plays an event.
+    fn play_event(&mut self, event: Event)
+        requires standing { IsLaneStanding self.old }
+        ensures played { LaneLeads (λ s. lane_event_at s (event_in event)) self.old self.new }
+    {
+        match event {
+            Event::Compute => self.compute(),
+            Event::Push => self.push(),
+            Event::Obey => self.obey(),
+            Event::Tick => self.tick(),
+            Event::Take => self.take(),
+            Event::Send => self.send(),
+        }
+    }
+
+    /// Plays events, the first in front.
+    pub fn play(&mut self, events: &[Event])
+        requires standing { IsLaneStanding self.old }
+        ensures played { LaneLeads (λ s. lane_played s (map event_in events.now)) self.old
+            self.new }
+    {
+        for event in events {
+            self.play_event(*event);
+        }
+    }
+
+    /// Whether a cycle starts or the run is over, with no order in hand or under way.
+    pub fn at_boundary(&self) -> bool
+        ensures boundary { TellsLaneBoundary self.now result }
+    {
+        self.time.at_boundary() && self.hand.is_none() && self.listed_orders.is_empty()
+    }
+
+    /// A round of events, which leaves out the step of the timing side where that stands at a
+    /// boundary.
+    fn round(&mut self)
+        requires standing { IsLaneStanding self.old }
+        ensures played { LaneLeads lane_round self.old self.new }
+    {
+        self.obey();
+        self.compute();
+        self.push();
+        self.take();
+        self.tick_within_cycle();
+        self.send();
+    }
+
+    /// The timing side makes a step, if it isn't at a boundary.
+    fn tick_within_cycle(&mut self)
+        ensures stepped { LaneLeads (λ s x. if is_place_boundary x.split.place then x else
+            lane_event_at s tick x)
+            self.old self.new }
+    {
+        if !self.time.at_boundary() {
+            self.tick();
+        }
+    }
+
+    /// Plays rounds until it is at a boundary.
+    pub fn to_boundary(&mut self)
+        requires standing { IsLaneStanding self.old }
+        ensures stands { LaneLeads lane_to_boundary self.old self.new }
+    {
+        for _ in 0..self.rounds {
+            if self.at_boundary() {
+                return;
+            }
+            self.round();
+        }
+    }
+
+    /// Plays from boundary to boundary until the run is over, and the functional side has obeyed
+    /// the last order.
+    pub fn to_end(&mut self)
+        requires standing { IsLaneStanding self.old }
+        ensures ended { LaneLeadsToEnd self.old self.new }
+    {
+        for _ in 0..self.steps {
+            self.to_boundary();
+            if self.func.stopped() {
+                return;
+            }
+            self.tick();
+        }
+        self.to_boundary();
+    }
+
+    /// What is reported at a boundary: the functional side goes back to what is committed, and
+    /// stays there.
+    pub fn committed(&mut self) -> Final
+        requires boundary { IsAtLaneBoundary self.old }
+        ensures reported { LaneReports self.old result }
+        ensures contents { LaneGoesBack self.old self.new }
+        ensures over { self.new.is_over ≡ true }
+    {
+        let number = self.func.committed();
+        self.func.obey(Order::Stop { n: number });
+        self.is_over = true;
+        let arch = self.func.arch();
+        // No proof is generated of a literal that reads a field which is an array.
+        let regs = arch.regs;
+        Final {
+            end: self.time.end(),
+            stats: self.time.stats(),
+            pc: arch.pc,
+            regs,
+            csrs: arch.csrs,
+            cmp: arch.cmp,
+        }
+    }
+}
+
+/// The order that a turn tells, if it tells one.
+fn order_told(turn: Turn) -> Option<Order>
+    ensures told { result ≡ order_told turn }
+{
+    match turn {
+        Turn::Ordered(order) => Some(order),
+        Turn::Moved | Turn::Want | Turn::CycleEnd | Turn::Halted => None,
+    }
+}

@@ -1,0 +1,18 @@
+//! The in-order machine's timing side, a pipeline of five stages that tells what it needs of the
+//! functional side and never computes a value; and both sides together on one thread.
+#![tactic(auto)]
+
+mod at;
+mod bounds;
+mod core_state;
+mod lane;
+mod side;
+mod split;
+mod stages;
+mod state;
+
+pub use side::InorderSide;
+pub use split::InorderCore;
+
+#[cfg(test)]
+mod tests;

@@ -1,0 +1,115 @@
+ghost use Rattle.std.specs.Prelude.{◌≡◌, true, false, map, IfOk};
+
+use crate::core_state::CoreState;
+use device_bus::Device;
+use fsim_base::NoMemory;
+use mono_model::{Final, Setup};
+use split_core::Event;
+use std::alloc::Global;
+use std::marker::Model;
+
+/// The split machine on one thread, with the in-order machine's timing side: a functional and a
+/// timing side, and the entries and orders under way between them.
+///
+/// It stands for a state of the in-order machine's split run of its setup. In whatever order its
+/// events come, at each boundary that state has the cycle, the counts and the committed state of
+/// the in-order machine. Once [`InorderCore::committed`] was called, nothing may be played any
+/// more: it stands for no state of the run then, and only its output is still of use.
+#[derive(Drop)]
+pub struct InorderCore<D: Device> {
+    state: CoreState<D>,
+}
+
+impl<D: Device> Model for InorderCore<D> {
+    ghost use Rattle.std.specs.Prelude.{◌≡◌, false};
+    ghost use Rattle.inorder_model.specs.declared.core_state.CoreState.{CoreState};
+    ghost use Rattle.inorder_model.specs.Core.{IsLaneStanding};
+
+    ghost Value = { CoreState D };
+
+    ghost view = { λ core. core.state };
+
+    ghost invariant = { λ core. core.state.is_over ≡ false → IsLaneStanding core.state };
+}
+
+impl<D: Device> InorderCore<D> {
+    ghost use Rattle.device_bus.specs.Bus.{device_order};
+    ghost use Rattle.func_model.specs.Contents.{output_in};
+    ghost use Rattle.split_core.specs.Events.{event_in};
+    ghost use Rattle.lane_model.specs.Split.{lane_split_start, lane_played};
+    ghost use Rattle.lane_laws.specs.Rounds.{lane_to_boundary};
+    ghost use Rattle.inorder_model.specs.Standing.{IsInorder};
+    ghost use Rattle.inorder_model.specs.Core.{LaneSplitStandsFor, LaneLeads, LaneLeadsToEnd};
+    ghost use Rattle.inorder_model.specs.Core.{TellsLaneBoundary, IsAtLaneBoundary, LaneReports};
+    ghost use Rattle.inorder_model.specs.Core.{LaneGoesBack};
+
+    /// The core at the start of a run: nothing was computed, and nothing is under way. All memory
+    /// of the run is taken here; a refusal drops what it was given.
+    pub fn new(alloc: Global, setup: &Setup, devices: Vec<D>) -> Result<InorderCore<D>, NoMemory>
+        requires sound { IsInorder setup.now }
+        requires order { map D.kind devices.items ≡ device_order }
+        ensures stands { IfOk result (λ core. LaneSplitStandsFor setup.now
+            (lane_split_start setup.now) core) }
+    {
+        let state = CoreState::new(alloc, setup, devices)?;
+        Ok(InorderCore { state })
+    }
+
+    /// Plays events, the first in front. One that can't happen changes nothing.
+    pub fn play(&mut self, events: &[Event])
+        requires going { self.old.is_over ≡ false }
+        ensures played { LaneLeads (λ s. lane_played s (map event_in events.now)) self.old
+            self.new }
+        ensures going { self.new.is_over ≡ false }
+    {
+        self.state.play(events);
+    }
+
+    /// Whether it is at a boundary: the start of a cycle, or the end of the run, with no order in
+    /// hand or under way.
+    pub fn at_boundary(&self) -> bool
+        ensures boundary { TellsLaneBoundary self.now result }
+    {
+        self.state.at_boundary()
+    }
+
+    /// Plays rounds of events until it is at a boundary; none where it is at one. A round leaves
+    /// out the step of the timing side where that stands at a boundary already.
+    pub fn to_boundary(&mut self)
+        requires going { self.old.is_over ≡ false }
+        ensures stands { LaneLeads lane_to_boundary self.old self.new }
+        ensures boundary { IsAtLaneBoundary self.new }
+    {
+        self.state.to_boundary();
+    }
+
+    /// Plays events until the run is over: the timing side has told its last order, and the
+    /// functional side has obeyed it.
+    pub fn to_end(&mut self)
+        requires going { self.old.is_over ≡ false }
+        ensures ended { LaneLeadsToEnd self.old self.new }
+        ensures boundary { IsAtLaneBoundary self.new }
+    {
+        self.state.to_end();
+    }
+
+    /// What is reported at a boundary: the end, the counts, and the committed registers. The
+    /// functional side goes back to what is committed for it and stays there; its output can still
+    /// be read, and nothing can be played any more.
+    pub fn committed(&mut self) -> Final
+        requires boundary { IsAtLaneBoundary self.old }
+        ensures reported { LaneReports self.old result }
+        ensures contents { LaneGoesBack self.old self.new }
+        ensures over { self.new.is_over ≡ true }
+    {
+        self.state.committed()
+    }
+
+    /// The output of the functional side: where [`InorderCore::committed`] was called, that of the
+    /// run so far; before, it may have bytes that run ahead.
+    pub fn output(&self) -> &[u8]
+        ensures output { result.now ≡ output_in self.now.func.contents }
+    {
+        self.state.func.output()
+    }
+}
