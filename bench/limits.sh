@@ -97,9 +97,11 @@ program=$here/out/fast
 measure run image largest --ring 65536 --input input --cycles 100000000
 measure run image largest --ring 65536 --input input --cycles 100000000 --threads 1
 measure sched image largest plan --ring 65536 --input input
+measure inorder image largest plan --ring 65536 --input input --cycles 1000000
 measure sweep image largest largest largest largest largest largest largest largest --input input --cycles 100000000
 measure run image slowest --ring 65536 --input input --cycles 1000000 --threads 1
 measure run branches slowest --ring 65536 --cycles 1000000 --threads 1
 measure run branches slowest --ring 65536 --cycles 1000000
 measure run branches slowest --ring 1 --cycles 100000
 measure sched branches slowest plan --ring 1
+measure inorder branches slowest plan --ring 1 --cycles 1000000

@@ -121,6 +121,7 @@ refuse func pass
 refuse run echo eight --input input --threads 1
 refuse run echo eight --input input
 refuse sched loop targets ahead --ring 16
+refuse inorder loop targets ahead --ring 16
 refuse sweep loop targets eight bad
 refuse soak 7
 refuse func absent

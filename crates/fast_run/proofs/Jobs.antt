@@ -11,14 +11,15 @@ use Rattle.report_text.specs.declared.status.Status.{Status}
 use Rattle.report_text.specs.declared.status.Status.TheVariants.{Memory}
 use Rattle.fast_cli.specs.declared.line.Options.{Options}
 use Rattle.fast_run.specs.declared.job.Job.{Job}
-use Rattle.fast_run.specs.declared.job.Job.TheVariants.{Back, Func, Run, Sched}
+use Rattle.fast_run.specs.declared.job.Job.TheVariants.{Back, Func, Inorder, Run, Sched}
+use Rattle.fast_run.specs.declared.job.PlannedRun.{PlannedRun}
 use Rattle.fast_run.specs.declared.files.NamedFile.{NamedFile}
 use Rattle.fast_run.specs.Files.{input_of, input_under}
 use Rattle.fast_run.specs.Gives.{◌>>=◌, Gives}
 use Rattle.machine_file.specs.File.{params_of}
 use Rattle.gen_image.specs.Soak.{soak_image}
 use Rattle.gen_image.specs.Machine.{soak_machine}
-use Rattle.fast_run.specs.Job.{back_job, bytes_at, default_options, func_job, image_in, machine_in, plan_in, run_job, sched_job, script_in, setup_for, soak_setup}
+use Rattle.fast_run.specs.Job.{back_job, bytes_at, default_options, func_job, image_in, inorder_job, inorder_setup, machine_in, plan_in, planned_run, run_job, sched_job, script_in, setup_for, soak_setup}
 use Rattle.mono_model.specs.Plain.{plain_params}
 use Rattle.fast_run.specs.Reading.{AreWithin}
 
@@ -73,46 +74,69 @@ module _ (options : Options) (contents : List (List ℕ)) where
       stage-done (machine_in (bytes_at contents 1)) params run-machine machine
       ∙ stage-refused (image_in (ram_range params) (bytes_at contents 0)) status (run-image params) refused other
 
-  sched-plan : Params → LoadedImage → List Event → Result Job Status
-  sched-plan params image events = Ok (Sched (setup_for params options image (bytes_at contents 3)) events)
+  planned-plan : Params → LoadedImage → List Event → Result PlannedRun Status
+  planned-plan params image events = Ok (record { setup = setup_for params options image (bytes_at contents 3); plan = events })
 
-  sched-image : Params → LoadedImage → Result Job Status
-  unfolding sched-plan
-  sched-image params image = plan_in (bytes_at contents 2) >>= sched-plan params image
+  planned-image : Params → LoadedImage → Result PlannedRun Status
+  unfolding planned-plan
+  planned-image params image = plan_in (bytes_at contents 2) >>= planned-plan params image
 
-  sched-machine : Params → Result Job Status
-  unfolding sched-image
-  sched-machine params = image_in (ram_range params) (bytes_at contents 0) >>= sched-image params
+  planned-machine : Params → Result PlannedRun Status
+  unfolding planned-image
+  planned-machine params = image_in (ram_range params) (bytes_at contents 0) >>= planned-image params
 
-  pub sched-made : (params : Params) (image : LoadedImage) (events : List Event) (input : List ℕ) → machine_in (bytes_at contents 1) ≡ Ok params →
+  pub planned-made : (params : Params) (image : LoadedImage) (events : List Event) (input : List ℕ) → machine_in (bytes_at contents 1) ≡ Ok params →
       image_in (ram_range params) (bytes_at contents 0) ≡ Ok image → plan_in (bytes_at contents 2) ≡ Ok events → input ≡ bytes_at contents 3 →
-      sched_job options contents ≡ Ok (Sched (setup_for params options image input) events)
-  unfolding sched_job sched-machine sched-image sched-plan
-  sched-made params image events input machine loaded planned same =
-      stage-done (machine_in (bytes_at contents 1)) params sched-machine machine
-      ∙ stage-done (image_in (ram_range params) (bytes_at contents 0)) image (sched-image params) loaded
-      ∙ stage-done (plan_in (bytes_at contents 2)) events (sched-plan params image) planned
-      ∙ ap (λ bytes. Ok (Sched (setup_for params options image bytes) events)) (sym same)
+      planned_run options contents ≡ Ok (record { setup = setup_for params options image input; plan = events })
+  unfolding planned_run planned-machine planned-image planned-plan
+  planned-made params image events input machine loaded planned same =
+      stage-done (machine_in (bytes_at contents 1)) params planned-machine machine
+      ∙ stage-done (image_in (ram_range params) (bytes_at contents 0)) image (planned-image params) loaded
+      ∙ stage-done (plan_in (bytes_at contents 2)) events (planned-plan params image) planned
+      ∙ ap (λ bytes. Ok (record { setup = setup_for params options image bytes; plan = events })) (sym same)
 
-  pub sched-no_machine : (status : Status) → (status ≢ Memory → machine_in (bytes_at contents 1) ≡ Err status) → status ≢ Memory → sched_job options contents ≡ Err status
-  unfolding sched_job sched-machine sched-image sched-plan
-  sched-no_machine status refused = stage-refused (machine_in (bytes_at contents 1)) status sched-machine refused
+  pub planned-no_machine : (status : Status) → (status ≢ Memory → machine_in (bytes_at contents 1) ≡ Err status) → status ≢ Memory → planned_run options contents ≡ Err status
+  unfolding planned_run planned-machine planned-image planned-plan
+  planned-no_machine status refused = stage-refused (machine_in (bytes_at contents 1)) status planned-machine refused
 
-  pub sched-no_image : (params : Params) (status : Status) → machine_in (bytes_at contents 1) ≡ Ok params →
-      (status ≢ Memory → image_in (ram_range params) (bytes_at contents 0) ≡ Err status) → status ≢ Memory → sched_job options contents ≡ Err status
-  unfolding sched_job sched-machine sched-image sched-plan
-  sched-no_image params status machine refused other =
-      stage-done (machine_in (bytes_at contents 1)) params sched-machine machine
-      ∙ stage-refused (image_in (ram_range params) (bytes_at contents 0)) status (sched-image params) refused other
+  pub planned-no_image : (params : Params) (status : Status) → machine_in (bytes_at contents 1) ≡ Ok params →
+      (status ≢ Memory → image_in (ram_range params) (bytes_at contents 0) ≡ Err status) → status ≢ Memory → planned_run options contents ≡ Err status
+  unfolding planned_run planned-machine planned-image planned-plan
+  planned-no_image params status machine refused other =
+      stage-done (machine_in (bytes_at contents 1)) params planned-machine machine
+      ∙ stage-refused (image_in (ram_range params) (bytes_at contents 0)) status (planned-image params) refused other
 
-  pub sched-no_plan : (params : Params) (image : LoadedImage) (status : Status) → machine_in (bytes_at contents 1) ≡ Ok params →
+  pub planned-no_plan : (params : Params) (image : LoadedImage) (status : Status) → machine_in (bytes_at contents 1) ≡ Ok params →
       image_in (ram_range params) (bytes_at contents 0) ≡ Ok image → (status ≢ Memory → plan_in (bytes_at contents 2) ≡ Err status) → status ≢ Memory →
-      sched_job options contents ≡ Err status
-  unfolding sched_job sched-machine sched-image sched-plan
-  sched-no_plan params image status machine loaded refused other =
-      stage-done (machine_in (bytes_at contents 1)) params sched-machine machine
-      ∙ stage-done (image_in (ram_range params) (bytes_at contents 0)) image (sched-image params) loaded
-      ∙ stage-refused (plan_in (bytes_at contents 2)) status (sched-plan params image) refused other
+      planned_run options contents ≡ Err status
+  unfolding planned_run planned-machine planned-image planned-plan
+  planned-no_plan params image status machine loaded refused other =
+      stage-done (machine_in (bytes_at contents 1)) params planned-machine machine
+      ∙ stage-done (image_in (ram_range params) (bytes_at contents 0)) image (planned-image params) loaded
+      ∙ stage-refused (plan_in (bytes_at contents 2)) status (planned-plan params image) refused other
+
+  sched-planned : PlannedRun → Result Job Status
+  sched-planned planned = Ok (Sched planned.setup planned.plan)
+
+  pub sched-made : (planned : PlannedRun) → planned_run options contents ≡ Ok planned → sched_job options contents ≡ Ok (Sched planned.setup planned.plan)
+  unfolding sched_job sched-planned
+  sched-made planned made = stage-done (planned_run options contents) planned sched-planned made
+
+  pub sched-refused : (status : Status) → (status ≢ Memory → planned_run options contents ≡ Err status) → status ≢ Memory → sched_job options contents ≡ Err status
+  unfolding sched_job sched-planned
+  sched-refused status refused = stage-refused (planned_run options contents) status sched-planned refused
+
+  inorder-planned : PlannedRun → Result Job Status
+  inorder-planned planned = Ok (Inorder (inorder_setup planned.setup) planned.plan)
+
+  pub inorder-made : (planned : PlannedRun) → planned_run options contents ≡ Ok planned →
+      inorder_job options contents ≡ Ok (Inorder (inorder_setup planned.setup) planned.plan)
+  unfolding inorder_job inorder-planned
+  inorder-made planned made = stage-done (planned_run options contents) planned inorder-planned made
+
+  pub inorder-refused : (status : Status) → (status ≢ Memory → planned_run options contents ≡ Err status) → status ≢ Memory → inorder_job options contents ≡ Err status
+  unfolding inorder_job inorder-planned
+  inorder-refused status refused = stage-refused (planned_run options contents) status inorder-planned refused
 
   back-script : ℕ → LoadedImage → List Command → Result Job Status
   back-script history image commands = Ok (Back (setup_for plain_params options image (bytes_at contents 2)) history commands)

@@ -21,7 +21,7 @@ use Rattle.report_text.specs.declared.status.Status.TheVariants.{Memory, Sets}
 use Rattle.fast_cli.specs.declared.line.Options.{Options}
 use Rattle.fast_run.specs.declared.sweep_files.NamedMachine.{NamedMachine}
 use Rattle.fast_run.specs.declared.sweep_files.SweepFiles.{SweepFiles}
-use Rattle.fast_run.specs.Gives.{◌>>=◌, Gives}
+use Rattle.fast_run.specs.Gives.{◌>>=◌}
 use Rattle.fast_run.specs.Stages.{bytes_at, image_in, machine_in, setup_for}
 use Rattle.fast_run.specs.SweepFiles.{AreTold, HasLine, HasSets, finals_behind, limits_of, machine_setup, machine_told, named_machines, next_line, run_told, sweep_files, sweep_lines, swept, told_line, told_lines}
 use Rattle.fast_run.proofs.Jobs.{stage-done, stage-refused}

@@ -19,7 +19,7 @@ input_under (Some name) = file role.Input name ∷ []
 abbrev pub input_of : Options → List NamedFile
 input_of options = input_under options.input
 
--- the files that are read for a line, in their order; a command that isn't run yet reads none
+-- the files that are read for a line, in their order
 abbrev pub files_of : Line → List NamedFile
 files_of (Func image options) = file role.Image image ∷ input_of options
 files_of (Run image machine threads options) =
@@ -29,7 +29,8 @@ files_of (Sched image machine plan options) =
 files_of (Soak seed) = []
 files_of (Back image script history options) =
     file role.Image image ∷ file role.Script script ∷ input_of options
-files_of (Inorder image machine plan options) = []
+files_of (Inorder image machine plan options) =
+    file role.Image image ∷ file role.Machine machine ∷ file role.Plan plan ∷ input_of options
 files_of (Sweep image machines options) =
     file role.Image image ∷ map (file role.Machine) machines ++ input_of options
 

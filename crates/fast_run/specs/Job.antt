@@ -1,20 +1,22 @@
 -- What a line and the bytes of its files ask for: a job, or the first refusal.
-use Rattle.std.specs.Prelude.{◌≡◌, ◌≤◌, ℕ, true, false, Bool, List, [], codes, length}
-use Rattle.std.specs.Prelude.{Result, Ok, Err, ◌==◌, None}
+use Rattle.std.specs.Prelude.{◌≡◌, ◌≤◌, ℕ, true, false, Bool, List, [], length}
+use Rattle.std.specs.Prelude.{Result, Ok, ◌==◌, None}
+use Rattle.mono_model.specs.declared.params.Params.{Params}
 use Rattle.mono_model.specs.declared.setup.Setup.{Setup}
 use Rattle.mono_model.specs.Setup.{is_setup, ram_range}
 use Rattle.mono_model.specs.Plain.{plain_params}
 use Rattle.machine_file.specs.File.{params_of}
 use Rattle.report_text.specs.declared.status.Status.{Status}
-use Rattle.report_text.specs.declared.status.Status.TheVariants.{Later}
 use Rattle.fast_cli.specs.declared.line.Line.{Line}
 use Rattle.fast_cli.specs.declared.line.Line.TheVariants as line
 use Rattle.fast_cli.specs.declared.line.Options.{Options}
 use Rattle.fast_cli.specs.Ranges.{HasRanges}
 use Rattle.gen_image.specs.Soak.{soak_image}
 use Rattle.gen_image.specs.Machine.{soak_machine}
+use Rattle.inorder_model.specs.Standing.{IsInorder}
 use Rattle.fast_run.specs.declared.job.Job.{Job}
-use Rattle.fast_run.specs.declared.job.Job.TheVariants.{Back, Func, Run, Sched, Sweep}
+use Rattle.fast_run.specs.declared.job.Job.TheVariants.{Back, Func, Inorder, Run, Sched, Sweep}
+use Rattle.fast_run.specs.declared.job.PlannedRun.{PlannedRun}
 use Rattle.fast_run.specs.declared.sweep_files.SweepFiles.{SweepFiles}
 use Rattle.fast_run.specs.Gives.{◌>>=◌}
 pub use Rattle.fast_run.specs.Stages.{setup_for, bytes_at}
@@ -34,12 +36,31 @@ run_job options contents = do
   image ← image_in (ram_range params) (bytes_at contents 0)
   Ok (Run (setup_for params options image (bytes_at contents 2)))
 
-unfoldable pub sched_job : Options → List (List ℕ) → Result Job Status
-sched_job options contents = do
+-- the run on a machine that a plan is for: the plan is tested behind the image
+unfoldable pub planned_run : Options → List (List ℕ) → Result PlannedRun Status
+planned_run options contents = do
   params ← machine_in (bytes_at contents 1)
   image ← image_in (ram_range params) (bytes_at contents 0)
   events ← plan_in (bytes_at contents 2)
-  Ok (Sched (setup_for params options image (bytes_at contents 3)) events)
+  Ok (record { setup = setup_for params options image (bytes_at contents 3); plan = events })
+
+unfoldable pub sched_job : Options → List (List ℕ) → Result Job Status
+sched_job options contents = do
+  planned ← planned_run options contents
+  Ok (Sched planned.setup planned.plan)
+
+-- The in-order machine has one instruction at most in each of its four stages behind Fetch, whatever
+-- a machine file says of the window.
+unfoldable pub inorder_params : Params → Params
+inorder_params params = record params { core_window = 4 }
+
+abbrev pub inorder_setup : Setup → Setup
+inorder_setup s = record s { params = inorder_params s.params }
+
+unfoldable pub inorder_job : Options → List (List ℕ) → Result Job Status
+inorder_job options contents = do
+  planned ← planned_run options contents
+  Ok (Inorder (inorder_setup planned.setup) planned.plan)
 
 -- a script over the run of the plain machine is tested behind the image
 unfoldable pub back_job : ℕ → Options → List (List ℕ) → Result Job Status
@@ -65,7 +86,7 @@ job_of (line.Sched image machine plan options) sets contents = sched_job options
 job_of (line.Soak seed) sets contents = Ok (Run (soak_setup seed))
 job_of (line.Back image script history options) sets contents =
     back_job history options contents
-job_of (line.Inorder image machine plan options) sets contents = Err (Later (codes "inorder"))
+job_of (line.Inorder image machine plan options) sets contents = inorder_job options contents
 job_of (line.Sweep image machines options) sets contents = do
   files ← swept machines options sets contents
   Ok (Sweep files)
@@ -77,7 +98,7 @@ is_still (line.Run image machine threads options) = threads == 1
 is_still (line.Sched image machine plan options) = true
 is_still (line.Soak seed) = false
 is_still (line.Back image script history options) = true
-is_still (line.Inorder image machine plan options) = false
+is_still (line.Inorder image machine plan options) = true
 is_still (line.Sweep image machines options) = false
 
 -- a sweep can open each of its machines: its limits are in their ranges, and the console can hold
@@ -91,6 +112,7 @@ abbrev pub CanBegin : Job → Type 0
 CanBegin (Func s) = is_setup s ≡ true
 CanBegin (Run s) = is_setup s ≡ true
 CanBegin (Sched s plan) = is_setup s ≡ true
+CanBegin (Inorder s plan) = IsInorder s
 CanBegin (Back s history script) = is_setup s ≡ true
 CanBegin (Sweep files) = CanSweep files
 
@@ -99,6 +121,7 @@ abbrev pub is_single : Job → Bool
 is_single (Func s) = true
 is_single (Run s) = true
 is_single (Sched s plan) = true
+is_single (Inorder s plan) = true
 is_single (Back s history script) = true
 is_single (Sweep files) = false
 
@@ -107,5 +130,6 @@ abbrev pub sets_for : Job → ℕ
 sets_for (Func s) = 1
 sets_for (Run s) = 1
 sets_for (Sched s plan) = 1
+sets_for (Inorder s plan) = 1
 sets_for (Back s history script) = 1
 sets_for (Sweep files) = length files.machines

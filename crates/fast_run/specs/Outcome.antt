@@ -7,6 +7,7 @@ use Rattle.mono_model.specs.Alone.{Alone, alone}
 use Rattle.mono_model.specs.Cycle.{mono}
 use Rattle.mono_model.specs.Report.{text}
 use Rattle.mono_model.specs.Split.{reach}
+use Rattle.lane_model.specs.Cycle.{lane, lane_text}
 use Rattle.split_core.specs.declared.event.Event.{Event}
 use Rattle.split_core.specs.Events.{event_in}
 use Rattle.report_text.specs.declared.status.Status.{Status}
@@ -15,7 +16,7 @@ use Rattle.report_text.specs.declared.status.Status.TheVariants.{Running, Shown}
 use Rattle.report_text.specs.FuncText.{func_text}
 use Rattle.back_debug.specs.Session.{session_text, start_position}
 use Rattle.fast_run.specs.declared.job.Job.{Job}
-use Rattle.fast_run.specs.declared.job.Job.TheVariants.{Back, Func, Run, Sched, Sweep}
+use Rattle.fast_run.specs.declared.job.Job.TheVariants.{Back, Func, Inorder, Run, Sched, Sweep}
 use Rattle.fast_run.specs.SweepFiles.{sweep_lines}
 
 -- the answer to an end
@@ -35,13 +36,14 @@ whole_run s = alone s s.cycles
 unfoldable pub planned_cycle : Setup → List Event → ℕ
 planned_cycle s plan = reach s (map event_in plan)
 
--- The answer to a job: how its run ended. After as many cycles as its limit each run on the machine
--- has ended, and it stands still from its end on; the cycle that a plan leads to may come before. A
--- debugger and a sweep tell the ends of their runs in their lines.
+-- The answer to a job: how its run ended. After as many cycles as its limit each run on a machine has
+-- ended, and it stands still from its end on; the cycle that `sched`'s plan leads to may come before.
+-- A debugger and a sweep tell the ends of their runs in their lines.
 abbrev pub job_status : Job → Status
 job_status (Func s) = status_for (whole_run s).end
 job_status (Run s) = status_for (mono s s.cycles).end
 job_status (Sched s plan) = status_for (mono s (planned_cycle s plan)).end
+job_status (Inorder s plan) = status_for (lane s s.cycles).machine.end
 job_status (Back s history script) = Shown
 job_status (Sweep files) = Shown
 
@@ -51,6 +53,7 @@ abbrev pub job_text : Job → List ℕ
 job_text (Func s) = func_text s
 job_text (Run s) = text s s.cycles
 job_text (Sched s plan) = text s (planned_cycle s plan)
+job_text (Inorder s plan) = lane_text s s.cycles
 job_text (Back s history script) = session_text history s script start_position
 job_text (Sweep files) = sweep_lines files
 
@@ -61,11 +64,12 @@ pub record Outcome : Type 0 where
 abbrev pub outcome : Job → Outcome
 outcome job = record { status = job_status job; text = job_text job }
 
--- a plan, and nothing else, may lead to a cycle at which the run goes on
+-- the plan of `sched`, and nothing else, may lead to a cycle at which the run goes on
 abbrev pub may_go_on : Job → Bool
 may_go_on (Func s) = false
 may_go_on (Run s) = false
 may_go_on (Sched s plan) = true
+may_go_on (Inorder s plan) = false
 may_go_on (Back s history script) = false
 may_go_on (Sweep files) = false
 

@@ -66,7 +66,7 @@ fn is_still(line: &Line) -> bool
     ensures still { result ≡ is_still line.now }
 {
     match line {
-        Line::Func { .. } | Line::Sched { .. } | Line::Back { .. } => true,
+        Line::Func { .. } | Line::Sched { .. } | Line::Back { .. } | Line::Inorder { .. } => true,
         Line::Run { threads, .. } => *threads == 1,
         _ => false,
     }

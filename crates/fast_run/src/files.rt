@@ -14,7 +14,7 @@ pub struct NamedFile {
     pub name: Text,
 }
 
-/// The files that are read for a line, in their order; a command that isn't run yet reads none.
+/// The files that are read for a line, in their order.
 pub fn files_of(alloc: Global, line: &Line) -> Result<Vec<NamedFile>, NoMemory>
     ensures files { IfOk result (λ files. files.items ≡ files_of line.now) }
 {
@@ -35,6 +35,12 @@ pub fn files_of(alloc: Global, line: &Line) -> Result<Vec<NamedFile>, NoMemory>
             push_input(alloc, options, &mut files)?;
         }
         Line::Sched {
+            image,
+            machine,
+            plan,
+            options,
+        }
+        | Line::Inorder {
             image,
             machine,
             plan,
@@ -64,7 +70,7 @@ pub fn files_of(alloc: Global, line: &Line) -> Result<Vec<NamedFile>, NoMemory>
             push_machines(alloc, machines.as_slice(), &mut files)?;
             push_input(alloc, options, &mut files)?;
         }
-        Line::Soak { .. } | Line::Inorder { .. } => {}
+        Line::Soak { .. } => {}
     }
     Ok(files)
 }

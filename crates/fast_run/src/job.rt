@@ -1,11 +1,12 @@
-ghost use Rattle.std.specs.Prelude.{◌≡◌, ◌≢◌, ◌≤◌, true, length, Ok, IfOk};
+ghost use Rattle.std.specs.Prelude.{◌≡◌, ◌≤◌, true, length, Ok, IfOk};
 ghost use Rattle.mono_model.specs.Setup.{is_setup};
 ghost use Rattle.fast_cli.specs.Ranges.{HasRanges, IsInRange};
 ghost use Rattle.fast_run.specs.Files.{files_of};
 ghost use Rattle.fast_run.specs.Gives.{Gives};
 ghost use Rattle.fast_run.specs.declared.job.Job.{Job as AnyJob};
-ghost use Rattle.fast_run.specs.Job.{back_job, bytes_at, default_options, func_job, job_of};
-ghost use Rattle.fast_run.specs.Job.{run_job, sched_job};
+ghost use Rattle.inorder_model.specs.Standing.{IsInorder};
+ghost use Rattle.fast_run.specs.Job.{back_job, bytes_at, default_options, func_job, inorder_job};
+ghost use Rattle.fast_run.specs.Job.{inorder_setup, job_of, planned_run, run_job, sched_job};
 ghost use Rattle.fast_run.specs.Job.{CanBegin, is_single, is_still, sets_for, soak_setup};
 ghost use Rattle.fast_run.specs.Reading.{AreWithin};
 
@@ -21,7 +22,6 @@ use fast_cli::{Line, Options};
 use fsim_base::Bytes;
 use gen_image::{soak_image, soak_params};
 use mono_model::{Params, Setup};
-use report_text::Status;
 use std::alloc::Global;
 
 /// What is asked for, with all that it depends on.
@@ -33,6 +33,8 @@ pub enum Job {
     Run(Setup),
     /// The events of a plan, and the way to the next cycle boundary.
     Sched(Setup, Plan),
+    /// The events of a plan on the in-order machine, and the way to its end.
+    Inorder(Setup, Plan),
     /// The commands of a debugger's script, over a run that remembers so many steps.
     Back(Setup, u32, Script),
     /// The run on each of many machines to its end.
@@ -60,7 +62,7 @@ pub fn job_of(alloc: Global, line: &Line, sets: usize, contents: Vec<Bytes>) -> 
             options,
             ..
         } => back_job(alloc, *history, options, contents),
-        Line::Inorder { .. } => Err(later(alloc, b"inorder")),
+        Line::Inorder { options, .. } => inorder_job(alloc, options, contents),
         Line::Sweep {
             machines,
             options,
@@ -97,7 +99,33 @@ fn run_job(alloc: Global, options: &Options, contents: Vec<Bytes>) -> Result<Job
     Ok(Job::Run(setup_for(params, options, image, input)))
 }
 
+/// A run on a machine, and the plan for it.
+#[derive(Drop)]
+pub struct PlannedRun {
+    setup: Setup,
+    plan: Plan,
+}
+
 /// A plan for a run on a machine; the files are image, machine file, plan and input.
+fn planned_run(
+    alloc: Global,
+    options: &Options,
+    contents: Vec<Bytes>,
+) -> Result<PlannedRun, Refusal>
+    requires ranges { HasRanges options.now }
+    requires input { length (bytes_at contents.items 3) ≤ 16777216 }
+    ensures planned { Gives (planned_run options.now contents.items) result }
+    ensures sound { IfOk result (λ planned. is_setup planned.setup ≡ true) }
+{
+    let params = read_machine(alloc, bytes_at(contents.as_slice(), 1))?;
+    let image = read_image(alloc, bytes_at(contents.as_slice(), 0), ram_of(&params))?;
+    let plan = Plan::read(alloc, bytes_at(contents.as_slice(), 2))?;
+    let input = take_at(alloc, contents, 3);
+    let setup = setup_for(params, options, image, input);
+    Ok(PlannedRun { setup, plan })
+}
+
+/// The plan, and the way to the next cycle boundary.
 fn sched_job(alloc: Global, options: &Options, contents: Vec<Bytes>) -> Result<Job, Refusal>
     requires ranges { HasRanges options.now }
     requires input { length (bytes_at contents.items 3) ≤ 16777216 }
@@ -105,11 +133,31 @@ fn sched_job(alloc: Global, options: &Options, contents: Vec<Bytes>) -> Result<J
     ensures can { IfOk result (λ job. CanBegin job) }
     ensures alone { IfOk result (λ job. is_single job ≡ true) }
 {
-    let params = read_machine(alloc, bytes_at(contents.as_slice(), 1))?;
-    let image = read_image(alloc, bytes_at(contents.as_slice(), 0), ram_of(&params))?;
-    let plan = Plan::read(alloc, bytes_at(contents.as_slice(), 2))?;
-    let input = take_at(alloc, contents, 3);
-    Ok(Job::Sched(setup_for(params, options, image, input), plan))
+    let planned = planned_run(alloc, options, contents)?;
+    Ok(Job::Sched(planned.setup, planned.plan))
+}
+
+/// The plan on the in-order machine, and the way to its end.
+fn inorder_job(alloc: Global, options: &Options, contents: Vec<Bytes>) -> Result<Job, Refusal>
+    requires ranges { HasRanges options.now }
+    requires input { length (bytes_at contents.items 3) ≤ 16777216 }
+    ensures job { Gives (inorder_job options.now contents.items) result }
+    ensures can { IfOk result (λ job. CanBegin job) }
+    ensures alone { IfOk result (λ job. is_single job ≡ true) }
+{
+    let planned = planned_run(alloc, options, contents)?;
+    Ok(Job::Inorder(inorder_setup(planned.setup), planned.plan))
+}
+
+/// The setup with a window for the four stages of the in-order machine.
+fn inorder_setup(setup: Setup) -> Setup
+    requires sound { is_setup setup ≡ true }
+    ensures setup { result ≡ inorder_setup setup }
+    ensures sound { IsInorder result }
+{
+    let mut setup = setup;
+    setup.params.core_window = 4;
+    setup
 }
 
 /// A debugger's script for the sequential run of an image on the plain machine; the files are
@@ -158,16 +206,6 @@ fn default_options() -> Options
         cycles: 10_000_000,
         output: 16_777_216,
         input: None,
-    }
-}
-
-/// The answer to a line of a command that isn't run yet.
-fn later(alloc: Global, word: &[u8]) -> Refusal
-    ensures later { result ≢ Status.Memory → result ≡ Status.Later word.now }
-{
-    match word.to_vec(alloc) {
-        Ok(word) => Refusal::new(Status::Later(Bytes::new(word))),
-        Err(_) => Refusal::new(Status::Memory),
     }
 }
 

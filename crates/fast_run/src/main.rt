@@ -6,6 +6,7 @@ mod answer;
 mod files;
 mod finish;
 mod image;
+mod inorder;
 mod job;
 mod load;
 mod machine;

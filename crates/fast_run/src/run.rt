@@ -6,6 +6,7 @@ ghost use Rattle.fast_run.specs.Call.{writing_of};
 ghost use Rattle.fast_run.specs.Job.{CanBegin, is_single, sets_for};
 
 use crate::finish::{finish_alone, finish_timed};
+use crate::inorder::run_inorder;
 use crate::job::Job;
 use crate::plan::Plan;
 use crate::refusal::Refusal;
@@ -37,6 +38,7 @@ pub fn run<K: Sink, D: Device>(alloc: Global, job: &Job, devices: Vec<D>, sink: 
         Job::Func(setup) => run_alone(alloc, setup, devices, sink),
         Job::Run(setup) => run_to_end(alloc, setup, devices, sink),
         Job::Sched(setup, plan) => run_plan(alloc, setup, plan, devices, sink),
+        Job::Inorder(setup, plan) => run_inorder(alloc, setup, plan, devices, sink),
         Job::Back(setup, history, script) => {
             run_script(alloc, setup, *history, script, devices, sink)
         }
@@ -62,7 +64,7 @@ pub fn run_in_threads<R: Threads + Wait + Sync, K: Sink, G: Gate + Sync, D: Devi
 {
     match job {
         Job::Run(setup) => run_session(rt, alloc, setup, first_set(devices), sink, gate),
-        Job::Func(_) | Job::Sched(_, _) | Job::Back(_, _, _) => {
+        Job::Func(_) | Job::Sched(_, _) | Job::Inorder(_, _) | Job::Back(_, _, _) => {
             run(alloc, job, first_set(devices), sink)
         }
         Job::Sweep(files) => run_sweep(rt, alloc, files, devices, sink),

@@ -41,10 +41,16 @@ fn image_of(alloc: Global, words: &[u32]) -> Result<Vec<u8>, Fail> {
     front[68..72].copy_from_slice(&size);
     front[72..76].copy_from_slice(&size);
     let mut image = front.to_vec(alloc)?;
+    put_words(&mut image, words)?;
+    Ok(image)
+}
+
+/// Puts words behind an image.
+fn put_words(image: &mut Vec<u8>, words: &[u32]) -> Result<(), Fail> {
     for word in words {
         image.extend_from_slice(&word.to_le_bytes())?;
     }
-    Ok(image)
+    Ok(())
 }
 
 /// Answers the words, and compares status and text.

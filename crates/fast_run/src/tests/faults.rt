@@ -32,7 +32,7 @@ fn files_of(alloc: Global) -> Result<MemoryFiles, Fail> {
 }
 
 /// Lines and their refusals, in the order in which these are tested.
-const REFUSED: [(&str, u8, &str); 36] = [
+const REFUSED: [(&str, u8, &str); 37] = [
     ("func none", 13, "fast: missing: image\n"),
     ("func none --input none", 13, "fast: missing: image\n"),
     ("func pass --input none", 13, "fast: missing: input\n"),
@@ -81,6 +81,7 @@ const REFUSED: [(&str, u8, &str); 36] = [
     ("back pass bad", 21, "fast: bad script: 1\n"),
     ("back pass script", 21, "fast: bad script: 4\n"),
     ("back pass script --input bad", 21, "fast: bad script: 4\n"),
+    ("inorder pass empty bad", 18, "fast: bad plan: 2\n"),
 ];
 
 #[test]
@@ -168,7 +169,7 @@ fn machine_files_plans_and_scripts_are_read_to_their_limits(rt: HostRuntime) -> 
 
 /// Lines, the roles of their files in the order in which these are read, and the answer where no
 /// read fails. Each file takes one read for its bytes and one for its end.
-const READ: [(&str, &[&str], u8); 4] = [
+const READ: [(&str, &[&str], u8); 6] = [
     ("func echo --input in", &["image", "input"], 0),
     (
         "run echo eight --input in",
@@ -184,6 +185,16 @@ const READ: [(&str, &[&str], u8); 4] = [
         "back echo again --input in",
         &["image", "script", "input"],
         5,
+    ),
+    (
+        "sweep echo eight targets --input in",
+        &["image", "machine", "machine", "input"],
+        5,
+    ),
+    (
+        "inorder echo eight nothing --input in",
+        &["image", "machine", "plan", "input"],
+        0,
     ),
 ];
 

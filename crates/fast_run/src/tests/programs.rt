@@ -1,5 +1,5 @@
 // The programs of the runs, from 0x80000000 on, and the machine files.
-use super::image_of;
+use super::{image_of, put_words};
 use fsim_ports::MemoryFiles;
 use std::alloc::Global;
 use std::test::Fail;
@@ -305,18 +305,14 @@ fn flagged(alloc: Global) -> Result<Vec<u8>, Fail> {
     front[68] = 16;
     front[72] = 16;
     let mut image = front.to_vec(alloc)?;
-    for word in super::SMALLEST_PASS {
-        image.extend_from_slice(&word.to_le_bytes())?;
-    }
+    put_words(&mut image, &super::SMALLEST_PASS)?;
     Ok(image)
 }
 
 /// The image of the driver.
 fn uart(alloc: Global) -> Result<Vec<u8>, Fail> {
     let mut image = UART_FRONT.to_vec(alloc)?;
-    for word in UART {
-        image.extend_from_slice(&word.to_le_bytes())?;
-    }
+    put_words(&mut image, &UART)?;
     image.extend_from_slice(b"Hi\n\0")?;
     Ok(image)
 }

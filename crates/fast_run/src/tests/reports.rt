@@ -1,4 +1,4 @@
-// Reports of `func`, `run` and `sched`. The values were worked out by hand, and by another
+// Reports of `func`, `run`, `sched` and `inorder`. The values were worked out by hand, and by another
 // simulator.
 use super::programs::files_of_runs;
 use crate::program::answer_words;
@@ -35,7 +35,7 @@ const ZERO: [&str; 20] = [
 ];
 
 /// Words, the exit status, and all lines that don't stand at 0, cut by `; `.
-const REPORTS: [(&str, u8, &str); 56] = [
+const REPORTS: [(&str, u8, &str); 59] = [
     (
         "func pass",
         0,
@@ -530,6 +530,32 @@ const REPORTS: [(&str, u8, &str); 56] = [
             "x4=00000000 x5=00100000 x6=00073333 x7=00000000",
         ),
     ),
+    (
+        "inorder pass plain nothing",
+        0,
+        concat!(
+            "status: pass; cycles: 8; instructions: 4; fetched: 7; pc: 80000010; ",
+            "x4=00000000 x5=00100000 x6=00005555 x7=00000000",
+        ),
+    ),
+    (
+        "inorder loop plain nothing",
+        0,
+        concat!(
+            "status: pass; cycles: 38; instructions: 25; fetched: 37; squashed: 9; ",
+            "branches: 10; mispredicted: 9; pc: 8000001c; ",
+            "x4=00000000 x5=00000000 x6=00100000 x7=00005555",
+        ),
+    ),
+    (
+        "inorder loop plain ahead --ring 16",
+        0,
+        concat!(
+            "status: pass; cycles: 38; instructions: 25; fetched: 37; squashed: 9; ",
+            "branches: 10; mispredicted: 9; pc: 8000001c; ",
+            "x4=00000000 x5=00000000 x6=00100000 x7=00005555",
+        ),
+    ),
 ];
 
 /// Answers the words, and compares status and lines.
@@ -578,12 +604,15 @@ fn reports_are_those_worked_out_by_hand(rt: HostRuntime) -> Result<(), Fail> {
 fn each_put_that_fails_leaves_a_prefix(rt: HostRuntime) -> Result<(), Fail> {
     let alloc = rt.alloc();
     let mut files = files_of_runs(alloc)?;
-    // Output, its line feed, and a put for each line of the report, or for each line of a debugger.
+    // Output, its line feed, and a put for each line of the report, or for each line of a debugger; of
+    // a sweep name, what stands behind it, and the line feed.
     for (text, number, puts) in [
         ("func five --output 4", 3, 18),
         ("run five wide --output 4", 3, 26),
         ("sched five wide whole --output 4", 3, 26),
         ("back echo again --input in", 5, 14),
+        ("sweep five wide eight --output 4", 5, 6),
+        ("inorder five wide nothing --output 4", 3, 26),
     ] {
         let words: Vec<&str> = text.split(' ').collect(alloc)?;
         let mut whole = MemorySink::new(alloc, 4096)?;

@@ -41,11 +41,8 @@ const REFUSED: [&str; 30] = [
     "--cycles 5 func a",
 ];
 
-/// Lines of commands that aren't run yet, and the answer.
-const LATER: [(&str, &str); 1] = [("inorder a m p", "fast: later: inorder\n")];
-
-/// Lines of commands that are run, by the file that they lack.
-const LINES: [(&str, &str); 13] = [
+/// Lines by the file that they lack.
+const LINES: [(&str, &str); 14] = [
     ("run n m", "fast: missing: image\n"),
     ("run a n", "fast: missing: machine\n"),
     ("run --ring=8 a n", "fast: missing: machine\n"),
@@ -62,6 +59,7 @@ const LINES: [(&str, &str); 13] = [
     ("sched a m a --input i", "fast: missing: input\n"),
     ("back a s --history 2", "fast: missing: script\n"),
     ("back a m --input i", "fast: missing: input\n"),
+    ("inorder a m p", "fast: missing: plan\n"),
 ];
 
 #[test]
@@ -74,27 +72,6 @@ fn refused_words_are_answered_by_the_usage(rt: HostRuntime) -> Result<(), Fail> 
         check(&rt, alloc, words.as_slice(), &mut files, 10, USAGE)?;
     }
     Ok(())
-}
-
-#[test]
-fn later_commands_read_no_file(rt: HostRuntime) -> Result<(), Fail> {
-    let alloc = rt.alloc();
-    let mut files = MemoryFiles::new(alloc);
-    files.add("a", image_of(alloc, &SMALLEST_PASS)?.as_slice())?;
-    files.add("m", b"")?;
-    files.fail_at(1)?;
-    for (text, answer) in LATER {
-        let words: Vec<&str> = text.split(' ').collect(alloc)?;
-        check(&rt, alloc, words.as_slice(), &mut files, 20, answer)?;
-    }
-    check(
-        &rt,
-        alloc,
-        &["func", "a"],
-        &mut files,
-        14,
-        "fast: read fault: image\n",
-    )
 }
 
 #[test]

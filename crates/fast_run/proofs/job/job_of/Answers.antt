@@ -1,4 +1,4 @@
-use Rattle.std.proofs.Common.{List, ap, subst}
+use Rattle.std.proofs.Common.{subst}
 use Rattle.report_text.specs.declared.status.Role.TheVariants as role
 use Rattle.fast_cli.specs.declared.line.Line.{Line}
 use Rattle.fast_run.specs.Files.{file, files_of}

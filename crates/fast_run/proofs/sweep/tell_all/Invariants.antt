@@ -1,4 +1,4 @@
-use Rattle.std.proofs.Common.{ℕ, ◌≤◌, ◌*◌, List, ◌++◌, length, map, All, Option}
+use Rattle.std.proofs.Common.{◌≤◌, ◌*◌, List, ◌++◌, length, map, All, Option}
 use Rattle.std.specs.Vec.Iter.{into_iter_items, into_iter_len}
 use Rattle.mono_model.specs.declared.final_state.Final.{Final}
 use Rattle.report_text.specs.declared.status.Status.{Status}

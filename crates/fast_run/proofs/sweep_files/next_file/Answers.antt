@@ -1,4 +1,4 @@
-use Rattle.std.proofs.Common.{ℕ, List, ap, sym, ◌∙◌}
+use Rattle.std.proofs.Common.{sym, ◌∙◌}
 use Rattle.std.specs.Vec.Iter.{into_iter_items}
 use Rattle.fast_run.proofs.Sweeps.{none-at, none-behind}
 use Rattle.fast_run.proofs.sweep_files.next_file.Goals as goal
