@@ -53,26 +53,46 @@ fn put_words(image: &mut Vec<u8>, words: &[u32]) -> Result<(), Fail> {
     Ok(())
 }
 
-/// Answers the words, and compares status and text.
+/// The words of a line, which is cut at each space.
+fn words_of(alloc: Global, line: &str) -> Result<Vec<&str>, Fail> {
+    Ok(line.split(' ').collect(alloc)?)
+}
+
+/// The exit status that answers a line. It has no contract, so that the tests see no more of the
+/// answer than they compare.
+fn answer<R: Threads + Wait + Sync + Abort>(
+    rt: &R,
+    alloc: Global,
+    line: &str,
+    files: &mut MemoryFiles,
+    sink: &mut MemorySink,
+) -> Result<u8, Fail> {
+    let words = words_of(alloc, line)?;
+    let status = answer_words(rt, alloc, words.as_slice(), files, sink)?;
+    Ok(status.number())
+}
+
+/// Answers a line, and compares status and text.
 fn check<R: Threads + Wait + Sync + Abort>(
     rt: &R,
     alloc: Global,
-    words: &[&str],
+    line: &str,
     files: &mut MemoryFiles,
     number: u8,
     text: &str,
 ) -> Result<(), Fail> {
     let mut sink = MemorySink::new(alloc, 4096)?;
-    let status = answer_words(rt, alloc, words, files, &mut sink)?;
-    assert_eq!(rt; status.number(), number, "{words:?}");
-    assert_eq!(rt; sink.bytes(), text.as_bytes(), "{words:?}");
+    let answered = answer(rt, alloc, line, files, &mut sink)?;
+    assert_eq!(rt; answered, number, "{line}");
+    assert_eq!(rt; sink.bytes(), text.as_bytes(), "{line}");
     Ok(())
 }
 
-/// Whether the words ask for a job with these files.
-fn opens(alloc: Global, words: &[&str], files: &mut MemoryFiles) -> bool {
-    match read_words(alloc, words) {
-        Ok(line) => open(alloc, &line, 1, files).is_ok(),
-        Err(_) => false,
+/// Whether a line asks for a job with these files.
+fn opens(alloc: Global, line: &str, files: &mut MemoryFiles) -> Result<bool, Fail> {
+    let words = words_of(alloc, line)?;
+    match read_words(alloc, words.as_slice()) {
+        Ok(line) => Ok(open(alloc, &line, 1, files).is_ok()),
+        Err(_) => Ok(false),
     }
 }

@@ -1,20 +1,8 @@
 //! A functional side that is driven by orders, and one that runs alone. The values are worked out
 //! by hand from the manual and the machine's rules.
 
-ghost use Rattle.std.specs.Prelude.{◌≡◌, map};
+ghost use Rattle.std.specs.Prelude.{◌≡◌, map, IfOk};
 ghost use Rattle.device_bus.specs.Bus.{device_order};
-
-/// The three devices in order, with this console.
-macro_rules! devices {
-    ($rt:expr, $console:expr) => {{
-        let mut devices: Vec<Box<dyn Device + Send>> = Vec::new($rt.alloc());
-        devices.push(Box::new($rt.alloc(), $console)?)?;
-        devices.push(Box::new($rt.alloc(), Timer::new())?)?;
-        devices.push(Box::new($rt.alloc(), Finisher::new())?)?;
-        assert!($rt; in_order(&devices));
-        devices
-    }};
-}
 
 mod alone;
 mod counting;
@@ -35,6 +23,31 @@ use std::sync::Arc;
 use std::test::Fail;
 use trace_entry::Entry;
 use watched::Watched;
+
+/// The three devices in order, with this console.
+fn devices_of(
+    rt: &impl Abort,
+    alloc: Global,
+    console: Box<dyn Device + Send>,
+) -> Result<Vec<Box<dyn Device + Send>>, Fail>
+    ensures order { IfOk result (λ devices.
+        map (λ device. kind device) devices.items ≡ device_order) }
+{
+    let mut devices = Vec::new(alloc);
+    devices.push(console)?;
+    devices.push(Box::new(alloc, Timer::new())?)?;
+    devices.push(Box::new(alloc, Finisher::new())?)?;
+    assert!(rt; in_order(&devices));
+    Ok(devices)
+}
+
+/// The devices that the program has.
+fn plain_devices(rt: &impl Abort, alloc: Global) -> Result<Vec<Box<dyn Device + Send>>, Fail>
+    ensures order { IfOk result (λ devices.
+        map (λ device. kind device) devices.items ≡ device_order) }
+{
+    devices_of(rt, alloc, Box::new(alloc, Console::new(alloc)?)?)
+}
 
 /// The journal of a machine with a trace and a reorder buffer of one place each has room for 4
 /// steps.
@@ -63,7 +76,7 @@ fn fill_journal<D: Device>(rt: &impl Abort, alloc: Global, devices: Vec<D>) -> R
 
 #[test]
 fn full_journal_gives_no_entry(rt: HostRuntime) -> Result<(), Fail> {
-    let devices = devices!(rt, Console::new(rt.alloc())?);
+    let devices = plain_devices(&rt, rt.alloc())?;
     fill_journal(&rt, rt.alloc(), devices)
 }
 
@@ -138,7 +151,7 @@ fn entries() -> [Entry; 4] {
 
 #[test]
 fn entries_tell_what_timing_needs(rt: HostRuntime) -> Result<(), Fail> {
-    let devices = devices!(rt, Console::new(rt.alloc())?);
+    let devices = plain_devices(&rt, rt.alloc())?;
     compare_entries(&rt, rt.alloc(), devices)
 }
 
@@ -162,7 +175,7 @@ fn undo_load<D: Device>(rt: &impl Abort, alloc: Global, devices: Vec<D>) -> Resu
 
 #[test]
 fn load_is_undone_after_a_set(rt: HostRuntime) -> Result<(), Fail> {
-    let devices = devices!(rt, Console::new(rt.alloc())?);
+    let devices = plain_devices(&rt, rt.alloc())?;
     undo_load(&rt, rt.alloc(), devices)
 }
 
@@ -194,7 +207,7 @@ fn count_calls<D: Device>(
 fn device_is_started_once(rt: HostRuntime) -> Result<(), Fail> {
     let calls = Arc::new(rt.alloc(), Calls::new())?;
     let console = Counting::new(Console::new(rt.alloc())?, Arc::try_clone(&calls)?);
-    let devices = devices!(rt, console);
+    let devices = devices_of(&rt, rt.alloc(), Box::new(rt.alloc(), console)?)?;
     count_calls(&rt, rt.alloc(), devices, &calls)
 }
 
@@ -253,7 +266,7 @@ fn undo_all<D: Device>(rt: &impl Abort, alloc: Global, devices: Vec<D>) -> Resul
 
 #[test]
 fn stores_traps_and_csrs_are_undone(rt: HostRuntime) -> Result<(), Fail> {
-    let devices = devices!(rt, Console::new(rt.alloc())?);
+    let devices = plain_devices(&rt, rt.alloc())?;
     undo_all(&rt, rt.alloc(), devices)
 }
 
@@ -284,7 +297,7 @@ fn interrupt<D: Device>(rt: &impl Abort, alloc: Global, devices: Vec<D>) -> Resu
 
 #[test]
 fn interrupt_goes_to_the_handler_for_good(rt: HostRuntime) -> Result<(), Fail> {
-    let devices = devices!(rt, Console::new(rt.alloc())?);
+    let devices = plain_devices(&rt, rt.alloc())?;
     interrupt(&rt, rt.alloc(), devices)
 }
 
@@ -327,7 +340,7 @@ fn serve<D: Device>(rt: &impl Abort, alloc: Global, devices: Vec<D>) -> Result<(
 
 #[test]
 fn time_is_given_to_one_instruction(rt: HostRuntime) -> Result<(), Fail> {
-    let devices = devices!(rt, Console::new(rt.alloc())?);
+    let devices = plain_devices(&rt, rt.alloc())?;
     serve(&rt, rt.alloc(), devices)
 }
 
@@ -355,7 +368,7 @@ fn sync<D: Device>(rt: &impl Abort, alloc: Global, devices: Vec<D>) -> Result<()
 
 #[test]
 fn sync_lets_a_store_be_fetched(rt: HostRuntime) -> Result<(), Fail> {
-    let devices = devices!(rt, Console::new(rt.alloc())?);
+    let devices = plain_devices(&rt, rt.alloc())?;
     sync(&rt, rt.alloc(), devices)
 }
 
@@ -383,6 +396,6 @@ fn go_and_stop<D: Device>(rt: &impl Abort, alloc: Global, devices: Vec<D>) -> Re
 
 #[test]
 fn orders_go_on_and_stop(rt: HostRuntime) -> Result<(), Fail> {
-    let devices = devices!(rt, Console::new(rt.alloc())?);
+    let devices = plain_devices(&rt, rt.alloc())?;
     go_and_stop(&rt, rt.alloc(), devices)
 }

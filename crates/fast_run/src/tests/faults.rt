@@ -1,33 +1,47 @@
 // What the files and the sink refuse.
 use super::programs::files_of_runs;
-use super::{SMALLEST_PASS, check, image_of, opens};
-use crate::program::answer_words;
+use super::{SMALLEST_PASS, answer, check, image_of, opens};
 use fsim_ports::{MemoryFiles, MemorySink};
 use std::alloc::Global;
+use std::process::Abort;
+use std::sync::Wait;
 use std::test::Fail;
+use std::thread::Threads;
 
-/// Files with an image, machine files and plans, and with files that are none.
+/// Machine files, plans and a script, most of which are none, by their names.
+const TEXTS: [(&str, &str); 12] = [
+    ("empty", ""),
+    ("zero", "core.window = 0"),
+    ("text", "core.window = \"8\""),
+    ("sets", "icache.sets = 48"),
+    ("section", "[cpu]"),
+    ("both", "core.window = 0\ncore.foo = 1\n"),
+    ("half", "a ="),
+    ("low", "ram.base = 0x20000000"),
+    ("old", "version = 1\nl2.ways = 1\n"),
+    ("bad", "CPX"),
+    ("spaced", "C P\r\nOTKSx"),
+    ("script", "r\r\n\ns 1\ns 0\nx"),
+];
+
+/// The front of an image of another processor.
+fn other_front() -> [u8; 84] {
+    let mut front = super::FRONT;
+    front[18] = 62;
+    front
+}
+
+/// These files, an image, and two that are none.
 fn files_of(alloc: Global) -> Result<MemoryFiles, Fail> {
     let mut files = MemoryFiles::new(alloc);
+    for (name, text) in TEXTS {
+        files.add(name, text.as_bytes())?;
+    }
+    files.add("other", &other_front())?;
     let mut image = image_of(alloc, &SMALLEST_PASS)?;
     files.add("pass", image.as_slice())?;
-    files.add("empty", b"")?;
     image.truncate(51);
     files.add("short", image.as_slice())?;
-    let mut other = super::FRONT;
-    other[18] = 62;
-    files.add("other", &other)?;
-    files.add("zero", b"core.window = 0")?;
-    files.add("text", b"core.window = \"8\"")?;
-    files.add("sets", b"icache.sets = 48")?;
-    files.add("section", b"[cpu]")?;
-    files.add("both", b"core.window = 0\ncore.foo = 1\n")?;
-    files.add("half", b"a =")?;
-    files.add("low", b"ram.base = 0x20000000")?;
-    files.add("old", b"version = 1\nl2.ways = 1\n")?;
-    files.add("bad", b"CPX")?;
-    files.add("spaced", b"C P\r\nOTKSx")?;
-    files.add("script", b"r\r\n\ns 1\ns 0\nx")?;
     Ok(files)
 }
 
@@ -87,55 +101,61 @@ const REFUSED: [(&str, u8, &str); 37] = [
 #[test]
 fn first_refusal_is_told(rt: HostRuntime) -> Result<(), Fail> {
     let alloc = rt.alloc();
-    for (text, number, answer) in REFUSED {
-        let words: Vec<&str> = text.split(' ').collect(alloc)?;
+    for (text, number, told) in REFUSED {
         let mut files = files_of(alloc)?;
-        check(&rt, alloc, words.as_slice(), &mut files, number, answer)?;
+        check(&rt, alloc, text, &mut files, number, told)?;
     }
     Ok(())
+}
+
+/// The front of an image of so many bytes of 0 from 0x80fffff0 on, where RAM has 16.
+fn last_front(size: u8) -> [u8; 84] {
+    let mut front = super::FRONT;
+    // p_paddr, and p_memsz; p_filesz is 0.
+    front[64] = 0xf0;
+    front[65] = 0xff;
+    front[66] = 0xff;
+    front[72] = size;
+    front
 }
 
 #[test]
 fn image_may_fill_ram_to_its_last_byte(rt: HostRuntime) -> Result<(), Fail> {
     let alloc = rt.alloc();
-    let mut image = super::FRONT;
-    // p_paddr 0x80fffff0, p_filesz 0, p_memsz 16: the last 16 bytes of RAM.
-    image[64] = 0xf0;
-    image[65] = 0xff;
-    image[66] = 0xff;
-    image[72] = 16;
     let mut files = MemoryFiles::new(alloc);
-    files.add("last", &image)?;
-    assert!(rt; opens(alloc, &["func", "last"], &mut files));
-    image[72] = 17;
-    files.add("outside", &image)?;
-    let answer = "fast: image: outside ram 0\n";
-    check(&rt, alloc, &["func", "outside"], &mut files, 11, answer)
+    files.add("last", &last_front(16))?;
+    assert!(rt; opens(alloc, "func last", &mut files)?);
+    files.add("outside", &last_front(17))?;
+    let told = "fast: image: outside ram 0\n";
+    check(&rt, alloc, "func outside", &mut files, 11, told)
+}
+
+/// Adds a file of one byte so many times.
+fn add_filled(
+    alloc: Global,
+    files: &mut MemoryFiles,
+    name: &str,
+    byte: u8,
+    size: usize,
+) -> Result<(), Fail> {
+    let bytes = vec![in alloc; byte; size]?;
+    files.add(name, bytes.as_slice())?;
+    Ok(())
 }
 
 #[test]
 fn files_are_read_to_their_limits(rt: HostRuntime) -> Result<(), Fail> {
     let alloc = rt.alloc();
-    let long = vec![in alloc; 0u8; 67_108_865]?;
     let mut files = MemoryFiles::new(alloc);
-    files.add("longer", long.as_slice())?;
-    let answer = "fast: too long: image 67108864\n";
-    check(&rt, alloc, &["func", "longer"], &mut files, 17, answer)?;
+    add_filled(alloc, &mut files, "longer", 0, 67_108_865)?;
+    let told = "fast: too long: image 67108864\n";
+    check(&rt, alloc, "func longer", &mut files, 17, told)?;
     files.add("pass", image_of(alloc, &SMALLEST_PASS)?.as_slice())?;
-    let most = vec![in alloc; 0u8; 16_777_216]?;
-    files.add("most", most.as_slice())?;
-    let more = vec![in alloc; 0u8; 16_777_217]?;
-    files.add("more", more.as_slice())?;
-    let answer = "fast: too long: input 16777216\n";
-    check(
-        &rt,
-        alloc,
-        &["func", "pass", "--input", "more"],
-        &mut files,
-        17,
-        answer,
-    )?;
-    assert!(rt; opens(alloc, &["func", "pass", "--input", "most"], &mut files));
+    add_filled(alloc, &mut files, "most", 0, 16_777_216)?;
+    add_filled(alloc, &mut files, "more", 0, 16_777_217)?;
+    let told = "fast: too long: input 16777216\n";
+    check(&rt, alloc, "func pass --input more", &mut files, 17, told)?;
+    assert!(rt; opens(alloc, "func pass --input most", &mut files)?);
     Ok(())
 }
 
@@ -144,26 +164,19 @@ fn machine_files_plans_and_scripts_are_read_to_their_limits(rt: HostRuntime) -> 
     let alloc = rt.alloc();
     let mut files = MemoryFiles::new(alloc);
     files.add("pass", image_of(alloc, &SMALLEST_PASS)?.as_slice())?;
-    files.add("most", vec![in alloc; b'\n'; 65_536]?.as_slice())?;
-    files.add("more", vec![in alloc; b'\n'; 65_537]?.as_slice())?;
-    files.add("plan", vec![in alloc; b' '; 1_048_576]?.as_slice())?;
-    files.add("long", vec![in alloc; b' '; 1_048_577]?.as_slice())?;
-    let answer = "fast: too long: machine 65536\n";
-    check(&rt, alloc, &["run", "pass", "more"], &mut files, 17, answer)?;
-    let answer = "fast: too long: plan 1048576\n";
-    let words = ["sched", "pass", "most", "long"];
-    check(&rt, alloc, &words, &mut files, 17, answer)?;
-    assert!(rt; opens(alloc, &["sched", "pass", "most", "plan"], &mut files));
-    let answer = "fast: too long: script 65536\n";
-    check(
-        &rt,
-        alloc,
-        &["back", "pass", "more"],
-        &mut files,
-        17,
-        answer,
-    )?;
-    assert!(rt; opens(alloc, &["back", "pass", "most"], &mut files));
+    add_filled(alloc, &mut files, "most", b'\n', 65_536)?;
+    add_filled(alloc, &mut files, "more", b'\n', 65_537)?;
+    add_filled(alloc, &mut files, "plan", b' ', 1_048_576)?;
+    add_filled(alloc, &mut files, "long", b' ', 1_048_577)?;
+    for (line, told) in [
+        ("run pass more", "fast: too long: machine 65536\n"),
+        ("sched pass most long", "fast: too long: plan 1048576\n"),
+        ("back pass more", "fast: too long: script 65536\n"),
+    ] {
+        check(&rt, alloc, line, &mut files, 17, told)?;
+    }
+    assert!(rt; opens(alloc, "sched pass most plan", &mut files)?);
+    assert!(rt; opens(alloc, "back pass most", &mut files)?);
     Ok(())
 }
 
@@ -202,29 +215,34 @@ const READ: [(&str, &[&str], u8); 6] = [
 fn each_read_that_fails_is_told_with_its_role(rt: HostRuntime) -> Result<(), Fail> {
     let alloc = rt.alloc();
     for (text, roles, number) in READ {
-        let words: Vec<&str> = text.split(' ').collect(alloc)?;
         let mut read = 0u64;
         for role in roles {
-            let answer = format!(in alloc; "fast: read fault: {role}\n")?;
-            for _ in 0..2u8 {
-                read = read.saturating_add(1);
-                let mut files = files_of_runs(alloc)?;
-                files.fail_at(read)?;
-                check(
-                    &rt,
-                    alloc,
-                    words.as_slice(),
-                    &mut files,
-                    14,
-                    answer.as_str(),
-                )?;
-            }
+            check_read(&rt, alloc, text, role, read)?;
+            read = read.saturating_add(2);
         }
         let mut files = files_of_runs(alloc)?;
         files.fail_at(read.saturating_add(1))?;
         let mut sink = MemorySink::new(alloc, 4096)?;
-        let status = answer_words(&rt, alloc, words.as_slice(), &mut files, &mut sink)?;
-        assert_eq!(rt; status.number(), number, "{text}");
+        let answered = answer(&rt, alloc, text, &mut files, &mut sink)?;
+        assert_eq!(rt; answered, number, "{text}");
+    }
+    Ok(())
+}
+
+/// Has each of the two reads of a file fail in turn, which come behind so many others, and compares
+/// the answers with one that tells its role.
+fn check_read<R: Threads + Wait + Sync + Abort>(
+    rt: &R,
+    alloc: Global,
+    line: &str,
+    role: &str,
+    before: u64,
+) -> Result<(), Fail> {
+    let told = format!(in alloc; "fast: read fault: {role}\n")?;
+    for behind in 1..3u64 {
+        let mut files = files_of_runs(alloc)?;
+        files.fail_at(before.saturating_add(behind))?;
+        check(rt, alloc, line, &mut files, 14, told.as_str())?;
     }
     Ok(())
 }
@@ -235,8 +253,7 @@ fn refusal_stands_where_its_line_is_not_written(rt: HostRuntime) -> Result<(), F
     let mut files = MemoryFiles::new(alloc);
     let mut sink = MemorySink::new(alloc, 4096)?;
     sink.fail_at(1)?;
-    let status = answer_words(&rt, alloc, &["run", "a"], &mut files, &mut sink)?;
-    assert_eq!(rt; status.number(), 10);
+    assert_eq!(rt; answer(&rt, alloc, "run a", &mut files, &mut sink)?, 10);
     assert_eq!(rt; sink.bytes().len(), 0);
     Ok(())
 }

@@ -1,8 +1,8 @@
 // Plans that starve a side, each ten thousand times, and a sink that fails behind a long run. The
 // reports are those of another simulator.
+use super::answer;
 use super::programs::{files_of_runs, repeated};
 use super::reports::check_report;
-use crate::program::answer_words;
 use fsim_ports::{MemoryFiles, MemorySink};
 use std::test::Fail;
 
@@ -32,10 +32,8 @@ fn plans_that_starve_a_side_lead_to_the_machines_cycle(rt: HostRuntime) -> Resul
     let alloc = rt.alloc();
     let mut files = files_of_runs(alloc)?;
     for (events, lines) in PLANS {
-        files.add(
-            events,
-            repeated(alloc, events.as_bytes(), 10_000)?.as_slice(),
-        )?;
+        let plan = repeated(alloc, events.as_bytes(), 10_000)?;
+        files.add(events, plan.as_slice())?;
         let text = format!(in alloc; "sched loop targets {events} --ring 1")?;
         check_report(&rt, alloc, text.as_str(), &mut files, 4, lines)?;
     }
@@ -48,8 +46,7 @@ fn soak_over_a_sink_that_fails_leaves_a_prefix(rt: HostRuntime) -> Result<(), Fa
     let mut files = MemoryFiles::new(alloc);
     let mut sink = MemorySink::new(alloc, 4096)?;
     sink.fail_at(2)?;
-    let status = answer_words(&rt, alloc, &["soak", "7"], &mut files, &mut sink)?;
-    assert_eq!(rt; status.number(), 15);
+    assert_eq!(rt; answer(&rt, alloc, "soak 7", &mut files, &mut sink)?, 15);
     assert_eq!(rt; sink.bytes(), b"status: pass\n".as_slice());
     Ok(())
 }

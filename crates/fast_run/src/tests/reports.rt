@@ -1,7 +1,7 @@
 // Reports of `func`, `run`, `sched` and `inorder`. The values were worked out by hand, and by another
 // simulator.
+use super::answer;
 use super::programs::files_of_runs;
-use crate::program::answer_words;
 use fsim_ports::{MemoryFiles, MemorySink};
 use std::alloc::Global;
 use std::process::Abort;
@@ -567,19 +567,43 @@ pub fn check_report<R: Threads + Wait + Sync + Abort>(
     number: u8,
     lines: &str,
 ) -> Result<(), Fail> {
-    let words: Vec<&str> = text.split(' ').collect(alloc)?;
     let mut sink = MemorySink::new(alloc, 4096)?;
-    let status = answer_words(rt, alloc, words.as_slice(), files, &mut sink)?;
-    assert_eq!(rt; status.number(), number, "{text}");
+    let answered = answer(rt, alloc, text, files, &mut sink)?;
+    assert_eq!(rt; answered, number, "{text}");
     let report = str::from_utf8(sink.bytes()).unwrap_or("");
-    for line in report.lines() {
-        let listed = lines.split("; ").any(|other| other == line);
-        assert!(rt; listed || ZERO.contains(&line), "{text}: {line}");
-    }
-    for line in lines.split("; ") {
-        assert!(rt; report.lines().any(|other| other == line), "{text}: {line}");
-    }
+    has_no_other_line(rt, report, lines, text);
+    has_each_line(rt, report, lines, text);
     Ok(())
+}
+
+/// Whether a line stands in the list.
+fn is_listed(lines: &str, line: &str) -> bool {
+    lines.split("; ").any(|other| other == line)
+}
+
+/// Each line of a report is listed, or stands at 0.
+fn has_no_other_line(rt: &impl Abort, report: &str, lines: &str, text: &str) {
+    for line in report.lines() {
+        let stands = is_listed(lines, line) || is_zero(line);
+        assert!(rt; stands, "{text}: {line}");
+    }
+}
+
+/// Whether a line stands at 0.
+fn is_zero(line: &str) -> bool {
+    ZERO.contains(&line)
+}
+
+/// Each line that is listed stands in the report.
+fn has_each_line(rt: &impl Abort, report: &str, lines: &str, text: &str) {
+    for line in lines.split("; ") {
+        assert!(rt; has_line(report, line), "{text}: {line}");
+    }
+}
+
+/// Whether a line stands in the report.
+fn has_line(report: &str, line: &str) -> bool {
+    report.lines().any(|other| other == line)
 }
 
 #[test]
@@ -589,15 +613,25 @@ fn reports_are_those_worked_out_by_hand(rt: HostRuntime) -> Result<(), Fail> {
     for (text, number, lines) in REPORTS {
         check_report(&rt, alloc, text, &mut files, number, lines)?;
         if let Some(rest) = text.strip_prefix("run ") {
-            for text in [
-                format!(in alloc; "run {rest} --threads 1")?,
-                format!(in alloc; "sched {rest} whole")?,
-            ] {
-                check_report(&rt, alloc, text.as_str(), &mut files, number, lines)?;
-            }
+            check_on_one_thread(&rt, alloc, rest, &mut files, number, lines)?;
         }
     }
     Ok(())
+}
+
+/// The same run on one thread, and by a plan of rounds to its end.
+fn check_on_one_thread<R: Threads + Wait + Sync + Abort>(
+    rt: &R,
+    alloc: Global,
+    rest: &str,
+    files: &mut MemoryFiles,
+    number: u8,
+    lines: &str,
+) -> Result<(), Fail> {
+    let text = format!(in alloc; "run {rest} --threads 1")?;
+    check_report(rt, alloc, text.as_str(), files, number, lines)?;
+    let text = format!(in alloc; "sched {rest} whole")?;
+    check_report(rt, alloc, text.as_str(), files, number, lines)
 }
 
 #[test]
@@ -614,27 +648,25 @@ fn each_put_that_fails_leaves_a_prefix(rt: HostRuntime) -> Result<(), Fail> {
         ("sweep five wide eight --output 4", 5, 6),
         ("inorder five wide nothing --output 4", 3, 26),
     ] {
-        let words: Vec<&str> = text.split(' ').collect(alloc)?;
         let mut whole = MemorySink::new(alloc, 4096)?;
-        let _ = answer_words(&rt, alloc, words.as_slice(), &mut files, &mut whole)?;
+        let _ = answer(&rt, alloc, text, &mut files, &mut whole)?;
         for put in 1..28u64 {
+            let wanted = if put <= puts { 15 } else { number };
             let mut sink = MemorySink::new(alloc, 4096)?;
             sink.fail_at(put)?;
-            let status = answer_words(&rt, alloc, words.as_slice(), &mut files, &mut sink)?;
-            assert_eq!(rt;
-                status.number(),
-                if put <= puts { 15 } else { number },
-                "{text} {put}"
-            );
-            assert!(rt; whole.bytes().starts_with(sink.bytes()), "{text} {put}");
-            assert_eq!(rt;
-                sink.bytes().len() < whole.bytes().len(),
-                put <= puts,
-                "{text} {put}"
-            );
+            let answered = answer(&rt, alloc, text, &mut files, &mut sink)?;
+            assert_eq!(rt; answered, wanted, "{text} {put}");
+            let is_cut = is_prefix(&rt, sink.bytes(), whole.bytes());
+            assert_eq!(rt; is_cut, put <= puts, "{text} {put}");
         }
     }
     Ok(())
+}
+
+/// Whether bytes, which the whole begins with, are less than it.
+fn is_prefix(rt: &impl Abort, bytes: &[u8], whole: &[u8]) -> bool {
+    assert!(rt; whole.starts_with(bytes));
+    bytes.len() < whole.len()
 }
 
 /// The report of the soak program of a seed.
@@ -645,8 +677,9 @@ fn soak<R: Threads + Wait + Sync + Abort>(
 ) -> Result<MemorySink, Fail> {
     let mut files = MemoryFiles::new(alloc);
     let mut sink = MemorySink::new(alloc, 4096)?;
-    let status = answer_words(rt, alloc, &["soak", seed], &mut files, &mut sink)?;
-    assert_eq!(rt; status.number(), 0);
+    let line = format!(in alloc; "soak {seed}")?;
+    let answered = answer(rt, alloc, line.as_str(), &mut files, &mut sink)?;
+    assert_eq!(rt; answered, 0);
     Ok(sink)
 }
 

@@ -81,10 +81,9 @@ const SESSIONS: [(&str, &str, u8, &str); 9] = [
 fn sessions_show_what_their_scripts_ask_for(rt: HostRuntime) -> Result<(), Fail> {
     let alloc = rt.alloc();
     for (script, text, number, shown) in SESSIONS {
-        let words: Vec<&str> = text.split(' ').collect(alloc)?;
         let mut files = files_of_runs(alloc)?;
         files.add("script", script.as_bytes())?;
-        check(&rt, alloc, words.as_slice(), &mut files, number, shown)?;
+        check(&rt, alloc, text, &mut files, number, shown)?;
     }
     Ok(())
 }

@@ -12,24 +12,17 @@ fn lines_stand_in_the_order_of_the_words(rt: HostRuntime) -> Result<(), Fail> {
     let mut files = files_of_runs(alloc)?;
     files.add("bad", b"core.window = 0")?;
     files.add("short", b"")?;
-    let words = ["sweep", "pass", "plain", "eight", "bad"];
+    let line = "sweep pass plain eight bad";
     let text = "plain: pass cycles 13 instructions 4 mispredicted 0 icache 0 dcache 0\n\
                 eight: pass cycles 7 instructions 4 mispredicted 0 icache 0 dcache 0\n\
                 bad: machine: range core.window 0\n";
-    check(&rt, alloc, &words, &mut files, 5, text)?;
-    let words = ["sweep", "loop", "targets", "plain"];
+    check(&rt, alloc, line, &mut files, 5, text)?;
+    let line = "sweep loop targets plain";
     let text = "targets: pass cycles 30 instructions 25 mispredicted 2 icache 0 dcache 0\n\
                 plain: pass cycles 76 instructions 25 mispredicted 9 icache 0 dcache 0\n";
-    check(&rt, alloc, &words, &mut files, 5, text)?;
+    check(&rt, alloc, line, &mut files, 5, text)?;
     let text = "plain: image: short\nbad: machine: range core.window 0\n";
-    check(
-        &rt,
-        alloc,
-        &["sweep", "short", "plain", "bad"],
-        &mut files,
-        5,
-        text,
-    )
+    check(&rt, alloc, "sweep short plain bad", &mut files, 5, text)
 }
 
 /// A sweep takes a set of devices for each machine that it names.

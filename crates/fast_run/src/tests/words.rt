@@ -1,6 +1,7 @@
 // The words of the command line, cut at each space.
 use super::{SMALLEST_PASS, check, image_of};
-use fsim_ports::MemoryFiles;
+use crate::program::answer_words;
+use fsim_ports::{MemoryFiles, MemorySink};
 use std::test::Fail;
 
 const USAGE: &str = concat!(
@@ -66,11 +67,19 @@ const LINES: [(&str, &str); 14] = [
 fn refused_words_are_answered_by_the_usage(rt: HostRuntime) -> Result<(), Fail> {
     let alloc = rt.alloc();
     let mut files = MemoryFiles::new(alloc);
-    check(&rt, alloc, &[], &mut files, 10, USAGE)?;
     for text in REFUSED {
-        let words: Vec<&str> = text.split(' ').collect(alloc)?;
-        check(&rt, alloc, words.as_slice(), &mut files, 10, USAGE)?;
+        check(&rt, alloc, text, &mut files, 10, USAGE)?;
     }
+    Ok(())
+}
+
+#[test]
+fn no_words_are_answered_by_the_usage(rt: HostRuntime) -> Result<(), Fail> {
+    let alloc = rt.alloc();
+    let mut files = MemoryFiles::new(alloc);
+    let mut sink = MemorySink::new(alloc, 4096)?;
+    let status = answer_words(&rt, alloc, &[], &mut files, &mut sink)?;
+    assert_eq!(rt; (status.number(), sink.bytes()), (10, USAGE.as_bytes()));
     Ok(())
 }
 
@@ -78,11 +87,10 @@ fn refused_words_are_answered_by_the_usage(rt: HostRuntime) -> Result<(), Fail> 
 fn first_file_that_is_lacking_is_told(rt: HostRuntime) -> Result<(), Fail> {
     let alloc = rt.alloc();
     for (text, answer) in LINES {
-        let words: Vec<&str> = text.split(' ').collect(alloc)?;
         let mut files = MemoryFiles::new(alloc);
         files.add("a", image_of(alloc, &SMALLEST_PASS)?.as_slice())?;
         files.add("m", b"")?;
-        check(&rt, alloc, words.as_slice(), &mut files, 13, answer)?;
+        check(&rt, alloc, text, &mut files, 13, answer)?;
     }
     Ok(())
 }

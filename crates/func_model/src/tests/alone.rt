@@ -2,9 +2,10 @@ ghost use Rattle.std.specs.Prelude.{◌≡◌, map};
 ghost use Rattle.device_bus.specs.Bus.{device_order};
 
 use crate::FuncSide;
+use crate::tests::plain_devices;
 use crate::tests::programs::{CYCLE_TWICE, LOAD_FAULT, PATCH, TIMER};
 use crate::tests::setups::{AMPLE, Room, setup_of};
-use device_bus::{Console, Device, Finisher, Timer, in_order};
+use device_bus::Device;
 use machine_csr::Csrs;
 use mono_model::{End, Final, Stats};
 use std::alloc::Global;
@@ -101,13 +102,11 @@ fn check<D: Device>(rt: &impl Abort, alloc: Global, row: &Row, devices: Vec<D>) 
 }
 
 /// Checks rows, each with devices of its own.
-macro_rules! check_rows {
-    ($rt:expr, $rows:expr) => {
-        for row in $rows {
-            let devices = devices!($rt, Console::new($rt.alloc())?);
-            check(&$rt, $rt.alloc(), row, devices)?;
-        }
-    };
+fn check_rows(rt: &impl Abort, alloc: Global, rows: &[Row]) -> Result<(), Fail> {
+    for row in rows {
+        check(rt, alloc, row, plain_devices(rt, alloc)?)?;
+    }
+    Ok(())
 }
 
 /// A row of four words that end the run by the word in x6, with room for all output.
@@ -166,8 +165,7 @@ fn run_alone_ends(rt: HostRuntime) -> Result<(), Fail> {
         registers: &[(5, 0x1000_0000), (6, 0x65)],
         ..pass_row()
     };
-    check_rows!(rt, &[pass, fail, limit, full]);
-    Ok(())
+    check_rows(&rt, rt.alloc(), &[pass, fail, limit, full])
 }
 
 /// The timer's interrupt is taken behind the instruction that turns interrupts on, before the NOP.
@@ -227,8 +225,7 @@ fn run_alone_traps(rt: HostRuntime) -> Result<(), Fail> {
         csrs: trapped(0, 0, 1, 0),
         ..pass_row()
     };
-    check_rows!(rt, &[fault, storm, timer_row()]);
-    Ok(())
+    check_rows(&rt, rt.alloc(), &[fault, storm, timer_row()])
 }
 
 /// The time is the number of the step, and a store reaches the text at a FENCE.I alone.
@@ -270,6 +267,5 @@ fn run_alone_sees_time_and_fences(rt: HostRuntime) -> Result<(), Fail> {
         ],
         ..fenced
     };
-    check_rows!(rt, &[cycles, fenced, unfenced]);
-    Ok(())
+    check_rows(&rt, rt.alloc(), &[cycles, fenced, unfenced])
 }
