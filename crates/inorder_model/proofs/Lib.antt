@@ -12,15 +12,6 @@ pub mod Sides
 pub mod Trying
 pub mod Turns
 pub mod NextNumber
-pub mod Running
 pub mod Trials
-pub mod CoreStanding
-pub mod CoreComputing
-pub mod CoreListing
-pub mod CoreObeying
-pub mod CoreTicking
-pub mod CoreTaking
-pub mod CorePlaying
-pub mod CoreEnding
-pub mod CoreReporting
-pub mod CoreOpening
+pub mod StepsOn
+pub mod LaneCore

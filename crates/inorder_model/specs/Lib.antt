@@ -5,4 +5,6 @@ pub mod Standing
 pub mod Turning
 pub mod Running
 pub mod Trial
+pub mod LaneTimed
+pub mod LaneTimedLaws
 pub mod Core

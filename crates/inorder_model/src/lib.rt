@@ -4,12 +4,12 @@
 
 mod at;
 mod bounds;
-mod core_state;
 mod lane;
 mod side;
 mod split;
 mod stages;
 mod state;
+mod timing;
 
 pub use side::InorderSide;
 pub use split::InorderCore;

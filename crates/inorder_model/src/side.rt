@@ -37,7 +37,8 @@ impl InorderSide {
     ghost use Rattle.lane_model.specs.Demand.{lane_place, seen};
     ghost use Rattle.inorder_model.specs.Standing.{IsInorder, InorderStandsFor, IsStep, IsRight};
     ghost use Rattle.inorder_model.specs.Standing.{wants_in};
-    ghost use Rattle.inorder_model.specs.Running.{IsRun};
+    ghost use Rattle.time_model.specs.Running.{IsRun};
+    ghost use Rattle.inorder_model.specs.Running.{Steps};
 
     /// The timing side before the first step of a run. It takes all its memory here, and want of it
     /// is the one refusal.
@@ -63,7 +64,7 @@ impl InorderSide {
     /// isn't held, or finds the run over; and at most 64 of them. The result is what the last one
     /// did.
     pub fn run(&mut self) -> Turn
-        ensures made { IsRun self.old self.new result }
+        ensures made { IsRun Steps self.old self.new result }
     {
         self.state.run(STEPS)
     }

@@ -1,10 +1,10 @@
 ghost use Rattle.std.specs.Prelude.{◌≡◌, true, false, map, IfOk};
 
-use crate::core_state::CoreState;
+use crate::side::InorderSide;
 use device_bus::Device;
 use fsim_base::NoMemory;
 use mono_model::{Final, Setup};
-use split_core::Event;
+use split_core::{Event, SplitState};
 use std::alloc::Global;
 use std::marker::Model;
 
@@ -17,19 +17,22 @@ use std::marker::Model;
 /// more: it stands for no state of the run then, and only its output is still of use.
 #[derive(Drop)]
 pub struct InorderCore<D: Device> {
-    state: CoreState<D>,
+    state: SplitState<D, InorderSide>,
 }
 
 impl<D: Device> Model for InorderCore<D> {
     ghost use Rattle.std.specs.Prelude.{◌≡◌, false};
-    ghost use Rattle.inorder_model.specs.declared.core_state.CoreState.{CoreState};
-    ghost use Rattle.inorder_model.specs.Core.{IsLaneStanding};
+    ghost use Rattle.split_core.specs.declared.state.SplitState.{SplitState};
+    ghost use Rattle.split_core.specs.Standing.{IsStandingOn};
+    ghost use Rattle.inorder_model.specs.declared.state.InorderState.{InorderState};
+    ghost use Rattle.inorder_model.specs.LaneTimed.{lane_timed};
 
-    ghost Value = { CoreState D };
+    ghost Value = { SplitState D InorderState };
 
     ghost view = { λ core. core.state };
 
-    ghost invariant = { λ core. core.state.is_over ≡ false → IsLaneStanding core.state };
+    ghost invariant = { λ core. core.state.is_reported ≡ false
+        → IsStandingOn lane_timed core.state };
 }
 
 impl<D: Device> InorderCore<D> {
@@ -51,16 +54,16 @@ impl<D: Device> InorderCore<D> {
         ensures stands { IfOk result (λ core. LaneSplitStandsFor setup.now
             (lane_split_start setup.now) core) }
     {
-        let state = CoreState::new(alloc, setup, devices)?;
+        let state = SplitState::new(alloc, setup, devices)?;
         Ok(InorderCore { state })
     }
 
     /// Plays events, the first in front. One that can't happen changes nothing.
     pub fn play(&mut self, events: &[Event])
-        requires going { self.old.is_over ≡ false }
+        requires going { self.old.is_reported ≡ false }
         ensures played { LaneLeads (λ s. lane_played s (map event_in events.now)) self.old
             self.new }
-        ensures going { self.new.is_over ≡ false }
+        ensures going { self.new.is_reported ≡ false }
     {
         self.state.play(events);
     }
@@ -76,7 +79,7 @@ impl<D: Device> InorderCore<D> {
     /// Plays rounds of events until it is at a boundary; none where it is at one. A round leaves
     /// out the step of the timing side where that stands at a boundary already.
     pub fn to_boundary(&mut self)
-        requires going { self.old.is_over ≡ false }
+        requires going { self.old.is_reported ≡ false }
         ensures stands { LaneLeads lane_to_boundary self.old self.new }
         ensures boundary { IsAtLaneBoundary self.new }
     {
@@ -84,12 +87,14 @@ impl<D: Device> InorderCore<D> {
     }
 
     /// Plays events until the run is over: the timing side has told its last order, and the
-    /// functional side has obeyed it.
+    /// functional side has obeyed it. Entries are computed on demand; whatever state that leaves,
+    /// the rounds behind it come to the end.
     pub fn to_end(&mut self)
-        requires going { self.old.is_over ≡ false }
+        requires going { self.old.is_reported ≡ false }
         ensures ended { LaneLeadsToEnd self.old self.new }
         ensures boundary { IsAtLaneBoundary self.new }
     {
+        self.state.play_on_demand();
         self.state.to_end();
     }
 
@@ -100,7 +105,7 @@ impl<D: Device> InorderCore<D> {
         requires boundary { IsAtLaneBoundary self.old }
         ensures reported { LaneReports self.old result }
         ensures contents { LaneGoesBack self.old self.new }
-        ensures over { self.new.is_over ≡ true }
+        ensures over { self.new.is_reported ≡ true }
     {
         self.state.committed()
     }

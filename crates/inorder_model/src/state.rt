@@ -1,5 +1,5 @@
 ghost use Rattle.std.specs.Prelude.{◌≡◌, ◌&&◌, ℕ, true, false, if◌then◌else◌, Some, None, IfOk};
-ghost use Rattle.std.specs.Prelude.{is_none};
+ghost use Rattle.std.specs.Prelude.{is_none, unwrap_or};
 
 use crate::at::{At, untold};
 use crate::lane::LaneCore;
@@ -43,7 +43,9 @@ impl InorderState {
     ghost use Rattle.inorder_model.specs.LaneStandsFor.{LaneStandsFor};
     ghost use Rattle.inorder_model.specs.Standing.{IsInorder, InorderStandsFor, IsStanding};
     ghost use Rattle.inorder_model.specs.Standing.{wants_in};
-    ghost use Rattle.inorder_model.specs.Running.{IsRun, Steps, turn_or};
+    ghost use Rattle.time_model.specs.Running.{IsRun};
+    ghost use Rattle.inorder_model.specs.At.{turn_untold};
+    ghost use Rattle.inorder_model.specs.Running.{Steps};
     ghost use Rattle.inorder_model.specs.Turning.{MayTry, IsTurned, IsTold, over_in};
 
     /// Before the first step of a run. All memory is taken here.
@@ -250,7 +252,7 @@ impl InorderState {
     /// did, and None where it was made and told no order.
     fn step(&mut self) -> Option<Turn>
         requires standing { IsStanding self.old }
-        ensures made { Steps self.old self.new (turn_or result (at_in self.old.at)) }
+        ensures made { Steps self.old self.new (unwrap_or result (turn_untold (at_in self.old.at))) }
     {
         if self.wants() {
             return Some(Turn::Want);
@@ -268,7 +270,7 @@ impl InorderState {
     pub fn run(&mut self, most: u32) -> Turn
         requires some { 0 < most }
         requires standing { IsStanding self.old }
-        ensures made { IsRun self.old self.new result }
+        ensures made { IsRun Steps self.old self.new result }
         ensures single { most ≡ 1 → Steps self.old self.new result }
         ensures standing { IsStanding self.new }
     {

@@ -1,40 +1,38 @@
 -- Steps of the timing side with nothing under way, the order of the last one obeyed at once, as where it goes through the
 -- hand and an empty list.
-use Rattle.std.proofs.Common.{◌≡◌, ◌<◌, ℕ, true, is_none, if◌then◌else◌, Option, Some, None, List, [], ◌∷◌, ◌++◌, length, drop, slice_get, refl, ap, sym, ◌∙◌, subst, arith}
+use Rattle.std.proofs.Common.{◌≡◌, ◌<◌, true, is_none, if◌then◌else◌, Option, Some, None, List, [], ◌∷◌, ◌++◌, length, drop, slice_get, refl, ap, sym, ◌∙◌, subst, arith}
 use Rattle.std.proofs.lemmas.Bool.{cond_both}
 use Rattle.circular_buffer.specs.Buffer.{Buffer, buffer}
 use Rattle.rollback_cmds.specs.declared.order.Order.{Order}
 use Rattle.rollback_cmds.specs.Order.{opens_epoch_of}
 use Rattle.trace_entry.specs.declared.Entry.{Entry}
 use Rattle.mono_model.specs.declared.setup.Setup.{Setup}
-use Rattle.mono_model.specs.Setup.{is_setup}
-use Rattle.mono_model.specs.Split.{Split, tick, send, obey, event_at}
-use Rattle.machine_laws.specs.Reached.{IsReached}
-use Rattle.machine_laws.proofs.SplitReached.{event_reached}
+use Rattle.mono_model.specs.Split.{tick, send, obey}
 use Rattle.func_model.specs.declared.walk.Walk.{Walk}
 use Rattle.func_model.specs.Walk.{WalkStandsFor, IsObeyed}
 use Rattle.side_laws.specs.Along.{MayObey}
-use Rattle.time_model.specs.declared.state.TimeState.{TimeState}
 use Rattle.time_model.specs.declared.turn.Turn.{Turn}
 use Rattle.time_model.specs.declared.turn.Turn.TheVariants.{Moved, Ordered, Want, CycleEnd, Halted}
-use Rattle.time_model.specs.Standing.{TimeSideStandsFor, IsStep}
 use Rattle.time_model.specs.Running.{is_silent, IsSilent, start, more, IsRun}
 use Rattle.split_core.specs.Events.{order_told}
-use Rattle.split_core.specs.declared.state.SplitState.{SplitState}
-use Rattle.split_core.specs.Standing.{SplitStandsFor, IsStanding}
 use Rattle.split_core.specs.Plays.{Plays, IsClear}
+use Rattle.split_core.specs.declared.state.SplitState.{SplitState}
+use Rattle.split_core.specs.Along.{At, event_on, IsReachedOn}
+use Rattle.split_core.specs.Timed.{Timed, IsTimed, StepsOn}
+use Rattle.split_core.specs.Standing.{StandsOn, IsStandingOn}
 use Rattle.split_core.proofs.Listing.{order_sent}
 use Rattle.split_core.proofs.OnDemand.{plays_none, plays_on, plays_standing}
 use Rattle.split_core.proofs.Obeying.{can_obey, order_obeyed}
 use Rattle.split_core.proofs.Ticking.{stepped}
+use Rattle.split_core.specs.AlongLaws.{event_reached_on}
 
-module _ {D : Type 0} (state : SplitState D) (clear : IsClear state) (time : TimeState) (turn : Turn)
-    (made : (s : Setup) (k : ℕ) → is_setup s ≡ true → TimeSideStandsFor s k state.time → IsStep s k state.time time turn) where
+module _ {D T : Type 0} (timed : Timed T) (laws : IsTimed timed) (state : SplitState D T) (clear : IsClear state) (time : T) (turn : Turn)
+    (made : StepsOn timed state.time time turn) where
   -- a step that tells no order
-  silent_played : order_told turn ≡ None → Plays state (record state { time = time })
+  silent_played : order_told turn ≡ None → Plays timed state (record state { time = time })
   silent_played none = λ s x sound reached h. record {
     events = tick ∷ [];
-    stands = stepped s x state h (ap is_none clear.hand) time turn (made s h.behind sound h.time) state.hand (clear.hand ∙ sym none);
+    stands = stepped timed laws s x state reached h (ap is_none clear.hand) time turn (made s x.steps sound h.time) state.hand (clear.hand ∙ sym none);
   }
 
   module _ (order : Order) (told : turn ≡ Ordered order) where
@@ -42,7 +40,7 @@ module _ {D : Type 0} (state : SplitState D) (clear : IsClear state) (time : Tim
     abbrev way : Buffer Order
     way = buffer (state.listed_orders.items ++ order ∷ []) state.listed_orders.capacity
 
-    abbrev on_way : SplitState D
+    abbrev on_way : SplitState D T
     on_way = record state { time = time; hand = None; listed_orders = way }
 
     front : slice_get way.items 0 ≡ Some order
@@ -54,45 +52,45 @@ module _ {D : Type 0} (state : SplitState D) (clear : IsClear state) (time : Tim
         ap (λ (os : List Order). buffer (drop 1 (os ++ order ∷ [])) state.listed_orders.capacity) clear.orders
         ∙ ap (λ (os : List Order). buffer os state.listed_orders.capacity) (sym clear.orders)
 
-    module _ (s : Setup) (x : Split) (sound : is_setup s ≡ true) (reached : IsReached s x) (h : SplitStandsFor s x state) where
+    module _ (s : Setup) (x : At) (sound : timed.allows s) (reached : IsReachedOn s (timed.run s) x) (h : StandsOn timed s x state) where
       has_room : length state.listed_orders.items < state.listed_orders.capacity
       has_room =
           let none : length state.listed_orders.items ≡ 0 = ap (length {A = Order}) clear.orders in
           let most : state.listed_orders.capacity ≡ 64 = ap (λ (b : Buffer Order). b.capacity) h.listed_orders in
           omega (arith, none, most)
 
-      way_stands : SplitStandsFor s (event_at s send (event_at s tick x)) on_way
+      way_stands : StandsOn timed s (event_on s (timed.run s) send (event_on s (timed.run s) tick x)) on_way
       way_stands =
-          order_sent s (event_at s tick x) (record state { time = time; hand = Some order })
-          (stepped s x state h (ap is_none clear.hand) time turn (made s h.behind sound h.time) (Some order) (sym (ap order_told told)))
+          order_sent timed laws s (event_on s (timed.run s) tick x) (record state { time = time; hand = Some order })
+          (stepped timed laws s x state reached h (ap is_none clear.hand) time turn (made s x.steps sound h.time) (Some order) (sym (ap order_told told)))
           order refl way has_room refl
 
-      way_reached : IsReached s (event_at s send (event_at s tick x))
-      way_reached = event_reached s send (event_at s tick x) (event_reached s tick x reached)
+      way_reached : IsReachedOn s (timed.run s) (event_on s (timed.run s) send (event_on s (timed.run s) tick x))
+      way_reached = event_reached_on s (timed.run s) send (event_on s (timed.run s) tick x) (event_reached_on s (timed.run s) tick x reached)
 
     -- it may be obeyed
-    told_may : IsStanding state → MayObey order state.func
+    told_may : IsStandingOn timed state → MayObey order state.func
     told_may st =
-        let standing : IsStanding on_way = record {
+        let standing : IsStandingOn timed on_way = record {
           setup = st.setup;
           sound = st.sound;
-          split = event_at st.setup send (event_at st.setup tick st.split);
+          split = event_on st.setup (timed.run st.setup) send (event_on st.setup (timed.run st.setup) tick st.split);
           reached = way_reached st.setup st.split st.sound st.reached st.stands;
           stands = way_stands st.setup st.split st.sound st.reached st.stands;
         } in
-        can_obey on_way order standing front
+        can_obey timed laws on_way order standing front
 
     told_played : (func : Walk D) → ((s : Setup) (os : List Order) → WalkStandsFor s os state.func → WalkStandsFor s (order ∷ os) func) →
-        IsObeyed order state.func func → Plays state (record state { func = func; time = time })
+        IsObeyed order state.func func → Plays timed state (record state { func = func; time = time })
     told_played func stands moved = λ s x sound reached h.
-        let end = event_at s obey (event_at s send (event_at s tick x)) in
-        let B : Buffer Order → Type 0 = λ b. SplitStandsFor s end (record on_way { func = func; listed_orders = b; computed = None }) in
-        let C : Option Entry → Type 0 = λ o. SplitStandsFor s end (record state { func = func; time = time; hand = None; computed = o }) in
-        let H : Option Order → Type 0 = λ o. SplitStandsFor s end (record state { func = func; time = time; hand = o }) in
+        let end = event_on s (timed.run s) obey (event_on s (timed.run s) send (event_on s (timed.run s) tick x)) in
+        let B : Buffer Order → Type 0 = λ b. StandsOn timed s end (record on_way { func = func; listed_orders = b; computed = None }) in
+        let C : Option Entry → Type 0 = λ o. StandsOn timed s end (record state { func = func; time = time; hand = None; computed = o }) in
+        let H : Option Order → Type 0 = λ o. StandsOn timed s end (record state { func = func; time = time; hand = o }) in
         let none : None ≡ (if opens_epoch_of order then None else state.computed) =
         cond_both (opens_epoch_of order) None state.computed (λ o. None ≡ o) (λ e. refl) (λ e. sym clear.computed) in
         let obeyed : B (buffer (drop 1 way.items) way.capacity) =
-        order_obeyed s (event_at s send (event_at s tick x)) on_way (way_stands s x sound reached h) (buffer (drop 1 way.items) way.capacity) refl
+        order_obeyed timed laws s (event_on s (timed.run s) send (event_on s (timed.run s) tick x)) on_way (way_stands s x sound reached h) (buffer (drop 1 way.items) way.capacity) refl
         order func None front stands moved none in
         record {
           events = tick ∷ send ∷ obey ∷ [];
@@ -106,40 +104,40 @@ silent_tells Want silent = refl
 silent_tells CycleEnd silent = refl
 silent_tells Halted silent = refl
 
-clear_at : {D : Type 0} (state : SplitState D) → IsClear state → (time : TimeState) → IsClear (record state { time = time })
+clear_at : {D T : Type 0} (state : SplitState D T) → IsClear state → (time : T) → IsClear (record state { time = time })
 clear_at state clear time = record { computed = clear.computed; hand = clear.hand; entries = clear.entries; orders = clear.orders }
 
 -- silent steps, one after the other
-silent_run : {D : Type 0} (state : SplitState D) → IsClear state → (time : TimeState) → IsSilent state.time time → Plays state (record state { time = time })
-silent_run state clear _ start = plays_none state
-silent_run state clear _ (more mid new turn rest step silent) =
-    plays_on state (record state { time = mid }) (record state { time = new }) (silent_run state clear mid rest)
-    (silent_played (record state { time = mid }) (clear_at state clear mid) new turn step (silent_tells turn silent))
+silent_run : {D T : Type 0} (timed : Timed T) (laws : IsTimed timed) (state : SplitState D T) → IsClear state → (time : T) → IsSilent (StepsOn timed) state.time time → Plays timed state (record state { time = time })
+silent_run timed laws state clear _ start = plays_none timed laws state
+silent_run timed laws state clear _ (more mid new turn rest step silent) =
+    plays_on timed laws state (record state { time = mid }) (record state { time = new }) (silent_run timed laws state clear mid rest)
+    (silent_played timed laws (record state { time = mid }) (clear_at state clear mid) new turn step (silent_tells turn silent))
 
-module _ {D : Type 0} (state : SplitState D) (clear : IsClear state) (time : TimeState) (turn : Turn) (is : IsRun state.time time turn) where
-  abbrev mid : SplitState D
+module _ {D T : Type 0} (timed : Timed T) (laws : IsTimed timed) (state : SplitState D T) (clear : IsClear state) (time : T) (turn : Turn) (is : IsRun (StepsOn timed) state.time time turn) where
+  abbrev mid : SplitState D T
   mid = record state { time = is.behind }
 
   mid_clear : IsClear mid
   mid_clear = clear_at state clear is.behind
 
-  comes : Plays state mid
-  comes = silent_run state clear is.behind is.silent
+  comes : Plays timed state mid
+  comes = silent_run timed laws state clear is.behind is.silent
 
-  pub run_silent : order_told turn ≡ None → Plays state (record state { time = time })
-  run_silent none = plays_on state mid (record state { time = time }) comes (silent_played mid mid_clear time turn is.last none)
+  pub run_silent : order_told turn ≡ None → Plays timed state (record state { time = time })
+  run_silent none = plays_on timed laws state mid (record state { time = time }) comes (silent_played timed laws mid mid_clear time turn is.last none)
 
   pub run_clear : IsClear (record state { time = time })
   run_clear = clear_at state clear time
 
   module _ (order : Order) (told : turn ≡ Ordered order) where
-    pub run_may : IsStanding state → MayObey order state.func
-    run_may st = told_may mid mid_clear time turn is.last order told (plays_standing state mid st comes)
+    pub run_may : IsStandingOn timed state → MayObey order state.func
+    run_may st = told_may timed laws mid mid_clear time turn is.last order told (plays_standing timed laws state mid st comes)
 
     pub run_obeyed : (func : Walk D) → ((s : Setup) (os : List Order) → WalkStandsFor s os state.func → WalkStandsFor s (order ∷ os) func) →
-        IsObeyed order state.func func → Plays state (record state { func = func; time = time })
+        IsObeyed order state.func func → Plays timed state (record state { func = func; time = time })
     run_obeyed func stands moved =
-        plays_on state mid (record state { func = func; time = time }) comes (told_played mid mid_clear time turn is.last order told func stands moved)
+        plays_on timed laws state mid (record state { func = func; time = time }) comes (told_played timed laws mid mid_clear time turn is.last order told func stands moved)
 
     pub run_obeyed_clear : (func : Walk D) → IsClear (record state { func = func; time = time })
     run_obeyed_clear func = record { computed = clear.computed; hand = clear.hand; entries = clear.entries; orders = clear.orders }

@@ -11,3 +11,5 @@ pub mod Opening
 pub mod OnDemand
 pub mod Handing
 pub mod Clear
+pub mod Sides
+pub mod Mono

@@ -8,16 +8,19 @@ use Rattle.trace_entry.specs.declared.Entry.{Entry}
 use Rattle.mono_model.specs.declared.setup.Setup.{Setup}
 use Rattle.mono_model.specs.Split.{Split, push, send, pushed, sent, event_at}
 use Rattle.split_core.specs.declared.state.SplitState.{SplitState}
-use Rattle.split_core.specs.Standing.{SplitStandsFor}
+use Rattle.split_core.specs.Along.{At, event_on}
+use Rattle.split_core.specs.Timed.{Timed, IsTimed}
+use Rattle.split_core.specs.Standing.{StandsOn}
 use Rattle.split_core.proofs.Standing.{still_stands}
+use Rattle.machine_laws.specs.DemandRun.{DemandRun}
 
-push_is : (s : Setup) (x : Split) → event_at s push x ≡ pushed s x.computed x
-unfolding event_at
-push_is s x = refl
+push_is : (s : Setup) (r : DemandRun) (x : At) → event_on s r push x ≡ record x { split = pushed s x.split.computed x.split }
+unfolding event_on event_at
+push_is s r x = refl
 
-send_is : (s : Setup) (x : Split) → event_at s send x ≡ sent x.hand x
-unfolding event_at
-send_is s x = refl
+send_is : (s : Setup) (r : DemandRun) (x : At) → event_on s r send x ≡ record x { split = sent x.split.hand x.split }
+unfolding event_on event_at
+send_is s r x = refl
 
 below : (m n : ℕ) → m < n → nat_lt m n ≡ true
 below m n less = grind (arith, common_steps)
@@ -44,28 +47,26 @@ is_refused r n m full variant = elim (cases_lt n m) [
   | inr least ↦ least
 ]
 
-module _ {D : Type 0} (s : Setup) (x : Split) (state : SplitState D) (h : SplitStandsFor s x state) where
-  pub nothing_pushed : state.computed ≡ None → SplitStandsFor s (event_at s push x) state
-  nothing_pushed none = still_stands s x (event_at s push x) state (push_is s x ∙ ap (λ (o : Option Entry). pushed s o x) (sym h.computed ∙ none)) h
+module _ {D T : Type 0} (timed : Timed T) (laws : IsTimed timed) (s : Setup) (x : At) (state : SplitState D T) (h : StandsOn timed s x state) where
+  pub nothing_pushed : state.computed ≡ None → StandsOn timed s (event_on s (timed.run s) push x) state
+  nothing_pushed none = still_stands timed laws s x (event_on s (timed.run s) push x) state (push_is s (timed.run s) x ∙ ap (λ (o : Option Entry). record x { split = pushed s o x.split }) (sym h.computed ∙ none)) h
 
-  nothing_sent_is : x.hand ≡ None → event_at s send x ≡ x
-  nothing_sent_is none = send_is s x ∙ ap (λ (o : Option Order). sent o x) none
+  nothing_sent_is : x.split.hand ≡ None → event_on s (timed.run s) send x ≡ x
+  nothing_sent_is none = send_is s (timed.run s) x ∙ ap (λ (o : Option Order). record x { split = sent o x.split }) none
 
-  pub nothing_sent : state.hand ≡ None → SplitStandsFor s (event_at s send x) state
-  nothing_sent none = still_stands s x (event_at s send x) state (nothing_sent_is (sym h.hand ∙ none)) h
+  pub nothing_sent : state.hand ≡ None → StandsOn timed s (event_on s (timed.run s) send x) state
+  nothing_sent none = still_stands timed laws s x (event_on s (timed.run s) send x) state (nothing_sent_is (sym h.hand ∙ none)) h
 
   module _ (e : Entry) (some : state.computed ≡ Some e) (entries : Buffer Entry) where
     pub entry_pushed : length state.entries.items < state.entries.capacity → entries ≡ buffer (state.entries.items ++ e ∷ []) state.entries.capacity →
-        SplitStandsFor s (event_at s push x) (record state { computed = None; entries = entries })
+        StandsOn timed s (event_on s (timed.run s) push x) (record state { computed = None; entries = entries })
     entry_pushed room is =
-        let less : length x.entries < s.ring = subst (λ (b : Buffer Entry). length b.items < b.capacity) h.entries room in
-        still_stands s (record x { computed = None; entries = x.entries ++ e ∷ [] }) (event_at s push x) (record state { computed = None; entries = entries })
-        (push_is s x ∙ ap (λ (o : Option Entry). pushed s o x) (sym h.computed ∙ some) ∙ cond-true (nat_lt (length x.entries) s.ring) _ _ (below (length x.entries) s.ring less))
+        let less : length x.split.entries < s.ring = subst (λ (b : Buffer Entry). length b.items < b.capacity) h.entries room in
+        still_stands timed laws s (record x { split = record x.split { computed = None; entries = x.split.entries ++ e ∷ [] } }) (event_on s (timed.run s) push x) (record state { computed = None; entries = entries })
+        (push_is s (timed.run s) x ∙ ap (λ (o : Option Entry). record x { split = pushed s o x.split }) (sym h.computed ∙ some) ∙ ap (λ (y : Split). record x { split = y }) (cond-true (nat_lt (length x.split.entries) s.ring) _ _ (below (length x.split.entries) s.ring less)))
         (record {
           func = h.func;
           position = h.position;
-          behind = h.behind;
-          place = h.place;
           time = h.time;
           held = h.held;
           computed = refl;
@@ -77,26 +78,24 @@ module _ {D : Type 0} (s : Setup) (x : Split) (state : SplitState D) (h : SplitS
           going = h.going;
         })
 
-    pub entry_kept : state.entries.capacity ≤ length state.entries.items → entries ≡ state.entries → SplitStandsFor s (event_at s push x) (record state { entries = entries })
+    pub entry_kept : state.entries.capacity ≤ length state.entries.items → entries ≡ state.entries → StandsOn timed s (event_on s (timed.run s) push x) (record state { entries = entries })
     entry_kept full same =
-        let most : s.ring ≤ length x.entries = subst (λ (b : Buffer Entry). b.capacity ≤ length b.items) h.entries full in
-        let P : Buffer Entry → Type 0 = λ b. SplitStandsFor s x (record state { entries = b }) in
-        still_stands s x (event_at s push x) (record state { entries = entries })
-        (push_is s x ∙ ap (λ (o : Option Entry). pushed s o x) (sym h.computed ∙ some) ∙ cond-false (nat_lt (length x.entries) s.ring) _ _ (not_below (length x.entries) s.ring most))
+        let most : s.ring ≤ length x.split.entries = subst (λ (b : Buffer Entry). b.capacity ≤ length b.items) h.entries full in
+        let P : Buffer Entry → Type 0 = λ b. StandsOn timed s x (record state { entries = b }) in
+        still_stands timed laws s x (event_on s (timed.run s) push x) (record state { entries = entries })
+        (push_is s (timed.run s) x ∙ ap (λ (o : Option Entry). record x { split = pushed s o x.split }) (sym h.computed ∙ some) ∙ ap (λ (y : Split). record x { split = y }) (cond-false (nat_lt (length x.split.entries) s.ring) _ _ (not_below (length x.split.entries) s.ring most)))
         (subst P (sym same) h)
 
   module _ (o : Order) (some : state.hand ≡ Some o) (listed : Buffer Order) where
     pub order_sent : length state.listed_orders.items < state.listed_orders.capacity → listed ≡ buffer (state.listed_orders.items ++ o ∷ []) state.listed_orders.capacity →
-        SplitStandsFor s (event_at s send x) (record state { hand = None; listed_orders = listed })
+        StandsOn timed s (event_on s (timed.run s) send x) (record state { hand = None; listed_orders = listed })
     order_sent room is =
-        let less : length x.listed_orders < 64 = subst (λ (b : Buffer Order). length b.items < b.capacity) h.listed_orders room in
-        still_stands s (record x { hand = None; listed_orders = x.listed_orders ++ o ∷ [] }) (event_at s send x) (record state { hand = None; listed_orders = listed })
-        (send_is s x ∙ ap (λ (it : Option Order). sent it x) (sym h.hand ∙ some) ∙ cond-true (nat_lt (length x.listed_orders) 64) _ _ (below (length x.listed_orders) 64 less))
+        let less : length x.split.listed_orders < 64 = subst (λ (b : Buffer Order). length b.items < b.capacity) h.listed_orders room in
+        still_stands timed laws s (record x { split = record x.split { hand = None; listed_orders = x.split.listed_orders ++ o ∷ [] } }) (event_on s (timed.run s) send x) (record state { hand = None; listed_orders = listed })
+        (send_is s (timed.run s) x ∙ ap (λ (it : Option Order). record x { split = sent it x.split }) (sym h.hand ∙ some) ∙ ap (λ (y : Split). record x { split = y }) (cond-true (nat_lt (length x.split.listed_orders) 64) _ _ (below (length x.split.listed_orders) 64 less)))
         (record {
           func = h.func;
           position = h.position;
-          behind = h.behind;
-          place = h.place;
           time = h.time;
           held = h.held;
           computed = h.computed;
@@ -108,10 +107,10 @@ module _ {D : Type 0} (s : Setup) (x : Split) (state : SplitState D) (h : SplitS
           going = h.going;
         })
 
-    pub order_kept : state.listed_orders.capacity ≤ length state.listed_orders.items → listed ≡ state.listed_orders → SplitStandsFor s (event_at s send x) (record state { listed_orders = listed })
+    pub order_kept : state.listed_orders.capacity ≤ length state.listed_orders.items → listed ≡ state.listed_orders → StandsOn timed s (event_on s (timed.run s) send x) (record state { listed_orders = listed })
     order_kept full same =
-        let most : 64 ≤ length x.listed_orders = subst (λ (b : Buffer Order). b.capacity ≤ length b.items) h.listed_orders full in
-        let P : Buffer Order → Type 0 = λ b. SplitStandsFor s x (record state { listed_orders = b }) in
-        still_stands s x (event_at s send x) (record state { listed_orders = listed })
-        (send_is s x ∙ ap (λ (it : Option Order). sent it x) (sym h.hand ∙ some) ∙ cond-false (nat_lt (length x.listed_orders) 64) _ _ (not_below (length x.listed_orders) 64 most))
+        let most : 64 ≤ length x.split.listed_orders = subst (λ (b : Buffer Order). b.capacity ≤ length b.items) h.listed_orders full in
+        let P : Buffer Order → Type 0 = λ b. StandsOn timed s x (record state { listed_orders = b }) in
+        still_stands timed laws s x (event_on s (timed.run s) send x) (record state { listed_orders = listed })
+        (send_is s (timed.run s) x ∙ ap (λ (it : Option Order). record x { split = sent it x.split }) (sym h.hand ∙ some) ∙ ap (λ (y : Split). record x { split = y }) (cond-false (nat_lt (length x.split.listed_orders) 64) _ _ (not_below (length x.split.listed_orders) 64 most)))
         (subst P (sym same) h)

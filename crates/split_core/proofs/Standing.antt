@@ -1,56 +1,56 @@
 -- What is known of a core from the split state that it stands for.
 use Rattle.std.proofs.Common.{◌≡◌, ◌<◌, ◌^◌, true, is_none, Option, Some, None, List, [], ◌∷◌, drop, slice_get, refl, sym, ◌∙◌, subst, arith}
 use Rattle.mono_model.specs.declared.setup.Setup.{Setup}
-use Rattle.mono_model.specs.Setup.{is_setup}
-use Rattle.mono_model.specs.Split.{Split, Event, event_at}
-use Rattle.machine_laws.specs.Reached.{IsReached}
-use Rattle.machine_laws.specs.SplitLaw.{IsRun, IsRanged}
-use Rattle.machine_laws.proofs.SplitReached.{reached_run, event_reached}
-use Rattle.machine_laws.proofs.SplitRanges.{run_ranged}
+use Rattle.mono_model.specs.Split.{Event}
+use Rattle.split_core.specs.AlongLaws.{reached_sees, event_reached_on}
+use Rattle.machine_laws.specs.SplitLaw.{IsRunIn, IsRanged}
 use Rattle.side_laws.proofs.Committed.{committed_is}
 use Rattle.split_core.specs.declared.state.SplitState.{SplitState}
-use Rattle.split_core.specs.Standing.{SplitStandsFor, IsStanding}
+use Rattle.split_core.specs.Along.{At, event_on, IsReachedOn}
+use Rattle.split_core.specs.Timed.{Timed, IsTimed}
+use Rattle.split_core.specs.Standing.{StandsOn, IsStandingOn}
+
+-- the split state is at the place behind the steps of the timing side
+pub sees : {T : Type 0} (timed : Timed T) (laws : IsTimed timed) (s : Setup) (x : At) → IsReachedOn s (timed.run s) x → x.split.place ≡ (timed.run s).places x.steps
+sees timed laws s x reached = reached_sees s (timed.run s) x (laws.start s) reached
 
 -- the functional side's numbers are those of the split state
-pub record Agrees {D : Type 0} (x : Split) (state : SplitState D) : Type 0 where
-  pub committed : state.func.committed ≡ x.committed_number
-  pub stopped : state.func.is_stopped ≡ x.is_stopped
+pub record Agrees {D T : Type 0} (x : At) (state : SplitState D T) : Type 0 where
+  pub committed : state.func.committed ≡ x.split.committed_number
+  pub stopped : state.func.is_stopped ≡ x.split.is_stopped
 
-pub agrees : {D : Type 0} (s : Setup) (x : Split) (state : SplitState D) → IsReached s x → SplitStandsFor s x state → Agrees x state
-agrees s x state reached h =
-    let run : IsRun s x = reached_run s x reached in
+pub agrees : {D T : Type 0} (timed : Timed T) (laws : IsTimed timed) (s : Setup) (x : At) (state : SplitState D T) → timed.allows s → IsReachedOn s (timed.run s) x → StandsOn timed s x state → Agrees x state
+agrees timed laws s x state sound reached h =
+    let run : IsRunIn s (timed.run s) x.split = laws.law s x sound reached in
     record {
-      committed = h.func.done ∙ committed_is x.obeyed run.kinds ∙ sym run.counted.committed;
+      committed = h.func.done ∙ committed_is x.split.obeyed run.kinds ∙ sym run.counted.committed;
       stopped = h.func.stopped ∙ sym run.counted.stopped;
     }
 
-pub ranged : (s : Setup) (x : Split) → is_setup s ≡ true → IsReached s x → IsRanged x
-ranged s x sound reached = subst IsRanged (sym reached.is) (run_ranged s reached.events sound)
-
-pub position_small : {D : Type 0} (state : SplitState D) → IsStanding state → state.func.position < 2 ^ 62
-position_small state st =
-    let small : IsRanged st.split = ranged st.setup st.split st.sound st.reached in
+pub position_small : {D T : Type 0} (timed : Timed T) (laws : IsTimed timed) (state : SplitState D T) → IsStandingOn timed state → state.func.position < 2 ^ 62
+position_small timed laws state st =
+    let small : IsRanged st.split.split = laws.ranged st.setup st.split st.sound st.reached in
     omega (arith, st.stands.position, small.position)
 
-pub epoch_small : {D : Type 0} (state : SplitState D) → IsStanding state → state.func.epoch < 2 ^ 62
-epoch_small state st =
-    let small : IsRanged st.split = ranged st.setup st.split st.sound st.reached in
+pub epoch_small : {D T : Type 0} (timed : Timed T) (laws : IsTimed timed) (state : SplitState D T) → IsStandingOn timed state → state.func.epoch < 2 ^ 62
+epoch_small timed laws state st =
+    let small : IsRanged st.split.split = laws.ranged st.setup st.split st.sound st.reached in
     omega (arith, st.stands.func.holds.epoch, small.obeyed)
 
 -- an event leads on
-pub after_event : {D : Type 0} (e : Event) (old new : SplitState D) → IsStanding old →
-    ((s : Setup) (x : Split) → is_setup s ≡ true → IsReached s x → SplitStandsFor s x old → SplitStandsFor s (event_at s e x) new) → IsStanding new
-after_event e old new st made = record {
+pub after_event : {D T : Type 0} (timed : Timed T) (laws : IsTimed timed) (e : Event) (old new : SplitState D T) → IsStandingOn timed old →
+    ((s : Setup) (x : At) → timed.allows s → IsReachedOn s (timed.run s) x → StandsOn timed s x old → StandsOn timed s (event_on s (timed.run s) e x) new) → IsStandingOn timed new
+after_event timed laws e old new st made = record {
   setup = st.setup;
   sound = st.sound;
-  split = event_at st.setup e st.split;
-  reached = event_reached st.setup e st.split st.reached;
+  split = event_on st.setup (timed.run st.setup) e st.split;
+  reached = event_reached_on st.setup (timed.run st.setup) e st.split st.reached;
   stands = made st.setup st.split st.sound st.reached st.stands;
 }
 
 -- what changes nothing leaves the core as it is
-pub still_stands : {D : Type 0} (s : Setup) (x y : Split) (state : SplitState D) → y ≡ x → SplitStandsFor s x state → SplitStandsFor s y state
-still_stands {D} s x y state same h = let P : Split → Type 0 = λ z. SplitStandsFor {D = D} s z state in subst P (sym same) h
+pub still_stands : {D T : Type 0} (timed : Timed T) (laws : IsTimed timed) (s : Setup) (x y : At) (state : SplitState D T) → y ≡ x → StandsOn timed s x state → StandsOn timed s y state
+still_stands {D} {T} timed laws s x y state same h = let P : At → Type 0 = λ z. StandsOn timed s z state in subst P (sym same) h
 
 pub none_is : {A : Type 0} (o : Option A) → is_none o ≡ true → o ≡ None
 none_is None is = refl

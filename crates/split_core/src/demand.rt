@@ -1,22 +1,23 @@
 ghost use Rattle.std.specs.Prelude.{◌≡◌, []};
 ghost use Rattle.split_core.specs.Plays.{Plays, IsClear};
-ghost use Rattle.split_core.specs.Standing.{IsStanding};
+ghost use Rattle.split_core.specs.Standing.{IsStandingOn};
 
 use crate::state::SplitState;
+use crate::timing::Timing;
 use device_bus::Device;
 use time_model::Turn;
 
 /// The run on demand: an entry is computed only where the timing side wants it, and an order is
 /// obeyed as soon as it is told. So nothing is computed for nothing, whatever room there is between
 /// the sides.
-impl<D: Device> SplitState<D> {
+impl<D: Device, T: Timing> SplitState<D, T> {
     ghost use Rattle.std.specs.Prelude.{true};
 
     /// Plays until the functional side has obeyed the last order, or the timing side has made as
     /// many steps as a run has at most.
     pub fn play_on_demand(&mut self)
-        requires standing { IsStanding self.old }
-        ensures plays { Plays self.old self.new }
+        requires standing { IsStandingOn T.timed self.old }
+        ensures plays { Plays T.timed self.old self.new }
     {
         for _ in 0..self.steps {
             if self.func.stopped() {
@@ -42,8 +43,8 @@ impl<D: Device> SplitState<D> {
 
     /// A step of the timing side, behind the entry that it wants, and the order that it tells.
     fn play_step(&mut self)
-        requires standing { IsStanding self.old }
-        ensures plays { Plays self.old self.new }
+        requires standing { IsStandingOn T.timed self.old }
+        ensures plays { Plays T.timed self.old self.new }
     {
         self.bring_entry();
         self.tick();
@@ -54,8 +55,8 @@ impl<D: Device> SplitState<D> {
     /// Brings the timing side the next entry, if it wants one: the oldest under way, or the next
     /// one computed.
     fn bring_entry(&mut self)
-        requires standing { IsStanding self.old }
-        ensures plays { Plays self.old self.new }
+        requires standing { IsStandingOn T.timed self.old }
+        ensures plays { Plays T.timed self.old self.new }
     {
         if self.time.wants() {
             self.list_entry();
@@ -65,8 +66,8 @@ impl<D: Device> SplitState<D> {
 
     /// Computes the next entry where none is under way.
     fn list_entry(&mut self)
-        requires standing { IsStanding self.old }
-        ensures plays { Plays self.old self.new }
+        requires standing { IsStandingOn T.timed self.old }
+        ensures plays { Plays T.timed self.old self.new }
     {
         if self.entries.is_empty() {
             self.compute();
@@ -76,9 +77,9 @@ impl<D: Device> SplitState<D> {
 
     /// Plays on with nothing under way, until the run is over.
     fn play_clear(&mut self)
-        requires standing { IsStanding self.old }
+        requires standing { IsStandingOn T.timed self.old }
         requires clear { IsClear self.old }
-        ensures plays { Plays self.old self.new }
+        ensures plays { Plays T.timed self.old self.new }
     {
         // each step may want an entry first
         for _ in 0..self.steps.saturating_mul(2) {
@@ -92,9 +93,9 @@ impl<D: Device> SplitState<D> {
     /// wants. The order that it tells is obeyed at once. Whether the timing side stood at the end
     /// of the run.
     fn play_turn(&mut self) -> bool
-        requires standing { IsStanding self.old }
+        requires standing { IsStandingOn T.timed self.old }
         requires clear { IsClear self.old }
-        ensures plays { Plays self.old self.new }
+        ensures plays { Plays T.timed self.old self.new }
         ensures clear { IsClear self.new }
     {
         match self.time.run() {
@@ -115,9 +116,9 @@ impl<D: Device> SplitState<D> {
     /// Hands the timing side the next entry as it is computed, if it wants one: as where it goes
     /// through the list of entries, with none before it.
     fn hand_over(&mut self)
-        requires standing { IsStanding self.old }
+        requires standing { IsStandingOn T.timed self.old }
         requires clear { IsClear self.old }
-        ensures plays { Plays self.old self.new }
+        ensures plays { Plays T.timed self.old self.new }
         ensures clear { IsClear self.new }
     {
         if self.time.wants() {

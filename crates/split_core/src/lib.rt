@@ -8,9 +8,12 @@ mod demand;
 mod event;
 mod split;
 mod state;
+mod timing;
 
 pub use event::Event;
 pub use split::SplitCore;
+pub use state::SplitState;
+pub use timing::Timing;
 
 #[cfg(test)]
 mod tests;

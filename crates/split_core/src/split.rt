@@ -7,6 +7,7 @@ use fsim_base::NoMemory;
 use mono_model::{Final, Setup};
 use std::alloc::Global;
 use std::marker::Model;
+use time_model::TimeSide;
 
 /// The split machine on one thread: a functional and a timing side, and the entries and orders
 /// under way between them.
@@ -17,19 +18,22 @@ use std::marker::Model;
 /// of the run then, and only its output is still of use.
 #[derive(Drop)]
 pub struct SplitCore<D: Device> {
-    state: SplitState<D>,
+    state: SplitState<D, TimeSide>,
 }
 
 impl<D: Device> Model for SplitCore<D> {
     ghost use Rattle.std.specs.Prelude.{◌≡◌, false};
     ghost use Rattle.split_core.specs.declared.state.SplitState.{SplitState};
-    ghost use Rattle.split_core.specs.Standing.{IsStanding};
+    ghost use Rattle.time_model.specs.declared.state.TimeState.{TimeState};
+    ghost use Rattle.split_core.specs.TimeSide.{mono_timed};
+    ghost use Rattle.split_core.specs.Standing.{IsStandingOn};
 
-    ghost Value = { SplitState D };
+    ghost Value = { SplitState D TimeState };
 
     ghost view = { λ core. core.state };
 
-    ghost invariant = { λ core. core.state.is_over ≡ false → IsStanding core.state };
+    ghost invariant = { λ core. core.state.is_reported ≡ false
+        → IsStandingOn mono_timed core.state };
 }
 
 impl<D: Device> SplitCore<D> {
@@ -47,7 +51,8 @@ impl<D: Device> SplitCore<D> {
     pub fn new(alloc: Global, setup: &Setup, devices: Vec<D>) -> Result<SplitCore<D>, NoMemory>
         requires sound { is_setup setup.now ≡ true }
         requires order { map D.kind devices.items ≡ device_order }
-        ensures stands { IfOk result (λ core. SplitStandsFor setup.now (split_start setup.now) core) }
+        ensures stands { IfOk result (λ core. SplitStandsFor setup.now
+            (split_start setup.now) core) }
     {
         let state = SplitState::new(alloc, setup, devices)?;
         Ok(SplitCore { state })
@@ -55,9 +60,9 @@ impl<D: Device> SplitCore<D> {
 
     /// Plays events, the first in front. One that can't happen changes nothing.
     pub fn play(&mut self, events: &[Event])
-        requires going { self.old.is_over ≡ false }
+        requires going { self.old.is_reported ≡ false }
         ensures played { Leads (λ s. played s (map event_in events.now)) self.old self.new }
-        ensures going { self.new.is_over ≡ false }
+        ensures going { self.new.is_reported ≡ false }
     {
         self.state.play(events);
     }
@@ -73,7 +78,7 @@ impl<D: Device> SplitCore<D> {
     /// Plays rounds of events until it is at a boundary; none where it is at one. A round leaves
     /// out the step of the timing side where that stands at a boundary already.
     pub fn to_boundary(&mut self)
-        requires going { self.old.is_over ≡ false }
+        requires going { self.old.is_reported ≡ false }
         ensures stands { Leads to_boundary self.old self.new }
         ensures boundary { IsAtBoundary self.new }
     {
@@ -81,11 +86,10 @@ impl<D: Device> SplitCore<D> {
     }
 
     /// Plays events until the run is over: the timing side has told its last order, and the
-    /// functional side has obeyed it.
-    /// Entries are computed on demand; whatever state that leaves, the rounds behind it come to the
-    /// end.
+    /// functional side has obeyed it. Entries are computed on demand; whatever state that leaves,
+    /// the rounds behind it come to the end.
     pub fn to_end(&mut self)
-        requires going { self.old.is_over ≡ false }
+        requires going { self.old.is_reported ≡ false }
         ensures ended { LeadsToEnd self.old self.new }
         ensures boundary { IsAtBoundary self.new }
     {
@@ -100,7 +104,7 @@ impl<D: Device> SplitCore<D> {
         requires boundary { IsAtBoundary self.old }
         ensures reported { Reports self.old result }
         ensures contents { GoesBack self.old self.new }
-        ensures over { self.new.is_over ≡ true }
+        ensures over { self.new.is_reported ≡ true }
     {
         self.state.committed()
     }

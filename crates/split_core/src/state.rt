@@ -1,8 +1,8 @@
 ghost use Rattle.std.specs.Prelude.{◌≡◌, ℕ, true, false, map, IfOk};
 ghost use Rattle.split_core.specs.Events.{order_told};
 
-use crate::bounds::{most_rounds, most_steps};
 use crate::event::Event;
+use crate::timing::Timing;
 use circular_buffer::HeapCircularBuffer;
 use device_bus::Device;
 use fsim_base::NoMemory;
@@ -10,14 +10,14 @@ use func_model::FuncSide;
 use mono_model::{Final, Setup};
 use rollback_cmds::{ORDER_ROOM, Order};
 use std::alloc::Global;
-use time_model::{TimeSide, Turn};
+use time_model::Turn;
 use trace_entry::Entry;
 
 /// Both sides, and what is under way between them.
 #[derive(Drop)]
-pub struct SplitState<D: Device> {
+pub struct SplitState<D: Device, T: Timing> {
     pub func: FuncSide<D>,
-    pub time: TimeSide,
+    pub time: T,
     /// Entries on their way to the timing side, the oldest first.
     pub entries: HeapCircularBuffer<Entry>,
     /// Orders on their way to the functional side, the oldest first.
@@ -31,30 +31,30 @@ pub struct SplitState<D: Device> {
     /// No run has more steps of the timing side.
     pub steps: u64,
     /// Whether the functional side was stopped for the report.
-    pub is_over: bool,
+    pub is_reported: bool,
 }
 
-impl<D: Device> SplitState<D> {
-    ghost use Rattle.std.specs.Prelude.{List, if◌then◌else◌};
+impl<D: Device, T: Timing> SplitState<D, T> {
+    ghost use Rattle.std.specs.Prelude.{if◌then◌else◌, ◌&&◌, ◌==◌, is_none, length};
     ghost use Rattle.device_bus.specs.Bus.{device_order};
-    ghost use Rattle.mono_model.specs.Setup.{is_setup};
-    ghost use Rattle.mono_model.specs.Split.{split_start, compute, push, obey, tick, take};
-    ghost use Rattle.mono_model.specs.Split.{send, event_at, played, round, to_boundary};
+    ghost use Rattle.mono_model.specs.Split.{compute, push, obey, tick, take, send};
     ghost use Rattle.mono_model.specs.Split.{is_place_boundary};
     ghost use Rattle.split_core.specs.Events.{event_in};
-    ghost use Rattle.split_core.specs.Standing.{SplitStandsFor, Leads, LeadsToEnd, TellsBoundary};
-    ghost use Rattle.split_core.specs.Standing.{IsStanding, IsAtBoundary, Reports, GoesBack};
+    ghost use Rattle.split_core.specs.Along.{start_at, event_on, played_on, round_on, rounds_on};
+    ghost use Rattle.split_core.specs.Standing.{StandsOn, LeadsOn, EndsOn, TellsBoundaryOn};
+    ghost use Rattle.split_core.specs.Standing.{IsStandingOn, IsAtBoundaryOn, ReportsOn};
+    ghost use Rattle.split_core.specs.Standing.{GoesBackOn};
 
     /// Both sides at the start of a run, with nothing under way. All memory of the run is taken
     /// here.
-    pub fn new(alloc: Global, setup: &Setup, devices: Vec<D>) -> Result<SplitState<D>, NoMemory>
-        requires sound { is_setup setup.now ≡ true }
+    pub fn new(alloc: Global, setup: &Setup, devices: Vec<D>) -> Result<SplitState<D, T>, NoMemory>
+        requires sound { T.timed.allows setup.now }
         requires order { map D.kind devices.items ≡ device_order }
-        ensures stands { IfOk result (λ state. SplitStandsFor setup.now (split_start setup.now)
+        ensures stands { IfOk result (λ state. StandsOn T.timed setup.now (start_at setup.now)
             state) }
     {
         let func = FuncSide::new(alloc, setup, devices)?;
-        let time = TimeSide::new(alloc, setup)?;
+        let time = T::new(alloc, setup)?;
         let Ok(entries) = HeapCircularBuffer::with_capacity(alloc, setup.ring as usize) else {
             return Err(NoMemory);
         };
@@ -68,17 +68,18 @@ impl<D: Device> SplitState<D> {
             listed_orders,
             computed: None,
             hand: None,
-            rounds: most_rounds(setup),
-            steps: most_steps(setup),
-            is_over: false,
+            rounds: T::most_rounds(setup),
+            steps: T::most_steps(setup),
+            is_reported: false,
         })
     }
 
     /// The functional side computes the entry at its position, if none is computed and it isn't at
     /// rest.
     pub fn compute(&mut self)
-        requires standing { IsStanding self.old }
-        ensures computed { Leads (λ s. event_at s compute) self.old self.new }
+        requires standing { IsStandingOn T.timed self.old }
+        ensures computed { LeadsOn T.timed (λ s. event_on s (T.timed.run s) compute)
+            self.old self.new }
     {
         if self.computed.is_none() {
             self.computed = self.func.produce();
@@ -87,7 +88,7 @@ impl<D: Device> SplitState<D> {
 
     /// The computed entry goes to the end of the entries under way, if it has room there.
     pub fn push(&mut self)
-        ensures pushed { Leads (λ s. event_at s push) self.old self.new }
+        ensures pushed { LeadsOn T.timed (λ s. event_on s (T.timed.run s) push) self.old self.new }
     {
         if let Some(entry) = self.computed {
             if self.entries.try_push_back(entry).is_ok() {
@@ -99,8 +100,8 @@ impl<D: Device> SplitState<D> {
     /// The functional side obeys the oldest order under way, if there is one. Where that opens an
     /// epoch, the computed entry is of no use any more.
     pub fn obey(&mut self)
-        requires standing { IsStanding self.old }
-        ensures obeyed { Leads (λ s. event_at s obey) self.old self.new }
+        requires standing { IsStandingOn T.timed self.old }
+        ensures obeyed { LeadsOn T.timed (λ s. event_on s (T.timed.run s) obey) self.old self.new }
     {
         if let Some(order) = self.listed_orders.pop_front() {
             self.func.obey(order);
@@ -112,7 +113,7 @@ impl<D: Device> SplitState<D> {
 
     /// The timing side makes a step, if no order is in hand.
     pub fn tick(&mut self)
-        ensures stepped { Leads (λ s. event_at s tick) self.old self.new }
+        ensures stepped { LeadsOn T.timed (λ s. event_on s (T.timed.run s) tick) self.old self.new }
     {
         if self.hand.is_none() {
             self.hand = order_told(self.time.step());
@@ -121,8 +122,8 @@ impl<D: Device> SplitState<D> {
 
     /// The timing side takes the oldest entry under way, if it wants one and there is one.
     pub fn take(&mut self)
-        requires standing { IsStanding self.old }
-        ensures taken { Leads (λ s. event_at s take) self.old self.new }
+        requires standing { IsStandingOn T.timed self.old }
+        ensures taken { LeadsOn T.timed (λ s. event_on s (T.timed.run s) take) self.old self.new }
     {
         if self.time.wants() {
             if let Some(entry) = self.entries.pop_front() {
@@ -133,7 +134,7 @@ impl<D: Device> SplitState<D> {
 
     /// The order in hand goes to the end of the orders under way, if it has room there.
     pub fn send(&mut self)
-        ensures sent { Leads (λ s. event_at s send) self.old self.new }
+        ensures sent { LeadsOn T.timed (λ s. event_on s (T.timed.run s) send) self.old self.new }
     {
         if let Some(order) = self.hand {
             if self.listed_orders.try_push_back(order).is_ok() {
@@ -144,8 +145,9 @@ impl<D: Device> SplitState<D> {
 
     /// Plays an event.
     fn play_event(&mut self, event: Event)
-        requires standing { IsStanding self.old }
-        ensures played { Leads (λ s. event_at s (event_in event)) self.old self.new }
+        requires standing { IsStandingOn T.timed self.old }
+        ensures played { LeadsOn T.timed (λ s. event_on s (T.timed.run s) (event_in event)) self.old
+            self.new }
     {
         match event {
             Event::Compute => self.compute(),
@@ -159,8 +161,9 @@ impl<D: Device> SplitState<D> {
 
     /// Plays events, the first in front.
     pub fn play(&mut self, events: &[Event])
-        requires standing { IsStanding self.old }
-        ensures played { Leads (λ s. played s (map event_in events.now)) self.old self.new }
+        requires standing { IsStandingOn T.timed self.old }
+        ensures played { LeadsOn T.timed
+            (λ s. played_on s (T.timed.run s) (map event_in events.now)) self.old self.new }
     {
         for event in events {
             self.play_event(*event);
@@ -169,16 +172,24 @@ impl<D: Device> SplitState<D> {
 
     /// Whether a cycle starts or the run is over, with no order in hand or under way.
     pub fn at_boundary(&self) -> bool
-        ensures boundary { TellsBoundary self.now result }
+        ensures boundary { TellsBoundaryOn T.timed self.now result }
     {
-        self.time.at_boundary() && self.hand.is_none() && self.listed_orders.is_empty()
+        self.time.at_boundary() && self.is_level()
+    }
+
+    /// Whether no order is in hand or under way.
+    fn is_level(&self) -> bool
+        ensures level { result
+            ≡ (is_none self.now.hand && (length self.now.listed_orders.items == 0)) }
+    {
+        self.hand.is_none() && self.listed_orders.is_empty()
     }
 
     /// A round of events, which leaves out the step of the timing side where that stands at a
     /// boundary.
     fn round(&mut self)
-        requires standing { IsStanding self.old }
-        ensures played { Leads round self.old self.new }
+        requires standing { IsStandingOn T.timed self.old }
+        ensures played { LeadsOn T.timed (λ s. round_on s (T.timed.run s)) self.old self.new }
     {
         self.obey();
         self.compute();
@@ -190,8 +201,8 @@ impl<D: Device> SplitState<D> {
 
     /// The timing side makes a step, if it isn't at a boundary.
     fn tick_within_cycle(&mut self)
-        ensures stepped { Leads (λ s x. if is_place_boundary x.place then x else event_at s
-            tick x)
+        ensures stepped { LeadsOn T.timed (λ s x. if is_place_boundary x.split.place then x else
+            event_on s (T.timed.run s) tick x)
             self.old self.new }
     {
         if !self.time.at_boundary() {
@@ -201,8 +212,9 @@ impl<D: Device> SplitState<D> {
 
     /// Plays rounds until it is at a boundary.
     pub fn to_boundary(&mut self)
-        requires standing { IsStanding self.old }
-        ensures stands { Leads to_boundary self.old self.new }
+        requires standing { IsStandingOn T.timed self.old }
+        ensures stands { LeadsOn T.timed (λ s. rounds_on s (T.timed.run s) (T.timed.rounds s))
+            self.old self.new }
     {
         for _ in 0..self.rounds {
             if self.at_boundary() {
@@ -215,8 +227,8 @@ impl<D: Device> SplitState<D> {
     /// Plays from boundary to boundary until the run is over, and the functional side has obeyed
     /// the last order.
     pub fn to_end(&mut self)
-        requires standing { IsStanding self.old }
-        ensures ended { LeadsToEnd self.old self.new }
+        requires standing { IsStandingOn T.timed self.old }
+        ensures ended { EndsOn T.timed self.old self.new }
     {
         for _ in 0..self.steps {
             self.to_boundary();
@@ -231,14 +243,14 @@ impl<D: Device> SplitState<D> {
     /// What is reported at a boundary: the functional side goes back to what is committed, and
     /// stays there.
     pub fn committed(&mut self) -> Final
-        requires boundary { IsAtBoundary self.old }
-        ensures reported { Reports self.old result }
-        ensures contents { GoesBack self.old self.new }
-        ensures over { self.new.is_over ≡ true }
+        requires boundary { IsAtBoundaryOn T.timed self.old }
+        ensures reported { ReportsOn T.timed self.old result }
+        ensures contents { GoesBackOn T.timed self.old self.new }
+        ensures over { self.new.is_reported ≡ true }
     {
         let number = self.func.committed();
         self.func.obey(Order::Stop { n: number });
-        self.is_over = true;
+        self.is_reported = true;
         let arch = self.func.arch();
         // No proof is generated of a literal that reads a field which is an array.
         let regs = arch.regs;

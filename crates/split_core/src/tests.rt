@@ -251,7 +251,7 @@ const PLANS: [&[Event]; 3] = [
 
 /// Goes on to the start of a cycle, with these events where each cycle before it starts.
 fn play_cycles<D: Device>(core: &mut SplitCore<D>, events: &[Event], cycles: u64)
-    requires going { core.old.is_over ≡ false }
+    requires going { core.old.is_reported ≡ false }
     ensures boundary { IsAtBoundary core.new }
 {
     core.to_boundary();

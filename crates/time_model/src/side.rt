@@ -45,7 +45,7 @@ impl TimeSide {
     ghost use Rattle.mono_model.specs.Machine.{stats_of};
     ghost use Rattle.mono_model.specs.Demand.{place, next, needs_entry, needed_entry};
     ghost use Rattle.mono_model.specs.Split.{is_place_boundary};
-    ghost use Rattle.time_model.specs.Running.{IsRun};
+    ghost use Rattle.time_model.specs.Running.{IsRun, Steps};
     ghost use Rattle.time_model.specs.Standing.{TimeSideStandsFor, IsStep, IsRight, wants_in};
 
     /// The timing side before the first step of a run. It takes all its memory here, and want of it
@@ -71,7 +71,7 @@ impl TimeSide {
     /// Makes steps of the demand run, up to the first that tells an order, needs an entry that isn't
     /// held, or finds the run over; and at most 64 of them. The result is what the last one did.
     pub fn run(&mut self) -> Turn
-        ensures made { IsRun self.old self.new result }
+        ensures made { IsRun Steps self.old self.new result }
     {
         self.state.run(STEPS)
     }

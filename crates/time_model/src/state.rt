@@ -1,5 +1,5 @@
 ghost use Rattle.std.specs.Prelude.{◌≡◌, ◌&&◌, ℕ, true, false, if◌then◌else◌, Some, None, IfOk};
-ghost use Rattle.std.specs.Prelude.{is_none};
+ghost use Rattle.std.specs.Prelude.{is_none, unwrap_or};
 
 use crate::at::At;
 use crate::turn::{Turn, untold};
@@ -40,7 +40,8 @@ impl TimeState {
     ghost use Rattle.timing_core.specs.Orders.{orders_in};
     ghost use Rattle.time_model.specs.At.{at_in};
     ghost use Rattle.time_model.specs.Standing.{TimeSideStandsFor, IsStanding, IsStep, wants_in};
-    ghost use Rattle.time_model.specs.Running.{IsRun, Steps, turn_or};
+    ghost use Rattle.time_model.specs.Running.{IsRun, Steps};
+    ghost use Rattle.time_model.specs.Turns.{turn_untold};
     ghost use Rattle.time_model.specs.Turning.{MayTry, IsTurned, IsTold, over_in, held_by, owed_by};
     ghost use Rattle.time_model.specs.Turning.{epoch_by, kept_by};
 
@@ -251,7 +252,7 @@ impl TimeState {
     /// did, and None where it was made and told no order.
     fn step(&mut self) -> Option<Turn>
         requires standing { IsStanding self.old }
-        ensures made { Steps self.old self.new (turn_or result (at_in self.old.at)) }
+        ensures made { Steps self.old self.new (unwrap_or result (turn_untold (at_in self.old.at))) }
     {
         if self.wants() {
             return Some(Turn::Want);
@@ -269,7 +270,7 @@ impl TimeState {
     pub fn run(&mut self, most: u32) -> Turn
         requires some { 0 < most }
         requires standing { IsStanding self.old }
-        ensures made { IsRun self.old self.new result }
+        ensures made { IsRun Steps self.old self.new result }
         ensures single { most ≡ 1 → Steps self.old self.new result }
         ensures standing { IsStanding self.new }
     {

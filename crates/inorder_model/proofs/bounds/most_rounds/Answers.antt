@@ -1,4 +1,4 @@
-use Rattle.std.proofs.Common.{◌+◌, arith}
+use Rattle.std.proofs.Common.{arith}
 use Rattle.mono_model.proofs.Sound.{setup_facts}
 use Rattle.inorder_model.proofs.bounds.most_rounds.Goals as goal
 

@@ -1,4 +1,4 @@
 use Rattle.split_core.proofs.tests.play_cycles.Goals as goal
 
 pub play-requires : goal.play-requires
-play-requires g c = record { going = c.loop.invariant.standing.stands.going }
+play-requires g c = record { going = c.loop.invariant.standing.stands.stands.going }

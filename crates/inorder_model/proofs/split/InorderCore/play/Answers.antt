@@ -1,16 +1,23 @@
 use Rattle.std.proofs.Common.{ap, ◌∙◌}
-use Rattle.inorder_model.specs.declared.core_state.CoreState.{CoreState}
-use Rattle.inorder_model.specs.Core.{IsLaneStanding}
-use Rattle.inorder_model.proofs.CorePlaying.{after_events}
+use Rattle.inorder_model.specs.declared.state.InorderState.{InorderState}
+use Rattle.split_core.specs.declared.state.SplitState.{SplitState}
+use Rattle.split_core.specs.Standing.{IsStandingOn}
+use Rattle.inorder_model.specs.LaneTimed.{lane_timed}
+use Rattle.inorder_model.specs.LaneTimedLaws.{lane_timed_laws}
+use Rattle.split_core.proofs.Playing.{after_events}
+use Rattle.inorder_model.proofs.LaneCore.{plays}
 use Rattle.inorder_model.proofs.split.InorderCore.play.Given as given
 use Rattle.inorder_model.proofs.split.InorderCore.play.Goals as goal
 
-standing : (g : given.Over) (c : goal.After-play g) → IsLaneStanding c.play.new.self
-standing g c = after_events c.args.events.now c.self.inside.state c.play.new.self
-    (c.self.invariant (ap (λ (state : CoreState g.row.D.Denot). state.is_over) c.self.view_is ∙ c.requires.going)) c.play.ensures.played
+standing : (g : given.Over) (c : goal.After-play g) → IsStandingOn lane_timed c.play.new.self
+standing g c = after_events lane_timed lane_timed_laws c.args.events.now c.self.inside.state c.play.new.self
+    (c.self.invariant (ap (λ (state : SplitState g.row.D.Denot InorderState). state.is_reported) c.self.view_is ∙ c.requires.going)) c.play.ensures.played
 
 pub invariant_of-self : goal.invariant_of-self
 invariant_of-self g c = λ going. standing g c
+
+pub returns-clause-played : goal.returns-clause-played
+returns-clause-played g c = plays c.self.inside.state c.args.self.now c.play.new.self c.self.view_is c.args.events.now c.play.ensures.played
 
 pub returns-clause-going : goal.returns-clause-going
 returns-clause-going g c = let is = standing g c in is.stands.going

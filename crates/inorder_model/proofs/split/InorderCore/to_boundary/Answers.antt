@@ -1,16 +1,26 @@
 use Rattle.std.proofs.Common.{ap, ◌∙◌}
-use Rattle.inorder_model.specs.declared.core_state.CoreState.{CoreState}
-use Rattle.inorder_model.specs.Core.{IsAtLaneBoundary}
-use Rattle.inorder_model.proofs.CorePlaying.{at_next_boundary}
+use Rattle.inorder_model.specs.declared.state.InorderState.{InorderState}
+use Rattle.split_core.specs.declared.state.SplitState.{SplitState}
+use Rattle.split_core.specs.Standing.{IsAtBoundaryOn}
+use Rattle.inorder_model.specs.LaneTimed.{lane_timed}
+use Rattle.inorder_model.specs.LaneTimedLaws.{lane_timed_laws}
+use Rattle.split_core.proofs.Playing.{at_next_boundary}
+use Rattle.inorder_model.proofs.LaneCore.{comes, at_lane_boundary}
 use Rattle.inorder_model.proofs.split.InorderCore.to_boundary.Given as given
 use Rattle.inorder_model.proofs.split.InorderCore.to_boundary.Goals as goal
 
-arrived : (g : given.Over) (c : goal.After-to_boundary g) → IsAtLaneBoundary c.to_boundary.new.self
-arrived g c = at_next_boundary c.self.inside.state c.to_boundary.new.self
-    (c.self.invariant (ap (λ (state : CoreState g.row.D.Denot). state.is_over) c.self.view_is ∙ c.requires.going)) c.to_boundary.ensures.stands
+arrived : (g : given.Over) (c : goal.After-to_boundary g) → IsAtBoundaryOn lane_timed c.to_boundary.new.self
+arrived g c = at_next_boundary lane_timed lane_timed_laws c.self.inside.state c.to_boundary.new.self
+    (c.self.invariant (ap (λ (state : SplitState g.row.D.Denot InorderState). state.is_reported) c.self.view_is ∙ c.requires.going)) c.to_boundary.ensures.stands
 
 pub invariant_of-self : goal.invariant_of-self
 invariant_of-self g c = λ going. let is = arrived g c in is.standing
 
+pub returns-clause-stands : goal.returns-clause-stands
+returns-clause-stands g c = comes c.self.inside.state c.args.self.now c.to_boundary.new.self c.self.view_is c.to_boundary.ensures.stands
+
 pub returns-clause-boundary : goal.returns-clause-boundary
-returns-clause-boundary g c = arrived g c
+returns-clause-boundary g c = at_lane_boundary c.to_boundary.new.self (arrived g c)
+
+pub to_boundary-requires : goal.to_boundary-requires
+to_boundary-requires g c = record { standing = (c.self.invariant (ap (λ (state : SplitState g.row.D.Denot InorderState). state.is_reported) c.self.view_is ∙ c.requires.going)) }

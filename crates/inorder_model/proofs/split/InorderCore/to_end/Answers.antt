@@ -1,19 +1,34 @@
 use Rattle.std.proofs.Common.{ap, ◌∙◌}
-use Rattle.inorder_model.specs.declared.core_state.CoreState.{CoreState}
-use Rattle.inorder_model.specs.Core.{IsLaneStanding, IsAtLaneBoundary}
-use Rattle.inorder_model.proofs.CorePlaying.{at_the_end, stands_inside}
+use Rattle.inorder_model.specs.declared.state.InorderState.{InorderState}
+use Rattle.split_core.specs.declared.state.SplitState.{SplitState}
+use Rattle.split_core.specs.Standing.{IsAtBoundaryOn}
+use Rattle.inorder_model.specs.LaneTimed.{lane_timed}
+use Rattle.inorder_model.specs.LaneTimedLaws.{lane_timed_laws}
+use Rattle.split_core.specs.Standing.{EndsOn}
+use Rattle.split_core.proofs.Playing.{at_the_end}
+use Rattle.split_core.proofs.OnDemand.{plays_standing, ends_behind}
+use Rattle.inorder_model.proofs.LaneCore.{ends, at_lane_boundary}
 use Rattle.inorder_model.proofs.split.InorderCore.to_end.Given as given
 use Rattle.inorder_model.proofs.split.InorderCore.to_end.Goals as goal
 
-arrived : (g : given.Over) (c : goal.After-to_end g) → IsAtLaneBoundary c.to_end.new.self
-arrived g c = at_the_end c.self.inside.state c.to_end.new.self
-    (c.self.invariant (ap (λ (state : CoreState g.row.D.Denot). state.is_over) c.self.view_is ∙ c.requires.going)) c.to_end.ensures.ended
+ended : (g : given.Over) (c : goal.After-to_end g) → EndsOn lane_timed c.self.inside.state c.to_end.new.self
+ended g c = ends_behind lane_timed lane_timed_laws c.self.inside.state c.play_on_demand.new.self c.to_end.new.self c.play_on_demand.ensures.plays c.to_end.ensures.ended
+
+arrived : (g : given.Over) (c : goal.After-to_end g) → IsAtBoundaryOn lane_timed c.to_end.new.self
+arrived g c = at_the_end lane_timed lane_timed_laws c.self.inside.state c.to_end.new.self
+    (c.self.invariant (ap (λ (state : SplitState g.row.D.Denot InorderState). state.is_reported) c.self.view_is ∙ c.requires.going)) (ended g c)
+
+pub to_end-requires : goal.to_end-requires
+to_end-requires g c = record {
+  standing = plays_standing lane_timed lane_timed_laws c.self.inside.state c.play_on_demand.new.self
+      (c.self.invariant (ap (λ (state : SplitState g.row.D.Denot InorderState). state.is_reported) c.self.view_is ∙ c.requires.going)) c.play_on_demand.ensures.plays;
+}
 
 pub invariant_of-self : goal.invariant_of-self
 invariant_of-self g c = λ going. let is = arrived g c in is.standing
 
 pub returns-clause-ended : goal.returns-clause-ended
-returns-clause-ended g c = λ s x sound reached h. c.to_end.ensures.ended s x sound reached (stands_inside c.self.inside.state c.args.self.now c.self.view_is s x h)
+returns-clause-ended g c = ends c.self.inside.state c.args.self.now c.to_end.new.self c.self.view_is (ended g c)
 
 pub returns-clause-boundary : goal.returns-clause-boundary
-returns-clause-boundary g c = arrived g c
+returns-clause-boundary g c = at_lane_boundary c.to_end.new.self (arrived g c)

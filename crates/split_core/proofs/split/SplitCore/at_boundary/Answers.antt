@@ -1,7 +1,5 @@
-use Rattle.split_core.proofs.Playing.{stands_inside}
+use Rattle.split_core.proofs.Mono.{tells}
 use Rattle.split_core.proofs.split.SplitCore.at_boundary.Goals as goal
 
 pub returns : goal.returns
-returns g c = record {
-  boundary = λ s x h. c.at_boundary.ensures.boundary s x (stands_inside c.self.inside.state c.args.self.now c.self.view_is s x h);
-}
+returns g c = record { boundary = tells c.self.inside.state c.args.self.now c.self.view_is c.at_boundary.result c.at_boundary.ensures.boundary }

@@ -1,5 +1,11 @@
-use Rattle.split_core.proofs.Playing.{stands_inside}
+use Rattle.split_core.proofs.Mono.{at_boundary_inside, reports, goes_back}
 use Rattle.split_core.proofs.split.SplitCore.committed.Goals as goal
 
+pub committed-requires : goal.committed-requires
+committed-requires g c = record { boundary = at_boundary_inside c.self.inside.state c.args.self.now c.self.view_is c.requires.boundary }
+
+pub returns-clause-reported : goal.returns-clause-reported
+returns-clause-reported g c = reports c.self.inside.state c.args.self.now c.self.view_is c.committed.result c.committed.ensures.reported
+
 pub returns-clause-contents : goal.returns-clause-contents
-returns-clause-contents g c = λ s x sound reached h at. c.committed.ensures.contents s x sound reached (stands_inside c.self.inside.state c.args.self.now c.self.view_is s x h) at
+returns-clause-contents g c = goes_back c.self.inside.state c.args.self.now c.committed.new.self c.self.view_is c.committed.ensures.contents

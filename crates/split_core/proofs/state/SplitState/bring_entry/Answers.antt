@@ -3,13 +3,13 @@ use Rattle.split_core.proofs.OnDemand.{plays_none, plays_event, plays_on, plays_
 use Rattle.split_core.proofs.state.SplitState.bring_entry.Goals as goal
 
 pub take-requires : goal.take-requires
-take-requires g c = record { standing = plays_standing c.args.self.now c.list_entry.new.self c.requires.standing c.list_entry.ensures.plays }
+take-requires g c = record { standing = plays_standing g.T.Timing.timed g.met.T.Timing.laws c.args.self.now c.list_entry.new.self c.requires.standing c.list_entry.ensures.plays }
 
 pub returns-then-wants : goal.returns-then-wants
 returns-then-wants g c = record {
-  plays = plays_on c.args.self.now c.list_entry.new.self c.take.new.self c.list_entry.ensures.plays
-      (plays_event split.take c.list_entry.new.self c.take.new.self c.take.new.self c.take.ensures.taken (plays_none c.take.new.self));
+  plays = plays_on g.T.Timing.timed g.met.T.Timing.laws c.args.self.now c.list_entry.new.self c.take.new.self c.list_entry.ensures.plays
+      (plays_event g.T.Timing.timed g.met.T.Timing.laws split.take c.list_entry.new.self c.take.new.self c.take.new.self c.take.ensures.taken (plays_none g.T.Timing.timed g.met.T.Timing.laws c.take.new.self));
 }
 
 pub returns-else-wants : goal.returns-else-wants
-returns-else-wants g c = record { plays = plays_none c.args.self.now }
+returns-else-wants g c = record { plays = plays_none g.T.Timing.timed g.met.T.Timing.laws c.args.self.now }

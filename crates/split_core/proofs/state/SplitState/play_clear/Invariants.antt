@@ -3,4 +3,4 @@ use Rattle.split_core.proofs.OnDemand.{OnDemand}
 use Rattle.split_core.proofs.state.SplitState.play_clear.Given as goal
 
 abbrev pub invariant-loop : goal.invariant-loop
-invariant-loop g l = record { far : OnDemand l.fn.self l.self; clear : IsClear l.self }
+invariant-loop g l = record { far : OnDemand g.T.Timing.timed l.fn.self l.self; clear : IsClear l.self }

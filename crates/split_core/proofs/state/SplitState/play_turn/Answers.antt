@@ -7,33 +7,33 @@ use Rattle.split_core.proofs.state.SplitState.play_turn.Goals as goal
 
 pub returns-in-Moved : goal.returns-in-Moved
 returns-in-Moved g c = record {
-  plays = run_silent c.args.self.now c.requires.clear c.run.new.self c.run.result c.run.ensures.made (ap order_told c.in-Moved.is);
-  clear = run_clear c.args.self.now c.requires.clear c.run.new.self c.run.result c.run.ensures.made;
+  plays = run_silent g.T.Timing.timed g.met.T.Timing.laws c.args.self.now c.requires.clear c.run.new.self c.run.result c.run.ensures.made (ap order_told c.in-Moved.is);
+  clear = run_clear g.T.Timing.timed g.met.T.Timing.laws c.args.self.now c.requires.clear c.run.new.self c.run.result c.run.ensures.made;
 }
 
 pub returns-in-CycleEnd : goal.returns-in-CycleEnd
 returns-in-CycleEnd g c = record {
-  plays = run_silent c.args.self.now c.requires.clear c.run.new.self c.run.result c.run.ensures.made (ap order_told c.in-CycleEnd.is);
-  clear = run_clear c.args.self.now c.requires.clear c.run.new.self c.run.result c.run.ensures.made;
+  plays = run_silent g.T.Timing.timed g.met.T.Timing.laws c.args.self.now c.requires.clear c.run.new.self c.run.result c.run.ensures.made (ap order_told c.in-CycleEnd.is);
+  clear = run_clear g.T.Timing.timed g.met.T.Timing.laws c.args.self.now c.requires.clear c.run.new.self c.run.result c.run.ensures.made;
 }
 
 pub returns-in-Halted : goal.returns-in-Halted
 returns-in-Halted g c = record {
-  plays = run_silent c.args.self.now c.requires.clear c.run.new.self c.run.result c.run.ensures.made (ap order_told c.in-Halted.is);
-  clear = run_clear c.args.self.now c.requires.clear c.run.new.self c.run.result c.run.ensures.made;
+  plays = run_silent g.T.Timing.timed g.met.T.Timing.laws c.args.self.now c.requires.clear c.run.new.self c.run.result c.run.ensures.made (ap order_told c.in-Halted.is);
+  clear = run_clear g.T.Timing.timed g.met.T.Timing.laws c.args.self.now c.requires.clear c.run.new.self c.run.result c.run.ensures.made;
 }
 
 pub hand_over-requires : goal.hand_over-requires
 hand_over-requires g c = record {
-  standing = plays_standing c.args.self.now _ c.requires.standing
-      (run_silent c.args.self.now c.requires.clear c.run.new.self c.run.result c.run.ensures.made (ap order_told c.in-Want.is));
-  clear = run_clear c.args.self.now c.requires.clear c.run.new.self c.run.result c.run.ensures.made;
+  standing = plays_standing g.T.Timing.timed g.met.T.Timing.laws c.args.self.now _ c.requires.standing
+      (run_silent g.T.Timing.timed g.met.T.Timing.laws c.args.self.now c.requires.clear c.run.new.self c.run.result c.run.ensures.made (ap order_told c.in-Want.is));
+  clear = run_clear g.T.Timing.timed g.met.T.Timing.laws c.args.self.now c.requires.clear c.run.new.self c.run.result c.run.ensures.made;
 }
 
 pub returns-in-Want : goal.returns-in-Want
 returns-in-Want g c = record {
-  plays = plays_on c.args.self.now _ c.hand_over.new.self
-      (run_silent c.args.self.now c.requires.clear c.run.new.self c.run.result c.run.ensures.made (ap order_told c.in-Want.is))
+  plays = plays_on g.T.Timing.timed g.met.T.Timing.laws c.args.self.now _ c.hand_over.new.self
+      (run_silent g.T.Timing.timed g.met.T.Timing.laws c.args.self.now c.requires.clear c.run.new.self c.run.result c.run.ensures.made (ap order_told c.in-Want.is))
       c.hand_over.ensures.plays;
   clear = c.hand_over.ensures.clear;
 }
@@ -41,7 +41,7 @@ returns-in-Want g c = record {
 pub obey-requires : goal.obey-requires
 obey-requires g c =
     let can : MayObey c.in-Ordered.order c.args.self.now.func =
-    run_may c.args.self.now c.requires.clear c.run.new.self c.run.result c.run.ensures.made c.in-Ordered.order c.in-Ordered.is c.requires.standing in
+    run_may g.T.Timing.timed g.met.T.Timing.laws c.args.self.now c.requires.clear c.run.new.self c.run.result c.run.ensures.made c.in-Ordered.order c.in-Ordered.is c.requires.standing in
     record {
       reach = can.reach;
       from = can.from;
@@ -54,7 +54,7 @@ obey-requires g c =
 
 pub returns-in-Ordered : goal.returns-in-Ordered
 returns-in-Ordered g c = record {
-  plays = run_obeyed c.args.self.now c.requires.clear c.run.new.self c.run.result c.run.ensures.made c.in-Ordered.order c.in-Ordered.is
+  plays = run_obeyed g.T.Timing.timed g.met.T.Timing.laws c.args.self.now c.requires.clear c.run.new.self c.run.result c.run.ensures.made c.in-Ordered.order c.in-Ordered.is
       c.obey.new.self c.obey.ensures.stands c.obey.ensures.moved;
-  clear = run_obeyed_clear c.args.self.now c.requires.clear c.run.new.self c.run.result c.run.ensures.made c.in-Ordered.order c.in-Ordered.is c.obey.new.self;
+  clear = run_obeyed_clear g.T.Timing.timed g.met.T.Timing.laws c.args.self.now c.requires.clear c.run.new.self c.run.result c.run.ensures.made c.in-Ordered.order c.in-Ordered.is c.obey.new.self;
 }

@@ -1,11 +1,11 @@
-use Rattle.std.proofs.Common.{Option, sym, ap, ◌∙◌, subst}
+use Rattle.std.proofs.Common.{Option, unwrap_or, sym, ap, ◌∙◌, subst}
 use Rattle.rollback_cmds.specs.declared.order.Order.{Order}
 use Rattle.time_model.specs.declared.state.TimeState.{TimeState}
 use Rattle.time_model.specs.declared.turn.Turn.{Turn}
 use Rattle.time_model.specs.declared.turn.Turn.TheVariants.{Ordered}
 use Rattle.time_model.specs.At.{at_in}
 use Rattle.time_model.specs.Turns.{turn_told, turn_untold}
-use Rattle.time_model.specs.Running.{Steps, turn_or}
+use Rattle.time_model.specs.Running.{Steps}
 use Rattle.time_model.specs.Standing.{IsMade}
 use Rattle.time_model.proofs.Steps.{step_made}
 use Rattle.time_model.proofs.Sides.{waiting_step, resting_step, going_step}
@@ -21,7 +21,7 @@ returns-then-is_told_out c = record {
 
 pub returns-in_err-order : goal.returns-in_err-order
 returns-in_err-order c = record {
-  made = subst (λ (answer : Option Turn). Steps c.args.self.now c.tell.new.self (turn_or answer (at_in c.args.self.now.at))) (sym c.from_residual.ensures)
+  made = subst (λ (answer : Option Turn). Steps c.args.self.now c.tell.new.self (unwrap_or answer (turn_untold (at_in c.args.self.now.at)))) (sym c.from_residual.ensures)
       (λ s k sound h.
       let old = c.args.self.now in
       let told = c.due-orders.result in

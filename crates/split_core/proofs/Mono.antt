@@ -1,0 +1,104 @@
+-- A core with the monolithic machine's timing side stands for a state of that machine's split run.
+use Rattle.std.proofs.Common.{◌≡◌, ◌≤◌, Bool, List, map, refl, ap, sym, ◌∙◌, subst}
+use Rattle.mono_model.specs.declared.setup.Setup.{Setup}
+use Rattle.mono_model.specs.declared.final_state.Final.{Final}
+use Rattle.mono_model.specs.Demand.{Place, place, step_bound}
+use Rattle.mono_model.specs.Cycle.{mono, final}
+use Rattle.mono_model.specs.Split.{Split, split_start, played, to_boundary, boundary_rounds, is_halted, is_boundary}
+use Rattle.mono_model.proofs.Sound.{setup_facts}
+use Rattle.machine_laws.specs.DemandRun.{mono_run}
+use Rattle.machine_laws.proofs.Halting.{run_halts}
+use Rattle.machine_laws.proofs.Stopping.{halted_last}
+use Rattle.func_model.specs.Contents.{ContentsStandFor}
+use Rattle.time_model.specs.declared.state.TimeState.{TimeState}
+use Rattle.split_core.specs.declared.event.Event.{Event}
+use Rattle.split_core.specs.declared.state.SplitState.{SplitState}
+use Rattle.split_core.specs.Events.{event_in}
+use Rattle.split_core.specs.Along.{start_at, played_on, rounds_on}
+use Rattle.split_core.specs.AlongLaws.{start_reached_on, played_reached_on, rounds_reached_on}
+use Rattle.split_core.specs.TimeSide.{mono_timed}
+use Rattle.split_core.specs.TimeSideLaws.{mono_sees, mono_reached, played_mono, rounds_mono}
+use Rattle.split_core.specs.Standing.{StandsOn, LeadsOn, IsAtBoundaryOn, IsEndedOn, EndsOn, TellsBoundaryOn, ReportsOn, GoesBackOn, SplitStandsFor, Leads, IsAtBoundary, LeadsToEnd, TellsBoundary, Reports, GoesBack}
+
+-- inside the core
+pub stands_inside : {D : Type 0} (inside value : SplitState D TimeState) → inside ≡ value → (s : Setup) (x : Split) → SplitStandsFor s x value → SplitStandsFor s x inside
+stands_inside {D} inside value is s x h = let P : SplitState D TimeState → Type 0 = λ state. SplitStandsFor s x state in subst P (sym is) h
+
+pub starts : {D : Type 0} (s : Setup) (state : SplitState D TimeState) → StandsOn mono_timed s (start_at s) state → SplitStandsFor s (split_start s) state
+starts s state h = record { at = start_at s; is = refl; reached = start_reached_on s (mono_run s); stands = h }
+
+module _ {D : Type 0} (inside value new : SplitState D TimeState) (is : inside ≡ value) where
+  pub plays : (events : List Event) → LeadsOn mono_timed (λ s. played_on s (mono_run s) (map event_in events)) inside new → Leads (λ s. played s (map event_in events)) value new
+  plays events leads = λ s x sound reached h.
+      let i : SplitStandsFor s x inside = stands_inside inside value is s x h in
+      record {
+        at = played_on s (mono_run s) (map event_in events) i.at;
+        is = played_mono s (map event_in events) i.at (mono_sees s i.at i.reached) ∙ ap (played s (map event_in events)) i.is;
+        reached = played_reached_on s (mono_run s) (map event_in events) i.at i.reached;
+        stands = leads s i.at sound i.reached i.stands;
+      }
+
+  pub comes : LeadsOn mono_timed (λ s. rounds_on s (mono_run s) (boundary_rounds s)) inside new → Leads to_boundary value new
+  comes leads = λ s x sound reached h.
+      let i : SplitStandsFor s x inside = stands_inside inside value is s x h in
+      record {
+        at = rounds_on s (mono_run s) (boundary_rounds s) i.at;
+        is = rounds_mono s (boundary_rounds s) i.at (mono_sees s i.at i.reached) ∙ ap (to_boundary s) i.is;
+        reached = rounds_reached_on s (mono_run s) (boundary_rounds s) i.at i.reached;
+        stands = leads s i.at sound i.reached i.stands;
+      }
+
+  pub ends : EndsOn mono_timed inside new → LeadsToEnd value new
+  ends ended = λ s x sound reached h.
+      let i : SplitStandsFor s x inside = stands_inside inside value is s x h in
+      let e : IsEndedOn mono_timed s new = ended s i.at sound i.reached i.stands in
+      let limited : 1 ≤ s.cycles = (setup_facts s sound).some_cycle in
+      let last : e.split.split.place ≡ place s (step_bound s) =
+      mono_sees s e.split e.reached
+      ∙ halted_last s e.split.steps limited (ap (λ (p : Place). is_halted p.run.at) (sym (mono_sees s e.split e.reached)) ∙ e.halted) in
+      record {
+        split = e.split.split;
+        reached = mono_reached s e.split e.reached;
+        stands = record { at = e.split; is = refl; reached = e.reached; stands = e.stands };
+        place = last;
+        machine = ap (λ (p : Place). p.run.demand.machine) last ∙ (run_halts s limited).machine;
+        boundary = e.boundary;
+        stopped = e.stopped;
+      }
+
+  pub goes_back : GoesBackOn mono_timed inside new → GoesBack value new
+  goes_back goes = λ s x sound reached h at.
+      let i : SplitStandsFor s x inside = stands_inside inside value is s x h in
+      let P : Split → Type 0 = λ y. ContentsStandFor {D = D} s (mono s y.place.run.demand.machine.cycle).arch new.func.contents in
+      subst P i.is (goes s i.at sound i.reached i.stands (ap is_boundary i.is ∙ at))
+
+module _ {D : Type 0} (inside value : SplitState D TimeState) (is : inside ≡ value) where
+  pub tells : (answer : Bool) → TellsBoundaryOn mono_timed inside answer → TellsBoundary value answer
+  tells answer told = λ s x h.
+      let i : SplitStandsFor s x inside = stands_inside inside value is s x h in
+      told s i.at i.reached i.stands ∙ ap is_boundary i.is
+
+  pub reports : (last : Final) → ReportsOn mono_timed inside last → Reports value last
+  reports last reported = λ s x sound reached h at.
+      let i : SplitStandsFor s x inside = stands_inside inside value is s x h in
+      reported s i.at sound i.reached i.stands (ap is_boundary i.is ∙ at) ∙ ap (λ (y : Split). final s y.place.run.demand.machine.cycle) i.is
+
+  pub at_boundary_inside : IsAtBoundary value → IsAtBoundaryOn mono_timed inside
+  at_boundary_inside at =
+      let i : SplitStandsFor at.standing.setup at.standing.split inside = stands_inside inside value is at.standing.setup at.standing.split at.standing.stands in
+      record {
+        standing = record { setup = at.standing.setup; sound = at.standing.sound; split = i.at; reached = i.reached; stands = i.stands };
+        boundary = ap is_boundary i.is ∙ at.boundary;
+      }
+
+pub at_mono_boundary : {D : Type 0} (state : SplitState D TimeState) → IsAtBoundaryOn mono_timed state → IsAtBoundary state
+at_mono_boundary state at = record {
+  standing = record {
+    setup = at.standing.setup;
+    sound = at.standing.sound;
+    split = at.standing.split.split;
+    reached = mono_reached at.standing.setup at.standing.split at.standing.reached;
+    stands = record { at = at.standing.split; is = refl; reached = at.standing.reached; stands = at.standing.stands };
+  };
+  boundary = at.boundary;
+}

@@ -1,0 +1,67 @@
+-- A timing side as the split state takes it: the demand run that it makes, and where it stands there.
+use Rattle.std.specs.Prelude.{◌≡◌, ℕ, suc, ◌≤◌, ◌&&◌, Bool, true, false, is_none, Option, None}
+use Rattle.trace_entry.specs.declared.Entry.{Entry}
+use Rattle.mono_model.specs.declared.setup.Setup.{Setup}
+use Rattle.mono_model.specs.Setup.{is_setup}
+use Rattle.mono_model.specs.Path.{openings, has_stop}
+use Rattle.mono_model.specs.Demand.{place_start, told, needs_entry, needed_entry}
+use Rattle.mono_model.specs.Split.{is_halted, is_boundary, told_by, held_after}
+use Rattle.machine_laws.specs.DemandRun.{DemandRun}
+use Rattle.machine_laws.specs.SplitLaw.{IsRunIn, IsRanged}
+use Rattle.time_model.specs.declared.turn.Turn.{Turn}
+use Rattle.time_model.specs.Standing.{is_told_out}
+use Rattle.split_core.specs.Events.{order_told}
+use Rattle.split_core.specs.Along.{At, rounds_on, IsReachedOn}
+
+pub record Timed (T : Type 0) : Type 1 where
+  -- which setups it may have
+  pub allows : Setup → Type 0
+  -- its demand run
+  pub run : Setup → DemandRun
+  -- it stands behind so many steps of that run
+  pub stands : Setup → ℕ → T → Type 0
+  -- whether it wants an entry, the entry that it holds, and its epoch
+  pub wants : T → Bool
+  pub held : T → Option Entry
+  pub epoch : T → ℕ
+  -- a boundary is never further than so many rounds
+  pub rounds : Setup → ℕ
+
+-- one step of the demand run was made
+pub record IsMadeOn {T : Type 0} (timed : Timed T) (s : Setup) (k : ℕ) (old new : T) (turn : Turn) : Type 0 where
+  pub stands : timed.stands s (suc k) new
+  pub held : timed.held new ≡ held_after (told_by ((timed.run s).places k) ((timed.run s).places (suc k))) ((timed.run s).places k) ((timed.run s).places (suc k)) (timed.held old)
+  pub told : order_told turn ≡ told_by ((timed.run s).places k) ((timed.run s).places (suc k))
+
+-- What a step makes of the side: nothing while the entry that its place needs isn't held, nothing where the run is over,
+-- and in every other case one step of the demand run.
+pub record IsStepOn {T : Type 0} (timed : Timed T) (s : Setup) (k : ℕ) (old new : T) (turn : Turn) : Type 0 where
+  pub waits : needs_entry ((timed.run s).places k) ≡ true → timed.held old ≡ None → (order_told turn ≡ None) × (new ≡ old)
+  pub rests : is_told_out ((timed.run s).places k) ≡ true → (order_told turn ≡ None) × (new ≡ old)
+  pub goes : (needs_entry ((timed.run s).places k) && is_none (timed.held old)) ≡ false → is_told_out ((timed.run s).places k) ≡ false → IsMadeOn timed s k old new turn
+
+-- a step was made, or tried for, whatever run the side stood for
+abbrev pub StepsOn : {T : Type 0} → Timed T → T → T → Turn → Type 0
+StepsOn timed old new turn = (s : Setup) (k : ℕ) → timed.allows s → timed.stands s k old → IsStepOn timed s k old new turn
+
+-- an entry may be handed to a side: where it is of the side's epoch, it is the one that the side's place needs
+pub record IsRightOn {T : Type 0} (timed : Timed T) (entry : Entry) (side : T) : Type 0 where
+  pub setup : Setup
+  pub allowed : timed.allows setup
+  pub steps : ℕ
+  pub stands : timed.stands setup steps side
+  pub needed : entry.epoch ≡ timed.epoch side → entry ≡ needed_entry setup ((timed.run setup).places steps)
+
+-- What the split state needs of the demand run and of the side.
+pub record IsTimed {T : Type 0} (timed : Timed T) : Type 0 where
+  pub sound : (s : Setup) → timed.allows s → is_setup s ≡ true
+  pub start : (s : Setup) → (timed.run s).places 0 ≡ place_start s
+  pub epoch : (s : Setup) (k : ℕ) (side : T) → timed.stands s k side → timed.epoch side ≡ openings (told ((timed.run s).places k))
+  -- the law of the split state
+  pub law : (s : Setup) (x : At) → timed.allows s → IsReachedOn s (timed.run s) x → IsRunIn s (timed.run s) x.split
+  pub ranged : (s : Setup) (x : At) → timed.allows s → IsReachedOn s (timed.run s) x → IsRanged x.split
+  -- the rounds to a boundary come to one
+  pub arrives : (s : Setup) (x : At) → timed.allows s → IsReachedOn s (timed.run s) x → is_boundary (rounds_on s (timed.run s) (timed.rounds s) x).split ≡ true
+  -- the last order is told by the last step, within the bound
+  pub stop : (s : Setup) (k : ℕ) → has_stop (told ((timed.run s).places k)) ≡ is_halted ((timed.run s).places k).run.at
+  pub halts : (s : Setup) (k : ℕ) → timed.allows s → (timed.run s).bound ≤ k → is_halted ((timed.run s).places k).run.at ≡ true

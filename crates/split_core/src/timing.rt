@@ -1,0 +1,133 @@
+ghost use Rattle.std.specs.Prelude.{◌≡◌, ◌↔◌, ◌&&◌, ℕ, true, Some, None, IfOk, is_none};
+
+use crate::bounds;
+use fsim_base::NoMemory;
+use mono_model::{End, Setup, Stats};
+use std::alloc::Global;
+use time_model::{Taken, TimeSide, Turn};
+use trace_entry::Entry;
+
+/// A timing side, as the split machine takes it: it makes the steps of a demand run, tells their
+/// orders, and is handed the entries that they need.
+pub trait Timing: Drop {
+    ghost use Rattle.mono_model.specs.declared.setup.Setup.{Setup as RunSetup};
+    ghost use Rattle.mono_model.specs.Machine.{stats_of};
+    ghost use Rattle.mono_model.specs.Demand.{needs_entry, needed_entry};
+    ghost use Rattle.mono_model.specs.Split.{is_place_boundary};
+    ghost use Rattle.time_model.specs.Running.{IsRun};
+    ghost use Rattle.split_core.specs.Timed.{Timed, IsTimed, StepsOn, IsRightOn};
+
+    ghost timed: { Timed Self };
+
+    /// The timing side before the first step of a run. It takes all its memory here, and want of it
+    /// is the one refusal.
+    fn new(alloc: Global, setup: &Setup) -> Result<Self, NoMemory>
+        requires sound { timed.allows setup.now }
+        ensures stands { IfOk result (λ side. timed.stands setup.now 0 side) }
+        ensures empty { IfOk result (λ side. timed.held side ≡ None) };
+
+    /// A boundary is never further than so many rounds.
+    fn most_rounds(setup: &Setup) -> u32
+        requires sound { timed.allows setup.now }
+        ensures rounds { result ≡ timed.rounds setup.now };
+
+    /// No run has more steps.
+    fn most_steps(setup: &Setup) -> u64
+        requires sound { timed.allows setup.now }
+        ensures steps { result ≡ (timed.run setup.now).bound };
+
+    /// Makes one step, and tells the one order of it, if it has one. It does nothing where the step
+    /// needs an entry that isn't held, and where the run is over.
+    fn step(&mut self) -> Turn
+        ensures made { StepsOn timed self.old self.new result };
+
+    /// Makes steps up to one that tells an order, needs an entry that isn't held or finds the run
+    /// over; or fewer. The result is what the last one did.
+    fn run(&mut self) -> Turn
+        ensures made { IsRun (StepsOn timed) self.old self.new result };
+
+    /// Whether the next step needs the entry of the instruction to fetch next, and none is held.
+    fn wants(&self) -> bool
+        ensures wants { result ≡ timed.wants self.now }
+        ensures needs { (s : RunSetup) (k : ℕ) → timed.stands s k self.now
+            → result ≡ (needs_entry ((timed.run s).places k) && is_none (timed.held self.now)) };
+
+    /// Takes the entry that arrives next, where one is needed. An entry of the side's epoch is held
+    /// for the next try; any other is dropped.
+    fn take(&mut self, entry: &Entry) -> Taken
+        requires wants { timed.wants self.old ≡ true }
+        requires right { IsRightOn timed entry.now self.old }
+        ensures stands { (s : RunSetup) (k : ℕ) → timed.stands s k self.old
+            → (entry.now.epoch ≡ timed.epoch self.old
+            → entry.now ≡ needed_entry s ((timed.run s).places k))
+            → timed.stands s k self.new }
+        ensures used { result ≡ Taken.Used → timed.held self.new ≡ Some entry.now }
+        ensures dropped { result ≡ Taken.Dropped → self.new ≡ self.old }
+        ensures by_epoch { (result ≡ Taken.Used) ↔ (entry.now.epoch ≡ timed.epoch self.old) };
+
+    /// How the run stands or ended.
+    fn end(&self) -> End
+        ensures end { (s : RunSetup) (k : ℕ) → timed.stands s k self.now
+            → result ≡ ((timed.run s).places k).run.demand.machine.end };
+
+    /// What was counted so far.
+    fn stats(&self) -> Stats
+        ensures stats { (s : RunSetup) (k : ℕ) → timed.stands s k self.now
+            → result ≡ stats_of s ((timed.run s).places k).run.demand.machine };
+
+    /// Whether all orders are told where a cycle starts or the run has ended.
+    fn at_boundary(&self) -> bool
+        ensures boundary { (s : RunSetup) (k : ℕ) → timed.stands s k self.now
+            → result ≡ is_place_boundary ((timed.run s).places k) };
+
+    ghost laws: { IsTimed timed };
+}
+
+impl Timing for TimeSide {
+    ghost use Rattle.split_core.specs.TimeSide.{mono_timed};
+    ghost use Rattle.split_core.specs.TimeSideLaws.{mono_laws};
+
+    ghost timed = { mono_timed };
+
+    ghost laws = { mono_laws };
+
+    fn new(alloc: Global, setup: &Setup) -> Result<TimeSide, NoMemory> {
+        TimeSide::new(alloc, setup)
+    }
+
+    fn most_rounds(setup: &Setup) -> u32 {
+        bounds::most_rounds(setup)
+    }
+
+    fn most_steps(setup: &Setup) -> u64 {
+        bounds::most_steps(setup)
+    }
+
+    fn step(&mut self) -> Turn {
+        TimeSide::step(self)
+    }
+
+    fn run(&mut self) -> Turn {
+        TimeSide::run(self)
+    }
+
+    fn wants(&self) -> bool {
+        TimeSide::wants(self)
+    }
+
+    fn take(&mut self, entry: &Entry) -> Taken {
+        TimeSide::take(self, entry)
+    }
+
+    fn end(&self) -> End {
+        TimeSide::end(self)
+    }
+
+    fn stats(&self) -> Stats {
+        TimeSide::stats(self)
+    }
+
+    fn at_boundary(&self) -> bool {
+        TimeSide::at_boundary(self)
+    }
+}
