@@ -389,6 +389,7 @@ impl<D: Device> Contents<D> {
     /// Makes one step of a run alone, but for what a FENCE.I lets fetch see: a pending timer
     /// interrupt, then the next instruction, with the step's number as its time. The output's limit
     /// doesn't stop it.
+    #[inline(always)]
     pub fn make(&mut self, number: u64) -> Made
         requires count { retired_in self.old < 2 ^ 64 - 1 }
         requires room { length (output_in self.old) < self.old.hart.room }

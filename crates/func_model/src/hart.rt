@@ -252,6 +252,7 @@ impl Hart {
 
     /// Takes the trap of an instruction, with the access that it attempted.
     #[tactic(auto, unfolding(crate::specs::Hart::arch_of, mono_model::specs::Arch::trapped))]
+    #[inline(always)]
     fn fail(&mut self, access: Access, cause: Cause, mtval: u32) -> Performed
         ensures done { result ≡ failed_with access cause self.old.csrs }
         ensures back { (range : RamRange) (d : Devices)
@@ -356,6 +357,7 @@ impl Hart {
 
     /// An aligned load at a time, with the register that it writes.
     #[tactic(auto, unfolding(crate::specs::Hart::arch_of, mono_model::specs::Arch::trapped))]
+    #[inline(always)]
     fn load<D: Device>(
         &mut self,
         bus: &mut Bus<D>,
@@ -430,6 +432,7 @@ impl Hart {
 
     /// An aligned store, with an output limit.
     #[tactic(auto, unfolding(crate::specs::Hart::arch_of))]
+    #[inline(always)]
     fn store<D: Device>(&mut self, bus: &mut Bus<D>, access: StoreAccess, limit: u32) -> Performed
         requires count { self.old.csrs.retired < 2 ^ 64 - 1 }
         requires aligned { access.addr % width_bytes access.width ≡ 0 }
@@ -545,6 +548,7 @@ impl Hart {
     /// Reads and writes a control and status register, or traps where the access is illegal.
     /// Without a time, a register that shows it reads 0.
     #[tactic(auto, unfolding(crate::specs::Hart::arch_of))]
+    #[inline(always)]
     fn access_csr(
         &mut self,
         word: u32,
@@ -581,6 +585,7 @@ impl Hart {
 
     /// Leaves a trap, as MRET does.
     #[tactic(auto, unfolding(crate::specs::Hart::arch_of))]
+    #[inline(always)]
     fn leave(&mut self) -> Performed
         requires count { self.old.csrs.retired < 2 ^ 64 - 1 }
         ensures done { result ≡ plain_with (Csr (flags_before self.old.csrs)) }

@@ -54,6 +54,7 @@ impl<D: Device> History<D> {
     /// Makes one step: a pending timer interrupt, the next instruction, and behind a FENCE.I what
     /// it lets fetch see. Where there is no further step it changes nothing, and tells how the run
     /// has ended.
+    #[inline(always)]
     pub fn alone_step(&mut self) -> Option<End>
         ensures told { (s : RunSetup) → TrailStandsFor s self.old
             → IsTold s self.old self.new result }

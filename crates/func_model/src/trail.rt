@@ -88,6 +88,7 @@ impl<D: Device> Trail<D> {
     }
 
     /// Makes a step, or tells how the run has ended, where there is none.
+    #[inline(always)]
     pub fn step(&mut self) -> Option<End>
         requires standing { IsOnTrail self.old }
         ensures told { (s : RunSetup) → TrailStandsFor s self.old
@@ -130,6 +131,7 @@ impl<D: Device> Trail<D> {
     }
 
     /// Remembers the step that was made last.
+    #[inline(always)]
     fn note(&mut self, past: PastStep)
         ensures noted { self.new
             ≡ record self.old {
@@ -141,7 +143,14 @@ impl<D: Device> Trail<D> {
         self.floor = self
             .floor
             .max(self.at.saturating_sub(self.steps.capacity() as u64));
-        let _ = self.steps.push_back(past);
+        // Without an interrupt nothing is moved of one.
+        let _ = match past.interrupted {
+            None => self.steps.push_back(PastStep {
+                instruction: past.instruction,
+                interrupted: None,
+            }),
+            Some(_) => self.steps.push_back(past),
+        };
     }
 
     /// Takes the last step back; false exactly where it isn't remembered.
