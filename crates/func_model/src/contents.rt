@@ -1,5 +1,5 @@
 ghost use Rattle.std.specs.Prelude.{◌≡◌, ◌<◌, ◌≤◌, ◌+◌, ◌-◌, ◌^◌, Some, IfOk, is_none, length};
-ghost use Rattle.std.specs.Prelude.{◌&&◌, map, true, if◌then◌else◌};
+ghost use Rattle.std.specs.Prelude.{◌&&◌, map, true, is_some, if◌then◌else◌};
 ghost use Rattle.mono_model.specs.Result.{is_time_load, is_time_read};
 ghost use Rattle.func_model.specs.Hart.{found_in};
 ghost use Rattle.mono_model.specs.Arch.{compare_of};
@@ -94,7 +94,8 @@ impl<D: Device> Contents<D> {
     ghost use Rattle.func_model.specs.Contents.{ContentsStandFor, retired_in, output_in};
     ghost use Rattle.func_model.specs.Contents.{after_instruction, before};
     ghost use Rattle.func_model.specs.Undo.{undone, IsRestorable};
-    ghost use Rattle.func_model.specs.History.{resumed, step_undone, step_seq, IsMade};
+    ghost use Rattle.func_model.specs.History.{resumed, step_undone, step_seq};
+    ghost use Rattle.func_model.specs.History.{instruction_in, IsMade};
     ghost use Rattle.func_model.specs.Hart.{FetchedFits, found_by};
     ghost use Rattle.phys_mem.specs.Ram.{exec_of, text_of};
 
@@ -315,6 +316,7 @@ impl<D: Device> Contents<D> {
         ensures back { (s : Setup) (a : Arch) → ContentsStandFor s a self.old
             → undone (ram_range s.params) result.1 (seq s time a) ≡ a }
         ensures number { result.1.number ≡ number }
+        ensures out { result.1.out ≡ is_some result.0.out }
         ensures restorable { IsRestorable result.1 }
         ensures room { self.new.hart.room ≡ self.old.hart.room }
     {
@@ -397,19 +399,22 @@ impl<D: Device> Contents<D> {
             → ContentsStandFor s (step_seq s number a) self.new }
         ensures made { (s : Setup) (a : Arch) → ContentsStandFor s a self.old
             → IsMade s number a result }
-        ensures restorable { IsRestorable result.past.instruction }
+        ensures restorable { IsRestorable (instruction_in result.past) }
         ensures room { self.new.hart.room ≡ self.old.hart.room }
     {
         let interrupted = self.take_interrupt(number);
         let fetched = self.hart.fetch();
         let is_fence = fetched.is_fence_i();
-        let (entry, instruction) = self.carry_out(fetched, number, 0, Some(number));
+        let (entry, past) = self.carry_out(fetched, number, 0, Some(number));
         Made {
             has_sent: entry.out.is_some(),
             halt: entry.halt,
             is_fence,
             past: PastStep {
-                instruction,
+                addr: past.addr,
+                sent: entry.out,
+                reg: past.reg,
+                change: past.change,
                 interrupted,
             },
         }
@@ -417,12 +422,12 @@ impl<D: Device> Contents<D> {
 
     /// Takes a step of a run alone back.
     pub fn unmake(&mut self, past: PastStep)
-        requires restorable { IsRestorable past.instruction }
+        requires restorable { IsRestorable (instruction_in past) }
         ensures stands { (s : Setup) (a : Arch) → ContentsStandFor s a self.old
             → ContentsStandFor s (step_undone (ram_range s.params) past a) self.new }
         ensures room { self.new.hart.room ≡ self.old.hart.room }
     {
-        self.undo(past.instruction);
+        self.undo(past.instruction());
         if let Some(before) = past.interrupted {
             self.hart.pc = before.pc;
             self.hart.put_trap(before.trap);

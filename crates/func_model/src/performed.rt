@@ -1,5 +1,5 @@
 use fsim_base::{Access, Cause, Halt};
-use undo_journal::{Change, OldTrap, Past};
+use undo_journal::{Change, OldRegister, OldTrap, Past};
 
 /// How an instruction leaves the run.
 #[derive(Clone, Copy, Debug, PartialEq, Eq)]
@@ -36,10 +36,33 @@ pub struct Interrupted {
 /// What takes one step of a run alone back.
 #[derive(Clone, Copy, Debug, PartialEq, Eq)]
 pub struct PastStep {
-    /// What takes its instruction back, to where its interrupt left off.
-    pub instruction: Past,
+    /// The address of its instruction.
+    pub addr: u32,
+    /// The byte that it sent to the output.
+    pub sent: Option<u8>,
+    /// The register that its instruction writes, with its value before.
+    pub reg: OldRegister,
+    pub change: Change,
     /// What takes its timer interrupt back, where one was taken.
     pub interrupted: Option<Interrupted>,
+}
+
+impl PastStep {
+    ghost use Rattle.std.specs.Prelude.{◌≡◌};
+    ghost use Rattle.func_model.specs.History.{instruction_in};
+
+    /// What takes its instruction back, to where its interrupt left off.
+    pub fn instruction(self) -> Past
+        ensures instruction { result ≡ instruction_in self }
+    {
+        Past {
+            number: 0,
+            addr: self.addr,
+            out: self.sent.is_some(),
+            reg: self.reg,
+            change: self.change,
+        }
+    }
 }
 
 /// What one step of a run alone did.

@@ -143,11 +143,11 @@ impl<D: Device> Trail<D> {
         self.floor = self
             .floor
             .max(self.at.saturating_sub(self.steps.capacity() as u64));
-        // Without an interrupt nothing is moved of one.
+        // Where there was no interrupt, nothing of one is moved.
         let _ = match past.interrupted {
             None => self.steps.push_back(PastStep {
-                instruction: past.instruction,
                 interrupted: None,
+                ..past
             }),
             Some(_) => self.steps.push_back(past),
         };
