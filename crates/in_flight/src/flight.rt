@@ -129,6 +129,7 @@ impl InFlight {
     }
 
     /// The oldest instruction leaves, in whatever state. There is one.
+    #[inline(always)]
     pub fn leave(&mut self)
         requires some { 0 < length self.old.slots }
         ensures left { self.new ≡ record self.old { slots = drop 1 self.old.slots } }

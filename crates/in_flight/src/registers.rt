@@ -21,6 +21,7 @@ pub struct Registers {
 
 /// The registers of the instruction that a word spells; a word that spells none has none. Where
 /// its opcode and one field more tell that it spells one, only its registers are read.
+#[inline(always)]
 pub fn registers_of(word: u32) -> Registers
     ensures first { result.sources.0 ≡ first_source (found_word word (decode_of word)) }
     ensures second { result.sources.1 ≡ second_source (found_word word (decode_of word)) }

@@ -215,6 +215,7 @@ impl Stations {
 
     /// Removes the oldest station, whose index is given. Those that waited for it take the
     /// committed register.
+    #[inline(always)]
     pub fn retire(&mut self, index: u32)
         requires oldest { oldest_index self.old.stations ≡ Some index }
         ensures retired { self.new ≡ record self.old { stations = drop 1 self.old.stations } }

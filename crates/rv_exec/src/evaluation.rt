@@ -15,6 +15,7 @@ use rv_decode::Insn;
 /// It has all that needs neither memory nor CSRs: loads and CSR instructions have value 0 here, and
 /// MRET goes on to the next word.
 #[tactic(auto, unfolding(crate::specs::Eval::eval_of))]
+#[inline(always)]
 pub fn eval(insn: Insn, addr: u32, a: u32, b: u32) -> Outcome
     ensures outcome { result ≡ eval_of insn addr a b }
     ensures aligned { addr % 4 ≡ 0 → result.next % 4 ≡ 0 }

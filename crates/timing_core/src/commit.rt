@@ -139,6 +139,7 @@ impl TimingCore {
     }
 
     /// The oldest slots, once done, leave in order, at most so many.
+    #[inline(always)]
     pub fn commit_at_most(&mut self, most: u32) -> Orders
         ensures kept { (s : Setup) (t : Timing) → CoreStandsFor s t self.old → IsSmall t
             → CoreStandsFor s (committed_phase (commits s most 0 t)).timing self.new }
@@ -154,6 +155,7 @@ impl TimingCore {
     }
 
     /// The oldest slots leave, at most so many.
+    #[inline(always)]
     fn leave_in_order(&mut self, most: u32) -> Committed
         ensures kept { (s : Setup) (t : Timing) → CoreStandsFor s t self.old → IsSmall t
             → CoreStandsFor s (commits s most 0 t).timing self.new }

@@ -35,6 +35,7 @@ fn is_mispredicted(slot: &Slot) -> bool
 
 /// Slots whose latency is over are done, the oldest first, up to the first mispredicted one, behind
 /// which the rest is to be flushed.
+#[inline(always)]
 fn finish_due(flight: &mut InFlight, cycle: u64) -> Option<Redirect>
     ensures room { flight.new.capacity ≡ flight.old.capacity }
     ensures count { length flight.new.slots ≡ length flight.old.slots }
@@ -88,6 +89,7 @@ impl TimingCore {
 
     /// Slots that execute until this cycle are done, and the first mispredicted one flushes all
     /// younger slots.
+    #[inline(always)]
     pub fn complete_until(&mut self, until: u64) -> Orders
         ensures kept { (s : Setup) (t : Timing) → CoreStandsFor s t self.old → IsSmall t
             → CoreStandsFor s (completed_phase (completes until t.slots) t).timing self.new }

@@ -111,6 +111,7 @@ impl TimingCore {
 
     /// One try of the fifth phase: the next instruction on the predicted path is appended, unless
     /// its fetch misses the cache, which is waited for.
+    #[inline(always)]
     pub fn fetch(&mut self, entry: &Entry) -> Tried
         requires room { length self.old.flight.slots < self.old.flight.capacity }
         requires next { IfSome (youngest self.old.flight.slots)
@@ -145,6 +146,7 @@ impl TimingCore {
 
     /// The access of the instruction cache, unless the miss was waited for or there is nothing to
     /// fetch. The result is the cycles that it adds.
+    #[inline(always)]
     fn read_cache(&mut self, entry: &Entry) -> u32
         ensures flight { self.new.flight ≡ self.old.flight }
         ensures cycles { (s : Setup) (t : Timing) → CoreStandsFor s t self.old
@@ -168,6 +170,7 @@ impl TimingCore {
     }
 
     /// The instruction is appended to the window.
+    #[inline(always)]
     fn append(&mut self, entry: &Entry, predicted: u32)
         requires room { length self.old.flight.slots < self.old.flight.capacity }
         requires next { IfSome (youngest self.old.flight.slots)

@@ -11,6 +11,7 @@ use reorder_buffer::Slot;
 
 /// A slot that begins: a load of RAM without a cause accesses the data cache, on wrong paths too.
 /// The result is the cycles that this adds.
+#[inline(always)]
 pub(crate) fn load_cycles(caches: &mut Caches, slot: &Slot) -> u32
     ensures cycles { (s : Setup) (state : CachesState)
         → CachesStandFor caches.old (caches_params s.params) state →
