@@ -1,6 +1,6 @@
 -- What the cache stands for after one way of one set was used.
 use Rattle.std.proofs.Common.{◌≡◌, ◌≢◌, ℕ, ◌+◌, ◌*◌, ◌<◌, ◌⊎◌, inl, inr, Bool, List, length, arith, ap, ◌∙◌, sym, subst, get_or-set_same, get_or-set_other}
-use Rattle.std.specs.Prelude.{Option, Some, None, slice_get, slice_index_or, vec_len}
+use Rattle.std.specs.Prelude.{Option, Some, None, IfSome, slice_get, slice_index_or, vec_len}
 use Rattle.std.proofs.lemmas.Bool.{cases_eq}
 use Rattle.std.proofs.lemmas.Nat.{same_from_place, rows}
 use Rattle.std.proofs.lemmas.Grind.{common_steps}
@@ -9,7 +9,7 @@ use Rattle.cache_timing.specs.declared.cache.Line.{Line}
 use Rattle.cache_timing.specs.declared.cache.Cache.{Cache}
 use Rattle.cache_timing.specs.Cache.{put_at}
 use Rattle.cache_timing.specs.Ages.{IsOrder, age_of}
-use Rattle.cache_timing.specs.CacheStandsFor.{IsSet, CacheStandsFor, IsPut, line_at, age_at}
+use Rattle.cache_timing.specs.CacheStandsFor.{IsSet, IsFirst, CacheStandsFor, IsPut, line_at, age_at}
 use Rattle.cache_timing.proofs.Sets.{IsUpdate}
 
 -- ways of other sets, and other ways of this one, lie elsewhere
@@ -63,7 +63,7 @@ IsSet-same p line line' age age' set old lines ages = record {
   fit = old.fit;
 }
 
-put_at-same : (set i : ℕ) (lines : List Line) (sets : ℕ → List Line) → i ≡ set → put_at set lines sets i ≡ lines
+pub put_at-same : (set i : ℕ) (lines : List Line) (sets : ℕ → List Line) → i ≡ set → put_at set lines sets i ≡ lines
 put_at-same set i lines sets e = grind (arith, e)
 
 put_at-other : (set i : ℕ) (lines : List Line) (sets : ℕ → List Line) → i ≢ set → put_at set lines sets i ≡ sets i
@@ -86,8 +86,9 @@ lists_after old new sets set way line lines put here own i before (inr e) =
 
 pub CacheStandsFor-put : (old new : Cache) (p : CacheParams) (back : Bool) (sets : ℕ → List Line) (set way : ℕ) (line : Line) (lines : List Line) →
     CacheStandsFor old p back sets → IsPut old new set way line → way < old.params.ways →
-    IsSet old.params (line_at new set) (age_at new set) lines → CacheStandsFor new p back (put_at set lines sets)
-CacheStandsFor-put old new p back sets set way line lines keeps put here own = record {
+    IsSet old.params (line_at new set) (age_at new set) lines → IsFirst old.params (put_at set lines sets) line.number →
+    CacheStandsFor new p back (put_at set lines sets)
+CacheStandsFor-put old new p back sets set way line lines keeps put here own first = record {
   sizes = put.sizes ∙ keeps.sizes;
   policy = put.policy ∙ keeps.policy;
   lists = λ i within.
@@ -95,4 +96,8 @@ CacheStandsFor-put old new p back sets set way line lines keeps put here own = r
       let After : CacheParams → Type 0 = λ q. IsSet q (line_at new i) (age_at new i) (put_at set lines sets i) in
       subst After keeps.sizes
       (lists_after old new sets set way line lines put here own i (subst Before (sym keeps.sizes) (keeps.lists i within)) (cases_eq i set));
+  latest =
+      let First : CacheParams → Type 0 = λ q. IsFirst q (put_at set lines sets) line.number in
+      let Latest : Option ℕ → Type 0 = λ o. IfSome o (IsFirst p (put_at set lines sets)) in
+      subst Latest (sym put.latest) (subst First keeps.sizes first);
 }

@@ -7,4 +7,5 @@ pub mod Touches
 pub mod Powers
 pub mod Start
 pub mod Kept
+pub mod Latest
 pub mod Accesses

@@ -1,6 +1,6 @@
 -- The ages at the start: each way's own number.
-use Rattle.std.proofs.Common.{◌≡◌, ℕ, zero, suc, ◌*◌, ◌^◌, ◌<◌, ◌≤◌, ◌==◌, ◌&&◌, inl, inr, Bool, true, [], arith, refl, ap, ◌∙◌}
-use Rattle.std.specs.Prelude.{Option, None, replicate, slice_index}
+use Rattle.std.proofs.Common.{◌≡◌, ℕ, zero, suc, ◌*◌, ◌^◌, ◌<◌, ◌≤◌, ◌==◌, ◌&&◌, inl, inr, Bool, true, [], arith, refl, ap, ◌∙◌, sym, subst}
+use Rattle.std.specs.Prelude.{Option, None, IfSome, replicate, slice_index}
 use Rattle.std.proofs.lemmas.Bool.{cases_eq}
 use Rattle.std.proofs.lemmas.List.{get_or-replicate}
 use Rattle.std.proofs.lemmas.Grind.{common_steps}
@@ -10,7 +10,7 @@ use Rattle.cache_timing.specs.declared.params.CacheParams.{CacheParams}
 use Rattle.cache_timing.specs.declared.cache.Line.{Line}
 use Rattle.cache_timing.specs.declared.cache.Cache.{Cache}
 use Rattle.cache_timing.specs.Ages.{age_of}
-use Rattle.cache_timing.specs.CacheStandsFor.{IsSet, CacheStandsFor, line_at, age_at}
+use Rattle.cache_timing.specs.CacheStandsFor.{IsSet, IsFirst, CacheStandsFor, line_at, age_at}
 use Rattle.cache_timing.specs.Cache.{no_lines}
 
 -- whether each of so many ways has its own number as its age
@@ -53,11 +53,12 @@ start_age it e few set way within here =
     ∙ ap (λ word. age_of word way) (get_or-replicate it.params.sets set START 0 within) ∙ age_of-start way (omega arith)
 
 pub CacheStandsFor-start : (it : Cache) (count : ℕ) → it.lines.items ≡ replicate count None → it.ages.items ≡ replicate it.params.sets START →
-    it.params.ways ≤ 16 → CacheStandsFor it it.params it.back no_lines
-CacheStandsFor-start it count lines ages few = record {
+    it.params.ways ≤ 16 → it.latest ≡ None → CacheStandsFor it it.params it.back no_lines
+CacheStandsFor-start it count lines ages few nothing = record {
   sizes = refl;
   policy = refl;
   lists = λ i within.
       IsSet-start it.params (line_at it i) (age_at it i) (λ way here. empty_line it count lines i way)
       (λ way here. start_age it ages few i way within here);
+  latest = subst (λ o. IfSome o (IsFirst it.params no_lines)) (sym nothing) tt;
 }

@@ -56,6 +56,8 @@ pub struct Cache {
     lines: Vec<Option<Line>>,
     /// The ages of each set's ways.
     ages: Vec<u64>,
+    /// The number of the line that was accessed last: most fetches are of it again.
+    latest: Option<u32>,
     ghost in_range: { IsInRange params },
     ghost line_power: { params.line ≡ 2 ^ line_bits },
     ghost line_bits_most: { line_bits ≤ 8 },
@@ -79,6 +81,7 @@ fn start_ages(alloc: Global, count: u32) -> Result<Vec<u64>, NoMemory>
 
 impl Cache {
     ghost use Rattle.std.specs.Prelude.{ℕ, List, ◌-◌, ◌%◌, ◌≢◌, Bool, ◌&&◌, IfSome, IfNone, Some};
+    ghost use Rattle.std.specs.Prelude.{IsTrue, false};
     ghost use Rattle.cache_timing.specs.Cache.{no_lines, touched, touched_line, written_back};
     ghost use Rattle.cache_timing.specs.CacheStandsFor.{CacheStandsFor, IsPut, line_at, age_at};
 
@@ -95,6 +98,7 @@ impl Cache {
             line_bits: exponent(p.line),
             lines,
             ages,
+            latest: None,
         })
     }
 
@@ -156,6 +160,7 @@ impl Cache {
         self.lines[(set * ways + way) as usize] = Some(line);
         let ages = self.ages[set as usize];
         self.ages[set as usize] = after_use(ages, ways, way);
+        self.latest = Some(line.number);
     }
 
     /// The first address of what a way holds, where that is dirty.
@@ -237,6 +242,19 @@ impl Cache {
                 Touch::Miss { dropped }
             }
         }
+    }
+
+    /// Whether an address lies in the line that was accessed last. Reading there is a hit that
+    /// leaves the cache as it is, so it needs no search.
+    pub fn is_latest(&self, addr: u32) -> bool
+        ensures hit { IsTrue result → (p : CacheParams) (back : Bool) (sets : ℕ → List Line)
+            → CacheStandsFor self.now p back sets →
+            (touched p back sets addr false).touch ≡ Touch.Hit }
+        ensures kept { IsTrue result → (p : CacheParams) (back : Bool) (sets : ℕ → List Line)
+            → CacheStandsFor self.now p back sets →
+            CacheStandsFor self.now p back (touched p back sets addr false).sets }
+    {
+        self.latest == Some(addr >> self.line_bits)
     }
 
     /// An access to an address. `Touch::None` comes exactly where the cache has no ways.

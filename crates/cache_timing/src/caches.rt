@@ -132,6 +132,10 @@ impl Caches {
         ensures state { (p : AllCaches) (s : CachesState) → CachesStandFor self.old p s →
             CachesStandFor self.new p (fetched p s addr).state }
     {
+        if self.icache.is_latest(addr) {
+            self.counts.count_icache(Touch::Hit);
+            return 0;
+        }
         let touch = self.touch_icache(addr);
         self.follow(self.params.icache.miss, addr, touch)
     }
@@ -144,6 +148,10 @@ impl Caches {
         ensures state { (p : AllCaches) (s : CachesState) → CachesStandFor self.old p s →
             CachesStandFor self.new p (loaded p s addr).state }
     {
+        if self.dcache.is_latest(addr) {
+            self.counts.count_dcache(Touch::Hit);
+            return 0;
+        }
         let touch = self.touch_dcache(addr, false);
         self.follow(self.params.dcache.miss, addr, touch)
     }

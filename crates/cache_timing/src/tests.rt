@@ -145,6 +145,7 @@ fn second_level_takes_misses_and_write_backs(rt: HostRuntime) {
         (Access::Fetch, 0x104, 0),
         (Access::Load, 0x110, 10),
         (Access::Store, 0x118, 0),
+        (Access::Load, 0x11c, 0),
         (Access::Load, 0x200, 100),
         (Access::Fetch, 0x200, 10),
         (Access::Store, 0x300, 0),
@@ -153,7 +154,7 @@ fn second_level_takes_misses_and_write_backs(rt: HostRuntime) {
     let counts = CacheCounts {
         icache_accesses: 3,
         icache_misses: 2,
-        dcache_accesses: 5,
+        dcache_accesses: 6,
         dcache_misses: 4,
         l2_accesses: 8,
         l2_misses: 4,
