@@ -5,6 +5,7 @@ pub mod Concluded
 pub mod Counts
 pub mod Effects
 pub mod Evaluated
+pub mod Fetching
 pub mod Going
 pub mod Leading
 pub mod Loads

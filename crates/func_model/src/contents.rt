@@ -5,6 +5,7 @@ ghost use Rattle.func_model.specs.Hart.{found_in};
 ghost use Rattle.mono_model.specs.Arch.{compare_of};
 ghost use Rattle.func_model.specs.Undo.{ended_in, is_device};
 
+use crate::decoded::DecodedWords;
 use crate::found::Fetched;
 use crate::hart::{Hart, compare, trap_before};
 use crate::performed::{Interrupted, Made, PastStep, Stepped};
@@ -235,8 +236,8 @@ impl<D: Device> Contents<D> {
     }
 
     /// The contents at the start of a run. They take all memory of the run here, but for the
-    /// journal's: RAM, output and what the devices keep. The output has room for `ahead` bytes
-    /// beyond its limit.
+    /// journal's: RAM, output, decoded words and what the devices keep. The output has room for
+    /// `ahead` bytes beyond its limit.
     pub fn new(
         alloc: Global,
         setup: &Setup,
@@ -269,6 +270,7 @@ impl<D: Device> Contents<D> {
             memory,
             output,
             room,
+            decoded: DecodedWords::new(alloc)?,
         };
         let cmp = compare(&bus);
         Ok(Contents { hart, bus, cmp })

@@ -8,6 +8,7 @@ ghost use Rattle.func_model.specs.Steps.{plain_with};
 ghost use Rattle.func_model.specs.Undo.{csr_back, flags_before, trap_before};
 ghost use Rattle.machine_csr.specs.Csr.{csr_written};
 
+use crate::decoded::DecodedWords;
 use crate::found::Fetched;
 use crate::performed::{Performed, Stepped};
 use device_bus::{Bus, Device, Note};
@@ -15,7 +16,7 @@ use fsim_base::{Access, Cause, Spot, Width, wrap_add};
 use machine_csr::address::{MCAUSE, MEPC, MSCRATCH, MTVAL, MTVEC};
 use machine_csr::{CsrWrite, Csrs, reads_time};
 use phys_mem::Ram;
-use rv_decode::{Insn, decode};
+use rv_decode::Insn;
 use rv_exec::{Outcome, Reach, eval, extend};
 use undo_journal::{Change, OldCsr, OldRegister, OldTrap, Past};
 
@@ -30,6 +31,8 @@ pub struct Hart {
     pub output: Vec<u8>,
     /// How many of them have room.
     pub room: u32,
+    /// Words that need not be decoded again: no part of the state that the hart is in.
+    pub decoded: DecodedWords,
     ghost holds: { room ≤ vec_capacity output },
 }
 
@@ -209,13 +212,14 @@ impl Hart {
     ghost use Rattle.fsim_base.specs.declared.access.RamRange.{RamRange};
     ghost use Rattle.undo_journal.specs.declared.past.Change.TheVariants.{Csr};
 
-    /// What stands at the next address.
+    /// What stands at the next address. Nothing of the hart changes but its decoded words.
     #[tactic(auto, unfolding(crate::specs::Hart::found_by))]
     #[inline(always)]
-    pub fn fetch(&self) -> Fetched
+    pub fn fetch(&mut self) -> Fetched
         ensures found { found_in result
-            ≡ found_by (exec_of self.now.memory) (text_of self.now.memory) self.now.pc }
+            ≡ found_by (exec_of self.old.memory) (text_of self.old.memory) self.old.pc }
         ensures fits { FetchedFits result }
+        ensures others { self.new ≡ record self.old { decoded = self.new.decoded } }
     {
         if self.pc % 4 != 0 {
             return Fetched::Refused(Cause::InstructionMisaligned);
@@ -223,7 +227,7 @@ impl Hart {
         let Some(word) = self.memory.text(self.pc) else {
             return Fetched::Refused(Cause::InstructionAccess);
         };
-        match decode(word) {
+        match self.decoded.decode(self.pc, word) {
             None => Fetched::Unknown(word),
             Some(insn) => Fetched::Known(word, insn),
         }

@@ -4,6 +4,7 @@
 #![tactic(auto)]
 
 mod contents;
+mod decoded;
 mod found;
 mod hart;
 mod history;
