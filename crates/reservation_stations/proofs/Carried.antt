@@ -1,13 +1,13 @@
 -- How a change of single rows carries over to what they are beside the older ones.
 use Rattle.std.proofs.Common.{◌≡◌, ℕ, zero, suc, take, ◌==◌, ◌||◌, ◌&&◌, not, Bool, true, false, if◌then◌else◌, Option, Some, None, List, [], ◌∷◌, ◌++◌, reverse, refl, ap, sym, ◌∙◌, inl, inr, eq-eqb, subst}
 use Rattle.std.specs.Prelude.{slice_get}
-use Rattle.std.proofs.lemmas.Bool.{cases_eq, ne_eqb}
+use Rattle.std.proofs.lemmas.Bool.{cases_eq, ne_eqb, eqb-true}
 use Rattle.std.proofs.lemmas.Option.{same_Some}
 use Rattle.reservation_stations.specs.declared.row.Row.{Row}
 use Rattle.reservation_stations.specs.Mask.{is_index}
 use Rattle.reservation_stations.specs.Waits.{waits_on}
 use Rattle.reservation_stations.specs.Readiness.{is_done, is_register}
-use Rattle.reservation_stations.specs.AreTables.{Each, AreRows, IsRow, stations_at, producer, producer_of, unfinished, awaited}
+use Rattle.reservation_stations.specs.AreTables.{Each, AreRows, IsRow, stations_at, producer, producer_of, unfinished, awaited, is_among, among}
 use Rattle.reservation_stations.proofs.Indices.{reverse_behind}
 
 -- an index, unless it is one of these
@@ -46,13 +46,14 @@ module _ (at at' : ℕ → Row) (lost gone : ℕ → Bool) where
     pub destination : (at' index).destination ≡ (at index).destination
     pub done : is_done (at' index).mark ≡ (is_done (at index).mark || lost index)
     pub stays : gone index ≡ false
-    pub displaced : (at' index).displaced ≡ dropped gone (at index).displaced
+    pub displaced : (at' index).displaced ≡ (at index).displaced
     pub waits : (k : ℕ) → waits_on (at' index).waits k ≡ (waits_on (at index).waits k && not (lost k))
 
   -- what the older ones are behind the change
   pub record Carries (older older' : List ℕ) : Type 0 where
     pub unfinished : (register : ℕ) → unfinished (stations_at at' older') register ≡ dropped lost (unfinished (stations_at at older) register)
     pub producer : (register : ℕ) → producer (stations_at at' older') register ≡ dropped gone (producer (stations_at at older) register)
+    pub among : (o : Option ℕ) → among (stations_at at' older') o ≡ dropped gone (among (stations_at at older) o)
 
   unfinished_cons : (index : ℕ) (is done lost_here : Bool) (mine theirs : Option ℕ) → lost index ≡ lost_here → theirs ≡ dropped lost mine →
       (if is then (if (done || lost_here) then None else Some index) else theirs) ≡
@@ -66,6 +67,20 @@ module _ (at at' : ℕ → Row) (lost gone : ℕ → Bool) where
   producer_cons index true mine theirs stays carried = ap (λ b. if b then None else Some index) (sym stays)
   producer_cons index false mine theirs stays carried = carried
 
+  among_one : (index other : ℕ) (b mine theirs : Bool) → (b ≡ true → gone other ≡ false) →
+      (if theirs then Some other else None) ≡ dropped gone (if mine then Some other else None) →
+      (if (b || theirs) then Some other else None) ≡ dropped gone (if (b || mine) then Some other else None)
+  among_one index other true mine theirs stays carried = ap (λ b. if b then None else Some other) (sym (stays refl))
+  among_one index other false mine theirs stays carried = carried
+
+  among_cons : (index : ℕ) (older older' : List ℕ) (o : Option ℕ) → gone index ≡ false →
+      among (stations_at at' older') o ≡ dropped gone (among (stations_at at older) o) →
+      among (stations_at at' (index ∷ older')) o ≡ dropped gone (among (stations_at at (index ∷ older)) o)
+  among_cons index older older' None stays carried = refl
+  among_cons index older older' (Some other) stays carried =
+      among_one index other (other == index) (is_among other (stations_at at older)) (is_among other (stations_at at' older'))
+      (λ is. ap gone (eqb-true other index is) ∙ stays) carried
+
   pub Carries-cons : (index : ℕ) (older older' : List ℕ) → Changes index → Carries older older' → Carries (index ∷ older) (index ∷ older')
   Carries-cons index older older' here carried = record {
     unfinished = λ register.
@@ -75,6 +90,7 @@ module _ (at at' : ℕ → Row) (lost gone : ℕ → Bool) where
     producer = λ register.
         ap (λ destination. if is_register register destination then Some index else producer (stations_at at' older') register) here.destination
         ∙ producer_cons index (is_register register (at index).destination) (producer (stations_at at older) register) (producer (stations_at at' older') register) here.stays (carried.producer register);
+    among = λ o. among_cons index older older' o here.stays (carried.among o);
   }
 
   awaited_carried : (older older' : List ℕ) (source : Option ℕ) → Carries older older' →
@@ -101,7 +117,7 @@ module _ (at at' : ℕ → Row) (lost gone : ℕ → Bool) where
         ∙ ap (λ source. is_index k (awaited (stations_at at' older') source) || is_index k (awaited (stations_at at' older') (at index).second)) (sym here.first)
         ∙ ap (λ source. is_index k (awaited (stations_at at' older') (at' index).first) || is_index k (awaited (stations_at at' older') source)) (sym here.second);
     displaced =
-        here.displaced ∙ ap (dropped gone) is.displaced ∙ sym (producer_carried older older' (at index).destination carried)
+        ap (among (stations_at at' older')) here.displaced ∙ carried.among (at index).displaced ∙ ap (dropped gone) is.displaced ∙ sym (producer_carried older older' (at index).destination carried)
         ∙ ap (producer_of (stations_at at' older')) (sym here.destination);
   }
 

@@ -11,12 +11,12 @@ use Rattle.reservation_stations.specs.declared.row.Row.{Row}
 use Rattle.reservation_stations.specs.Mask.{is_index}
 use Rattle.reservation_stations.specs.Waits.{waits_on}
 use Rattle.reservation_stations.specs.Readiness.{Window, is_waiting, is_done, is_register, station_of, youngest_index, waiting_count}
-use Rattle.reservation_stations.specs.AreTables.{AreTables, Each, AreDistinct, IsRow, row_at, stations_at, station_in, producer, producer_of, awaited}
+use Rattle.reservation_stations.specs.AreTables.{AreTables, Each, AreDistinct, IsRow, row_at, stations_at, station_in, producer, producer_of, awaited, is_among, among}
 use Rattle.reservation_stations.specs.Changes.{with_producer}
 use Rattle.reservation_stations.proofs.Indices.{Each-map, Each-push, AreDistinct-push, station_of-free}
 use Rattle.reservation_stations.proofs.Carried.{Changes, AreRows-carried, AreRows-push}
 use Rattle.reservation_stations.proofs.Marking.{row_at-set, Stays, stations_at-same}
-use Rattle.reservation_stations.proofs.Kept.{seen, AreTables-changed, none, dropped_none, or_false, and_true, Carries-none}
+use Rattle.reservation_stations.proofs.Kept.{seen, AreTables-changed, none, or_false, and_true, Carries-none}
 use Rattle.reservation_stations.proofs.Reading.{reverse_seen, Each-reverse}
 use Rattle.reservation_stations.proofs.Leaving.{front_keeps, get_or-with_producer, length-with_producer, waiting_count-push, reverse-push}
 
@@ -76,7 +76,7 @@ module _ (capacity : ℕ) (indices : List ℕ) (old : List Row) (producers : Lis
         destination = ap (λ (e : Row). e.destination) same;
         done = ap (λ (e : Row). is_done e.mark) same ∙ or_false (is_done (row_at old other).mark);
         stays = refl;
-        displaced = ap (λ (e : Row). e.displaced) same ∙ sym (dropped_none (row_at old other).displaced);
+        displaced = ap (λ (e : Row). e.displaced) same;
         waits = λ k. ap (λ (e : Row). waits_on e.waits k) same ∙ and_true (waits_on (row_at old other).waits k);
       }
 
@@ -138,6 +138,29 @@ module _ (capacity : ℕ) (indices : List ℕ) (old : List Row) (producers : Lis
         count = omega (arith, counted, same, one_more);
       }
 
+-- a producer is among the stations
+among_by : (index : ℕ) (b there : Bool) → (if there then Some index else None) ≡ Some index → (if (b || there) then Some index else None) ≡ Some index
+among_by index true there is = refl
+among_by index false there is = is
+
+among_behind : (station : Station) (older : List Station) (o : Option ℕ) → among older o ≡ o → among (station ∷ older) o ≡ o
+among_behind station older None is = refl
+among_behind station older (Some index) is = among_by index (index == station.index) (is_among index older) is
+
+among_first : (station : Station) (older : List Station) (b : Bool) (o : Option ℕ) → among older o ≡ o →
+    among (station ∷ older) (if b then Some station.index else o) ≡ (if b then Some station.index else o)
+among_first station older true o is = ap (λ b. if (b || is_among station.index older) then Some station.index else None) (eq-eqb station.index station.index refl)
+among_first station older false o is = among_behind station older o is
+
+among-producer : (older : List Station) (register : ℕ) → among older (producer older register) ≡ producer older register
+among-producer [] register = refl
+among-producer (station ∷ older) register =
+    among_first station older (is_register register station.destination) (producer older register) (among-producer older register)
+
+among-producer_of : (older : List Station) (destination : Option ℕ) → among older (producer_of older destination) ≡ producer_of older destination
+among-producer_of older None = refl
+among-producer_of older (Some register) = among-producer older register
+
 none_from : (o : Option Station) → IsNone o → o ≡ None
 none_from None is = refl
 none_from (Some station) is = absurd cc
@@ -163,7 +186,10 @@ module _ {capacity : ℕ} {indices : List ℕ} {rows : List Row} {producers : Li
         row.displaced ≡ producer_of (reverse w.stations) row.destination → is_waiting row.mark ≡ true → table ≡ with_producer row.destination (Some index) producers →
         AreTables order.capacity order.items (slice_set rows index row) table (waiting + 1)
     AreTables-entered table waits displaced is_waits set =
-        let is : IsRow (reverse w.stations) row = record { waits = waits; displaced = displaced } in
+        let is : IsRow (reverse w.stations) row = record {
+          waits = waits;
+          displaced = ap (among (reverse w.stations)) displaced ∙ among-producer_of (reverse w.stations) row.destination;
+        } in
         rw (is_pushed, set)
         (AreTables-pushed capacity indices rows producers waiting keeps index inside_window is_fresh row
         (subst (λ xs. IsRow xs row) (reverse_seen keeps is_seen) is) is_waits)

@@ -10,7 +10,7 @@ use Rattle.reservation_stations.specs.Mask.{is_index}
 use Rattle.reservation_stations.specs.declared.waits.Waits.{Waits}
 use Rattle.reservation_stations.specs.Waits.{waits_on}
 use Rattle.reservation_stations.specs.Readiness.{Window, is_waiting, is_done, station_of, mark_of, marked, waiting_count}
-use Rattle.reservation_stations.specs.AreTables.{AreTables, Each, row_at, free_row, stations_at, producer}
+use Rattle.reservation_stations.specs.AreTables.{AreTables, Each, row_at, free_row, stations_at, producer, among}
 use Rattle.reservation_stations.specs.Changes.{without, Releases, EachChanges}
 use Rattle.reservation_stations.proofs.Indices.{Each-map}
 use Rattle.reservation_stations.proofs.Carried.{is_index-dropped, either_kept, dropped, Changes, Carries, AreRows-carried, Carries-behind}
@@ -51,8 +51,12 @@ and_true false = refl
 
 -- nothing stands before the oldest
 module _ (at at' : ℕ → Row) (lost gone : ℕ → Bool) where
+  among_none : (o : Option ℕ) → among [] o ≡ dropped gone (among [] o)
+  among_none None = refl
+  among_none (Some index) = refl
+
   pub Carries-none : Carries at at' lost gone [] []
-  Carries-none = record { unfinished = λ register. refl; producer = λ register. refl }
+  Carries-none = record { unfinished = λ register. refl; producer = λ register. refl; among = among_none }
 
 -- where the list of indices stays, and no station leaves
 module _ (capacity : ℕ) (indices : List ℕ) (old new : List Row) (producers : List (Option ℕ)) (waiting waiting' : ℕ) (lost : ℕ → Bool) where
@@ -118,7 +122,7 @@ module _ (rows : List Row) (index : ℕ) (mark : Mark) (row : Row) (within : ind
     destination = (Marks-written other).destination;
     done = done_by other alike ∙ or_false (is_done (row_at rows other).mark);
     stays = refl;
-    displaced = field (λ e. e.displaced) refl other ∙ sym (dropped_none (row_at rows other).displaced);
+    displaced = field (λ e. e.displaced) refl other;
     waits = λ k. field (λ e. waits_on e.waits k) refl other ∙ and_true (waits_on (row_at rows other).waits k);
   }
 
@@ -233,9 +237,7 @@ module _ {capacity : ℕ} {indices : List ℕ} {rows : List Row} {producers : Li
         destination = m.destination;
         done = ap is_done m.mark ∙ done_or (other == index) (row_at rows other).mark;
         stays = refl;
-        displaced =
-            ap (λ (e : Row). e.displaced) r.kept ∙ field rows index Done row inside is_row (λ e. e.displaced) refl other
-            ∙ sym (dropped_none (row_at rows other).displaced);
+        displaced = ap (λ (e : Row). e.displaced) r.kept ∙ field rows index Done row inside is_row (λ e. e.displaced) refl other;
         waits = λ k.
             r.waits k ∙ ap (λ b. b && not (k == index)) (field rows index Done row inside is_row (λ e. waits_on e.waits k) refl other);
       }

@@ -1,21 +1,24 @@
 -- The oldest station retires, or the youngest is cut.
-use Rattle.std.proofs.Common.{◌≡◌, ◌≢◌, ℕ, ◌+◌, ◌-◌, ◌<◌, ◌≤◌, ◌==◌, ◌||◌, Bool, true, false, if◌then◌else◌, Option, Some, None, List, [], ◌∷◌, ◌++◌, length, take, drop, get_or, reverse, refl, ap, sym, ◌∙◌, inl, inr, arith, eq-eqb, subst}
+use Rattle.std.proofs.Common.{◌≡◌, ◌≢◌, ℕ, ◌+◌, ◌-◌, ◌<◌, ◌≤◌, ◌==◌, ◌||◌, ◌&&◌, not, Bool, true, false, if◌then◌else◌, Option, Some, None, List, [], ◌∷◌, ◌++◌, length, take, drop, get_or, reverse, refl, ap, sym, ◌∙◌, inl, inr, arith, eq-eqb, subst}
 use Rattle.std.specs.Prelude.{slice_get, option_map}
 use Rattle.std.proofs.lemmas.Bool.{cases_eq, ne_eqb, eqb-true, both_ways}
 use Rattle.std.proofs.lemmas.List.{get_or-set_same, get_or-set_other, get_or_read, length-set, append-nil, take-map, drop-map, length-map, reverse-append}
 use Rattle.std.proofs.lemmas.Option.{slice_get-map, same_Some}
 use Rattle.circular_buffer.specs.Buffer.{Buffer, buffer}
 use Rattle.circular_buffer.proofs.Items.{pops_last}
+use Rattle.reservation_stations.specs.declared.station.Mark.{Mark}
 use Rattle.reservation_stations.specs.declared.station.Station.{Station}
 use Rattle.reservation_stations.specs.declared.row.Row.{Row}
+use Rattle.reservation_stations.specs.Mask.{is_index}
+use Rattle.reservation_stations.specs.Waits.{waits_on}
 use Rattle.reservation_stations.specs.Readiness.{Window, is_waiting, is_done, is_register, oldest_index, youngest_index, waiting_count}
-use Rattle.reservation_stations.specs.AreTables.{AreTables, Each, IsRow, row_at, free_row, stations_at, station_in, producer, producer_of}
-use Rattle.reservation_stations.specs.Changes.{without, Forgets, EachChanges, with_producer, producer_at}
+use Rattle.reservation_stations.specs.AreTables.{AreTables, Each, IsRow, row_at, free_row, stations_at, AreRows, station_in, producer, producer_of, awaited, among}
+use Rattle.reservation_stations.specs.Changes.{without, Releases, Leaves, EachChanges, with_producer, producer_at}
 use Rattle.reservation_stations.proofs.Indices.{Each-map, Each-both, Each-front, AreDistinct-front, reverse-cons}
 use Rattle.reservation_stations.proofs.Carried.{dropped, Changes, Carries, AreRows-carried, Carries-behind, AreRows-front}
 use Rattle.reservation_stations.proofs.Marking.{Stays, stations_at-same}
-use Rattle.reservation_stations.proofs.Kept.{seen, one, dropped_one, or_false}
-use Rattle.reservation_stations.proofs.Reading.{producer-writes}
+use Rattle.reservation_stations.proofs.Kept.{seen, one, dropped_one, or_false, and_true}
+use Rattle.reservation_stations.proofs.Reading.{producer-writes, still, awaited-still}
 
 -- the table of producers with another one of a register
 register_is : (register : ℕ) (destination : Option ℕ) → is_register register destination ≡ true → destination ≡ Some register
@@ -43,14 +46,14 @@ pub reverse-push : (indices : List ℕ) (index : ℕ) → reverse (indices ++ in
 reverse-push indices index = reverse-append indices (index ∷ [])
 
 -- cut
-cut_by : (b : Bool) (index : ℕ) (displaced older table : Option ℕ) → (b ≡ true → displaced ≡ older) → table ≡ (if b then Some index else older) →
-    (if b then displaced else table) ≡ older
-cut_by true index displaced older table back is = back refl
-cut_by false index displaced older table back is = is
+cut_by : (b : Bool) (index : ℕ) (before older table : Option ℕ) → (b ≡ true → before ≡ older) → table ≡ (if b then Some index else older) →
+    (if b then before else table) ≡ older
+cut_by true index before older table back is = back refl
+cut_by false index before older table back is = is
 
-module _ (capacity : ℕ) (front : List ℕ) (index : ℕ) (rows : List Row) (producers : List (Option ℕ)) (waiting waiting' : ℕ) where
+module _ (capacity : ℕ) (front : List ℕ) (index : ℕ) (rows : List Row) (producers : List (Option ℕ)) (waiting waiting' : ℕ) (before : Option ℕ) (is_before : before ≡ among (stations_at (row_at rows) (reverse front)) (row_at rows index).displaced) where
   AreTables-front : AreTables capacity (front ++ index ∷ []) rows producers waiting → waiting' + (if is_waiting (row_at rows index).mark then 1 else 0) ≡ waiting →
-      AreTables capacity front rows (with_producer (row_at rows index).destination (row_at rows index).displaced producers) waiting'
+      AreTables capacity front rows (with_producer (row_at rows index).destination before producers) waiting'
   AreTables-front keeps left =
       let at = row_at rows in
       let are = AreRows-front at front [] index keeps.each_row in
@@ -62,11 +65,11 @@ module _ (capacity : ℕ) (front : List ℕ) (index : ℕ) (rows : List Row) (pr
         distinct = (AreDistinct-front front index keeps.distinct).0;
         every_index = keeps.every_index;
         each_row = are.0;
-        every_register = length-with_producer mine (at index).displaced producers ∙ keeps.every_register;
+        every_register = length-with_producer mine before producers ∙ keeps.every_register;
         each_producer = λ register within.
-            get_or-with_producer mine (at index).displaced producers register (omega (arith, keeps.every_register))
-            ∙ cut_by (is_register register mine) index (at index).displaced (producer (stations_at at (reverse front)) register) (get_or producers register None)
-            (λ is. here.displaced ∙ ap (producer_of (stations_at at (reverse front))) (register_is register mine is))
+            get_or-with_producer mine before producers register (omega (arith, keeps.every_register))
+            ∙ cut_by (is_register register mine) index before (producer (stations_at at (reverse front)) register) (get_or producers register None)
+            (λ is. is_before ∙ here.displaced ∙ ap (producer_of (stations_at at (reverse front))) (register_is register mine is))
             (keeps.each_producer register within ∙ ap (λ xs. producer (stations_at at xs) register) (reverse-push front index));
         count = omega (arith, keeps.count, left, waiting_count-push at front index);
       }
@@ -104,12 +107,16 @@ module _ {capacity : ℕ} {indices : List ℕ} {rows : List Row} {producers : Li
       pub cut_counted : (if is_waiting row.mark then 1 else 0) ≤ waiting
       cut_counted = rw cut_row (omega (arith, front_keeps.count, waiting_count-push (row_at rows) (take (length indices - 1) indices) index))
 
-      pub AreTables-cut : (order : Buffer ℕ) (table : List (Option ℕ)) (waiting' : ℕ) → order ≡ buffer (take (length indices - 1) indices) capacity →
-          table ≡ with_producer row.destination row.displaced producers → waiting' + (if is_waiting row.mark then 1 else 0) ≡ waiting →
+      pub AreTables-cut : (order : Buffer ℕ) (table : List (Option ℕ)) (waiting' : ℕ) (before : Option ℕ) → order ≡ buffer (take (length indices - 1) indices) capacity →
+          before ≡ among (stations_at (row_at rows) (reverse (take (length indices - 1) indices))) row.displaced →
+          table ≡ with_producer row.destination before producers → waiting' + (if is_waiting row.mark then 1 else 0) ≡ waiting →
           AreTables order.capacity order.items rows table waiting'
-      AreTables-cut order table waiting' popped set left =
+      AreTables-cut order table waiting' before popped is_before set left =
           let left_by : waiting' + (if is_waiting (row_at rows index).mark then 1 else 0) ≡ waiting = subst (λ (e : Row). waiting' + (if is_waiting e.mark then 1 else 0) ≡ waiting) cut_row left in
-          rw (popped, set, cut_row) (AreTables-front capacity (take (length indices - 1) indices) index rows producers waiting waiting' front_keeps left_by)
+          let front = take (length indices - 1) indices in
+          let back : before ≡ among (stations_at (row_at rows) (reverse front)) (row_at rows index).displaced =
+          is_before ∙ ap (λ (e : Row). among (stations_at (row_at rows) (reverse front)) e.displaced) cut_row in
+          rw (popped, set, cut_row) (AreTables-front capacity front index rows producers waiting waiting' before back front_keeps left_by)
 
   pub seen-cut : (order : Buffer ℕ) → order ≡ buffer (take (length indices - 1) indices) capacity →
       seen order.capacity order.items rows ≡ record w { stations = take (length w.stations - 1) w.stations }
@@ -140,44 +147,108 @@ gone_oldest : (is : Bool) (index : ℕ) → None ≡ dropped (one index) (if is 
 gone_oldest true index = rw (eq-eqb index index refl) refl
 gone_oldest false index = refl
 
+among_oldest : (index : ℕ) (at : ℕ → Row) (o : Option ℕ) → among [] o ≡ dropped (one index) (among (stations_at at (index ∷ [])) o)
+among_oldest index at None = refl
+among_oldest index at (Some other) = elim (cases_eq other index) [
+  | inl same ↦ rw (eq-eqb other index same) (ap (λ b. if b then None else Some other) (sym (eq-eqb other index same)))
+  | inr differ ↦ rw (ne_eqb other index differ) refl
+]
+
+-- none waits for one that is done
+still_other : (index other : ℕ) (at : ℕ → Row) (b : Bool) → is_done (at other).mark ≡ b → is_done (at index).mark ≡ true →
+    is_index index (if b then None else Some other) ≡ false
+still_other index other at true is done = refl
+still_other index other at false is done = ne_eqb index other (λ same. let e : true ≡ false = sym done ∙ ap (λ s. is_done (at s).mark) same ∙ is in cc)
+
+still_not : (index : ℕ) (at : ℕ → Row) (o : Option ℕ) → is_done (at index).mark ≡ true → is_index index (still at o) ≡ false
+still_not index at None done = refl
+still_not index at (Some other) done = still_other index other at (is_done (at other).mark) refl done
+
+not_awaited : (index : ℕ) (at : ℕ → Row) (older : List ℕ) (source : Option ℕ) → is_done (at index).mark ≡ true →
+    is_index index (awaited (stations_at at older) source) ≡ false
+not_awaited index at older source done = ap (is_index index) (awaited-still at older source) ∙ still_not index at (producer_of (stations_at at older) source) done
+
+none_waits : (index : ℕ) (at : ℕ → Row) (indices older : List ℕ) → AreRows at older indices →
+    Each (λ other. is_done (at index).mark ≡ true → waits_on (at other).waits index ≡ false) indices
+none_waits index at [] older are = tt
+none_waits index at (other ∷ indices) older are = (
+  λ done. are.0.waits index ∙ (λ i. not_awaited index at older (at other).first done i || not_awaited index at older (at other).second done i),
+  none_waits index at indices (other ∷ older) are.1,
+)
+
+released_same : (index : ℕ) (row : Row) → waits_on row.waits index ≡ false → (other : ℕ) → waits_on row.waits other ≡ (waits_on row.waits other && not (other == index))
+released_same index row none other = elim (cases_eq other index) [
+  | inl same ↦
+      let off : waits_on row.waits other ≡ false = ap (waits_on row.waits) same ∙ none in
+      off ∙ ap (λ b. b && not (other == index)) (sym off)
+  | inr differ ↦ and_true (waits_on row.waits other) ∙ ap (λ b. waits_on row.waits other && not b) (sym (ne_eqb other index differ))
+]
+
+released_by : (index : ℕ) (mark : Mark) (old new : Row) → Leaves index mark old new → (is_done mark ≡ true → waits_on old.waits index ≡ false) → Releases index old new
+released_by index mark old new left none = elim left [
+  | inl is ↦ is
+  | inr as_it_was ↦ subst (Releases index old) (sym as_it_was.1) (record { kept = refl; waits = released_same index old (none as_it_was.0) })
+]
+
+pub leaving_mark : (index : ℕ) (mark : Mark) (old new : Row) → Leaves index mark old new → new.mark ≡ old.mark
+leaving_mark index mark old new left = elim left [
+  | inl is ↦ ap (λ (e : Row). e.mark) is.kept
+  | inr as_it_was ↦ ap (λ (e : Row). e.mark) as_it_was.1
+]
+
 or_apart : (b c : Bool) → c ≡ false → b ≡ (b || c)
 or_apart b c is = or_false b ∙ ap (λ d. b || d) (sym is)
 
-module _ (capacity : ℕ) (index : ℕ) (rest : List ℕ) (old new : List Row) (producers : List (Option ℕ)) (waiting waiting' : ℕ) (keeps : AreTables capacity (index ∷ rest) old producers waiting) (each : EachChanges (Forgets index) old new) where
-  apart : Each (λ other. (other < capacity) × (other ≢ index)) rest
-  apart = Each-both (λ s. s < capacity) (λ s. s ≢ index) rest keeps.within.1 keeps.distinct.0
+module _ (capacity : ℕ) (index : ℕ) (rest : List ℕ) (old new : List Row) (producers : List (Option ℕ)) (waiting waiting' : ℕ) (keeps : AreTables capacity (index ∷ rest) old producers waiting) (each : EachChanges (Leaves index (row_at old index).mark) old new) where
+  abbrev IsReleased : ℕ → Type 0
+  IsReleased other = Releases index (row_at old other) (row_at new other)
 
-  Stays-behind : (other : ℕ) → (other < capacity) × (other ≢ index) → Stays (row_at old) (row_at new) other
+  IsReleased-behind : (other : ℕ) → (other < capacity) × (is_done (row_at old index).mark ≡ true → waits_on (row_at old other).waits index ≡ false) → IsReleased other
+  IsReleased-behind other h =
+      released_by index (row_at old index).mark (row_at old other) (row_at new other) (each.each_row other (omega (arith, h.0, keeps.every_index))) h.1
+
+  each_released : Each IsReleased rest
+  each_released =
+      let NoWait : ℕ → Type 0 = λ other. is_done (row_at old index).mark ≡ true → waits_on (row_at old other).waits index ≡ false in
+      Each-map (λ other. (other < capacity) × NoWait other) IsReleased IsReleased-behind rest
+      (Each-both (λ s. s < capacity) NoWait rest keeps.within.1 (none_waits index (row_at old) rest (index ∷ []) keeps.each_row.1))
+
+  abbrev IsBehind : ℕ → Type 0
+  IsBehind other = (other ≢ index) × IsReleased other
+
+  apart : Each IsBehind rest
+  apart = Each-both (λ s. s ≢ index) IsReleased rest keeps.distinct.0 each_released
+
+  Stays-behind : (other : ℕ) → IsBehind other → Stays (row_at old) (row_at new) other
   Stays-behind other h =
-      let f = each.each_row other (omega (arith, h.0, keeps.every_index)) in
       record {
-        first = ap (λ (e : Row). e.first) f.kept;
-        second = ap (λ (e : Row). e.second) f.kept;
-        destination = ap (λ (e : Row). e.destination) f.kept;
-        mark = ap (λ (e : Row). e.mark) f.kept;
+        first = ap (λ (e : Row). e.first) h.1.kept;
+        second = ap (λ (e : Row). e.second) h.1.kept;
+        destination = ap (λ (e : Row). e.destination) h.1.kept;
+        mark = ap (λ (e : Row). e.mark) h.1.kept;
       }
 
-  Changes-behind : (other : ℕ) → (other < capacity) × (other ≢ index) → Changes (row_at old) (row_at new) (one index) (one index) other
+  Changes-behind : (other : ℕ) → IsBehind other → Changes (row_at old) (row_at new) (one index) (one index) other
   Changes-behind other h =
-      let f = each.each_row other (omega (arith, h.0, keeps.every_index)) in
       let s = Stays-behind other h in
       record {
         first = s.first;
         second = s.second;
         destination = s.destination;
-        done = ap is_done s.mark ∙ or_apart (is_done (row_at old other).mark) (other == index) (ne_eqb other index h.1);
-        stays = ne_eqb other index h.1;
-        displaced = f.displaced ∙ sym (dropped_one index (row_at old other).displaced);
-        waits = f.waits;
+        done = ap is_done s.mark ∙ or_apart (is_done (row_at old other).mark) (other == index) (ne_eqb other index h.0);
+        stays = ne_eqb other index h.0;
+        displaced = ap (λ (e : Row). e.displaced) h.1.kept;
+        waits = h.1.waits;
       }
 
   each_behind : Each (Changes (row_at old) (row_at new) (one index) (one index)) rest
-  each_behind = Each-map (λ other. (other < capacity) × (other ≢ index)) (Changes (row_at old) (row_at new) (one index) (one index)) Changes-behind rest apart
+  each_behind = Each-map IsBehind (Changes (row_at old) (row_at new) (one index) (one index)) Changes-behind rest apart
 
   Carries-oldest : Carries (row_at old) (row_at new) (one index) (one index) (index ∷ []) []
   Carries-oldest = record {
     unfinished = λ register. lost_oldest (is_register register (row_at old index).destination) (is_done (row_at old index).mark) index;
     producer = λ register. gone_oldest (is_register register (row_at old index).destination) index;
+    among = among_oldest index (row_at old);
   }
 
   all_behind : Carries (row_at old) (row_at new) (one index) (one index) (reverse rest ++ index ∷ []) (reverse rest ++ [])
@@ -203,7 +274,7 @@ module _ (capacity : ℕ) (index : ℕ) (rest : List ℕ) (old new : List Row) (
   stations_behind : stations_at (row_at new) rest ≡ stations_at (row_at old) rest
   stations_behind =
       stations_at-same (row_at old) (row_at new) rest
-      (Each-map (λ other. (other < capacity) × (other ≢ index)) (Stays (row_at old) (row_at new)) Stays-behind rest apart)
+      (Each-map IsBehind (Stays (row_at old) (row_at new)) Stays-behind rest apart)
 
   AreTables-rest : waiting' + (if is_waiting (row_at old index).mark then 1 else 0) ≡ waiting →
       AreTables capacity rest new (with_producer (row_at old index).destination (without index (producer_at producers (row_at old index).destination)) producers) waiting'
@@ -250,14 +321,14 @@ module _ {capacity : ℕ} {indices : List ℕ} {rows : List Row} {producers : Li
     retire_counted = rw retired_row (omega (arith, first_keeps.count))
 
     pub AreTables-retired : (order : Buffer ℕ) (new : List Row) (table : List (Option ℕ)) (waiting' : ℕ) → order ≡ buffer (drop 1 indices) capacity →
-        EachChanges (Forgets index) rows new →
+        EachChanges (Leaves index (row_at rows index).mark) rows new →
         table ≡ with_producer row.destination (without index (producer_at producers row.destination)) producers →
         waiting' + (if is_waiting row.mark then 1 else 0) ≡ waiting → AreTables order.capacity order.items new table waiting'
     AreTables-retired order new table waiting' popped each dropped left =
         let left_by : waiting' + (if is_waiting (row_at rows index).mark then 1 else 0) ≡ waiting = subst (λ (e : Row). waiting' + (if is_waiting e.mark then 1 else 0) ≡ waiting) retired_row left in
         rw (popped, dropped, retired_row) (AreTables-rest capacity index (drop 1 indices) rows new producers waiting waiting' first_keeps each left_by)
 
-  pub seen-retired : (order : Buffer ℕ) (new : List Row) → order ≡ buffer (drop 1 indices) capacity → EachChanges (Forgets index) rows new →
+  pub seen-retired : (order : Buffer ℕ) (new : List Row) → order ≡ buffer (drop 1 indices) capacity → EachChanges (Leaves index (row_at rows index).mark) rows new →
       seen order.capacity order.items new ≡ record w { stations = drop 1 w.stations }
   seen-retired order new popped each =
       ap (λ (o : Buffer ℕ). seen o.capacity o.items new) popped

@@ -1,5 +1,5 @@
 -- Which rows depend on an index: those that are passed over don't know it, and changes keep the others covered.
-use Rattle.std.proofs.Common.{◌≡◌, ◌≢◌, ◌⊎◌, ℕ, ◌+◌, ◌<◌, ◌≤◌, ◌==◌, ◌||◌, ◌&&◌, not, Bool, true, false, if◌then◌else◌, Option, Some, None, List, length, get_or, refl, ap, sym, ◌∙◌, subst, inl, inr, arith, eq-eqb}
+use Rattle.std.proofs.Common.{◌≡◌, ◌≢◌, ◌⊎◌, ℕ, ◌+◌, ◌<◌, ◌≤◌, ◌==◌, ◌||◌, ◌&&◌, not, Bool, true, false, Option, Some, None, List, length, get_or, refl, ap, sym, ◌∙◌, subst, inl, inr, arith, eq-eqb}
 use Rattle.std.specs.Prelude.{slice_set}
 use Rattle.std.proofs.lemmas.Bool.{cases_eq, cases_lt, ne_eqb, eqb-true}
 use Rattle.std.proofs.lemmas.Option.{same_Some}
@@ -7,14 +7,12 @@ use Rattle.std.proofs.lemmas.List.{length-set, get_or-set_same, get_or-set_other
 use Rattle.reservation_stations.specs.declared.mask.Mask.{Mask}
 use Rattle.reservation_stations.specs.declared.station.Mark.{Mark}
 use Rattle.reservation_stations.specs.declared.row.Row.{Row}
-use Rattle.reservation_stations.specs.declared.row.News.{News}
-use Rattle.reservation_stations.specs.declared.row.News.TheVariants.{HasValue, Retires}
 use Rattle.reservation_stations.specs.Mask.{holds, is_index}
 use Rattle.reservation_stations.specs.declared.waits.Waits.{Waits}
 use Rattle.reservation_stations.specs.Waits.{waits_on}
 use Rattle.reservation_stations.specs.AreTables.{row_at, free_row}
-use Rattle.reservation_stations.specs.Changes.{without, Releases, Forgets, Hears, EachChanges}
-use Rattle.reservation_stations.specs.Covers.{AreCovered, Notes, dependents_of, no_indices}
+use Rattle.reservation_stations.specs.Changes.{Releases, EachChanges}
+use Rattle.reservation_stations.specs.Covers.{AreCovered, Notes, Unaware, dependents_of, no_indices}
 
 -- those below a bound have changed, and the others stand as they were
 pub record PassedBelow (R : Row → Row → Type 0) (old new : List Row) (bound : ℕ) : Type 0 where
@@ -77,57 +75,32 @@ both_true : (b c : Bool) → (b && c) ≡ true → b ≡ true
 both_true true c is = refl
 both_true false c is = cc
 
--- what news of an index leaves of a row
-pub record HeardKeeps (index : ℕ) (old new : Row) : Type 0 where
+-- what is left of a row that waits no longer for an index
+pub record KeepsStanding (index : ℕ) (old new : Row) : Type 0 where
   pub mark : new.mark ≡ old.mark
   pub turn : new.turn ≡ old.turn
-  pub waits : (other : ℕ) → waits_on new.waits other ≡ (waits_on old.waits other && not (other == index))
 
-pub heard_keeps : (news : News) (index : ℕ) (old new : Row) → Hears news index old new → HeardKeeps index old new
-heard_keeps HasValue index old new is = record { mark = ap (λ (e : Row). e.mark) is.kept; turn = ap (λ (e : Row). e.turn) is.kept; waits = is.waits }
-heard_keeps Retires index old new is = record { mark = ap (λ (e : Row). e.mark) is.kept; turn = ap (λ (e : Row). e.turn) is.kept; waits = is.waits }
+pub released_keeps : (index : ℕ) (old new : Row) → Releases index old new → KeepsStanding index old new
+released_keeps index old new is = record { mark = ap (λ (e : Row). e.mark) is.kept; turn = ap (λ (e : Row). e.turn) is.kept }
 
--- a row that doesn't depend on an index stands as it is
-module _ (rows : List Row) (dependents : List Mask) (index : ℕ) (covers : AreCovered rows dependents) where
-  no_wait : (k : ℕ) → k < length rows → holds (dependents_of dependents index) k ≡ false → (other : ℕ) → waits_on (row_at rows k).waits other ≡ (waits_on (row_at rows k).waits other && not (other == index))
+-- a row that doesn't wait for an index stands as it is
+module _ (rows : List Row) (index : ℕ) (mask : Mask) (unaware : Unaware index mask rows) where
+  no_wait : (k : ℕ) → k < length rows → holds mask k ≡ false → (other : ℕ) → waits_on (row_at rows k).waits other ≡ (waits_on (row_at rows k).waits other && not (other == index))
   no_wait k within none other = and_not (waits_on (row_at rows k).waits other) (other == index) (λ waits. elim (cases_eq other index) [
     | inl same ↦
-        let noted : holds (dependents_of dependents index) k ≡ true = covers.waits k index within (rw same at waits) in
-        let e : true ≡ false = sym noted ∙ none in cc
+        let here : waits_on (row_at rows k).waits index ≡ true = rw same at waits in
+        let e : true ≡ false = sym here ∙ unaware k within none in cc
     | inr apart ↦ ne_eqb other index apart
   ])
 
-  not_displaced : (o : Option ℕ) → (o ≡ Some index → ⊥) → o ≡ without index o
-  not_displaced None apart = refl
-  not_displaced (Some other) apart = elim (cases_eq other index) [
-    | inl same ↦ absurd (apart (ap Some same))
-    | inr differ ↦ ap (λ b. if b then None else Some other) (sym (ne_eqb other index differ))
-  ]
-
-  pub still_released : (k : ℕ) → k < length rows → holds (dependents_of dependents index) k ≡ false → Releases index (row_at rows k) (row_at rows k)
+  pub still_released : (k : ℕ) → k < length rows → holds mask k ≡ false → Releases index (row_at rows k) (row_at rows k)
   still_released k within none = record { kept = refl; waits = no_wait k within none }
 
-  pub still_forgotten : (k : ℕ) → k < length rows → holds (dependents_of dependents index) k ≡ false → Forgets index (row_at rows k) (row_at rows k)
-  still_forgotten k within none = record {
-    kept = refl;
-    waits = no_wait k within none;
-    displaced = not_displaced (row_at rows k).displaced (λ is. let e : true ≡ false = sym (covers.displaced k index within is) ∙ none in cc);
-  }
+not_so : (b : Bool) → (b ≡ true → ⊥) → b ≡ false
+not_so true never = absurd (never refl)
+not_so false never = refl
 
-  pub covered_released : (new : List Row) → EachChanges (Releases index) rows new → AreCovered new dependents
-  covered_released new each = record {
-    every_index = covers.every_index ∙ sym each.every_index;
-    within = λ other k is. omega (arith, covers.within other k is, each.every_index);
-    waits = λ k other within is.
-        let inside : k < length rows = omega (arith, within, each.every_index) in
-        let e = each.each_row k inside in
-        covers.waits k other inside (both_true (waits_on (row_at rows k).waits other) (not (other == index)) (sym (e.waits other) ∙ is));
-    displaced = λ k other within is.
-        let inside : k < length rows = omega (arith, within, each.every_index) in
-        let e = each.each_row k inside in
-        covers.displaced k other inside (sym (ap (λ (x : Row). x.displaced) e.kept) ∙ is);
-  }
-
+module _ (rows : List Row) (dependents : List Mask) (index : ℕ) (covers : AreCovered rows dependents) where
   -- those in the mask that was read
   module _ (mask : Mask) (read : mask ≡ get_or dependents index mask) (inside_index : index < length rows) where
     is_mask : mask ≡ dependents_of dependents index
@@ -136,29 +109,18 @@ module _ (rows : List Row) (dependents : List Mask) (index : ℕ) (covers : AreC
     pub known_within : (place : ℕ) → holds mask place ≡ true → place < length rows
     known_within place is = covers.within index place (ap (λ (m : Mask). holds m place) (sym is_mask) ∙ is)
 
-    pub mask_heard : (news : News) (k : ℕ) → k < length rows → holds mask k ≡ false → Hears news index (row_at rows k) (row_at rows k)
-    mask_heard HasValue k within none = still_released k within (ap (λ (m : Mask). holds m k) (sym is_mask) ∙ none)
-    mask_heard Retires k within none = still_forgotten k within (ap (λ (m : Mask). holds m k) (sym is_mask) ∙ none)
+    pub mask_unaware : Unaware index mask rows
+    mask_unaware k within none = not_so (waits_on (row_at rows k).waits index) (λ is.
+        let noted : holds mask k ≡ true = ap (λ (m : Mask). holds m k) is_mask ∙ covers.waits k index within is in
+        let e : true ≡ false = sym noted ∙ none in cc)
 
   not_itself : (b : Bool) → (b && not (index == index)) ≡ false
   not_itself true = rw (eq-eqb index index refl) refl
   not_itself false = refl
 
-  is_other : (o : Option ℕ) (other : ℕ) → without index o ≡ Some other → (o ≡ Some other) × (other ≢ index)
-  is_other None other is = absurd cc
-  is_other (Some k) other is = elim (cases_eq k index) [
-    | inl same ↦
-        let is_none : (if k == index then None else Some k) ≡ Some other = is in
-        let e : None ≡ Some other = rw (eq-eqb k index same) at is_none in absurd cc
-    | inr differ ↦
-        let is_some : (if k == index then None else Some k) ≡ Some other = is in
-        let e : Some k ≡ Some other = rw (ne_eqb k index differ) at is_some in
-        (e, λ same. differ (same_Some k other e ∙ same))
-  ]
-
-  -- the dependents of an index that is forgotten are none
-  pub covered_forgotten : (new : List Row) (none : Mask) → index < length rows → EachChanges (Forgets index) rows new → ((k : ℕ) → holds none k ≡ false) → AreCovered new (slice_set dependents index none)
-  covered_forgotten new none inside_index each empty =
+  -- the dependents of an index that none waits for any longer are none
+  pub covered_told : (new : List Row) (none : Mask) → index < length rows → EachChanges (Releases index) rows new → ((k : ℕ) → holds none k ≡ false) → AreCovered new (slice_set dependents index none)
+  covered_told new none inside_index each empty =
       let there : index < length dependents = omega (arith, inside_index, covers.every_index) in
       let kept : (other : ℕ) → other ≢ index → dependents_of (slice_set dependents index none) other ≡ dependents_of dependents other = λ other apart. get_or-set_other dependents index other none no_indices apart in
       let mine : dependents_of (slice_set dependents index none) index ≡ none = get_or-set_same dependents index none no_indices there in
@@ -179,11 +141,6 @@ module _ (rows : List Row) (dependents : List Mask) (index : ℕ) (covers : AreC
                   let f : true ≡ false = sym was_here ∙ not_itself (waits_on (row_at rows k).waits index) in cc
               | inr apart ↦ ap (λ (m : Mask). holds m k) (kept other apart) ∙ covers.waits k other inside (both_true (waits_on (row_at rows k).waits other) (not (other == index)) was)
             ];
-        displaced = λ k other within is.
-            let inside : k < length rows = omega (arith, within, each.every_index) in
-            let e = each.each_row k inside in
-            let was = is_other (row_at rows k).displaced other (sym e.displaced ∙ is) in
-            ap (λ (m : Mask). holds m k) (kept other was.1) ∙ covers.displaced k other inside was.0;
       }
 
   -- another mark
@@ -196,16 +153,11 @@ module _ (rows : List Row) (dependents : List Mask) (index : ℕ) (covers : AreC
         | inl same ↦ rw same (ap (λ (e : Row). e.waits) mine ∙ ap (λ (e : Row). e.waits) it)
         | inr apart ↦ ap (λ (e : Row). e.waits) (other_row k apart)
       ] in
-      let same_displaced : (k : ℕ) → (row_at (slice_set rows index (record row { mark = mark })) k).displaced ≡ (row_at rows k).displaced = λ k. elim (cases_eq k index) [
-        | inl same ↦ rw same (ap (λ (e : Row). e.displaced) mine ∙ ap (λ (e : Row). e.displaced) it)
-        | inr apart ↦ ap (λ (e : Row). e.displaced) (other_row k apart)
-      ] in
       let long = length-set rows index (record row { mark = mark }) in
       record {
         every_index = covers.every_index ∙ sym long;
         within = λ other k is. omega (arith, covers.within other k is, long);
         waits = λ k other within is. covers.waits k other (omega (arith, within, long)) (ap (λ (m : Waits). waits_on m other) (sym (same_waits k)) ∙ is);
-        displaced = λ k other within is. covers.displaced k other (omega (arith, within, long)) (sym (same_displaced k) ∙ is);
       }
 
 is_some_index : (k : ℕ) (o : Option ℕ) → is_index k o ≡ true → o ≡ Some k
@@ -220,36 +172,30 @@ noted_at : (index : ℕ) (o : Option ℕ) (other : ℕ) (old new : List Mask) �
 noted_at index None other old new notes is = absurd cc
 noted_at index (Some k) other old new notes is = subst (λ m. holds (dependents_of new m) index ≡ true) (same_Some k other is) notes.noted
 
--- a row that waits for those two, and displaced that one
-pub covered_entered : (rows : List Row) (d0 d1 d2 d3 : List Mask) (index : ℕ) (first second displaced : Option ℕ) (row : Row) → AreCovered rows d0 →
-    Notes index first d0 d1 → Notes index second d1 d2 → Notes index displaced d2 d3 → index < length rows →
-    ((k : ℕ) → waits_on row.waits k ≡ (is_index k first || is_index k second)) → row.displaced ≡ displaced → AreCovered (slice_set rows index row) d3
-covered_entered rows d0 d1 d2 d3 index first second displaced row covers one two three inside waits displaces =
+-- a row that waits for those two
+pub covered_entered : (rows : List Row) (d0 d1 d2 : List Mask) (index : ℕ) (first second : Option ℕ) (row : Row) → AreCovered rows d0 →
+    Notes index first d0 d1 → Notes index second d1 d2 → index < length rows →
+    ((k : ℕ) → waits_on row.waits k ≡ (is_index k first || is_index k second)) → AreCovered (slice_set rows index row) d2
+covered_entered rows d0 d1 d2 index first second row covers one two inside waits =
     let other_row : (k : ℕ) → k ≢ index → row_at (slice_set rows index row) k ≡ row_at rows k = λ k apart. get_or-set_other rows index k row free_row apart in
     let mine : row_at (slice_set rows index row) index ≡ row = get_or-set_same rows index row free_row inside in
     let long = length-set rows index row in
-    let grows : (other k : ℕ) → holds (dependents_of d0 other) k ≡ true → holds (dependents_of d3 other) k ≡ true = λ other k is. three.kept other k (two.kept other k (one.kept other k is)) in
+    let grows : (other k : ℕ) → holds (dependents_of d0 other) k ≡ true → holds (dependents_of d2 other) k ≡ true = λ other k is. two.kept other k (one.kept other k is) in
     record {
-      every_index = three.every_index ∙ two.every_index ∙ one.every_index ∙ covers.every_index ∙ sym long;
+      every_index = two.every_index ∙ one.every_index ∙ covers.every_index ∙ sym long;
       within = λ other k is. elim (cases_eq k index) [
         | inl same ↦ omega (arith, same, inside, long)
-        | inr apart ↦ omega (arith, covers.within other k (one.alone other k apart (two.alone other k apart (three.alone other k apart is))), long)
+        | inr apart ↦ omega (arith, covers.within other k (one.alone other k apart (two.alone other k apart is)), long)
       ];
       waits = λ k other within is. elim (cases_eq k index) [
         | inl same ↦
             let here : waits_on (row_at (slice_set rows index row) index).waits other ≡ true = rw same at is in
             let any : (is_index other first || is_index other second) ≡ true = sym (waits other) ∙ ap (λ (e : Row). waits_on e.waits other) (sym mine) ∙ here in
             rw same (elim (either_is (is_index other first) (is_index other second) any) [
-              | inl is_first ↦ three.kept other index (two.kept other index (noted_at index first other d0 d1 one (is_some_index other first is_first)))
-              | inr is_second ↦ three.kept other index (noted_at index second other d1 d2 two (is_some_index other second is_second))
+              | inl is_first ↦ two.kept other index (noted_at index first other d0 d1 one (is_some_index other first is_first))
+              | inr is_second ↦ noted_at index second other d1 d2 two (is_some_index other second is_second)
             ])
         | inr apart ↦ grows other k (covers.waits k other (omega (arith, within, long)) (ap (λ (e : Row). waits_on e.waits other) (sym (other_row k apart)) ∙ is))
-      ];
-      displaced = λ k other within is. elim (cases_eq k index) [
-        | inl same ↦
-            let here : (row_at (slice_set rows index row) index).displaced ≡ Some other = rw same at is in
-            rw same (noted_at index displaced other d2 d3 three (sym displaces ∙ ap (λ (e : Row). e.displaced) (sym mine) ∙ here))
-        | inr apart ↦ grows other k (covers.displaced k other (omega (arith, within, long)) (ap (λ (e : Row). e.displaced) (sym (other_row k apart)) ∙ is))
       ];
     }
 

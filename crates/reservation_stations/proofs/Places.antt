@@ -1,21 +1,21 @@
 -- The places of the stations that can begin and of those that execute, as the stations change.
-use Rattle.std.proofs.Common.{◌≡◌, ◌≢◌, ◌↔◌, ◌⊎◌, ℕ, zero, suc, ◌+◌, ◌-◌, ◌%◌, ◌<◌, ◌≤◌, ◌==◌, ◌&&◌, ◌||◌, not, Bool, true, false, Option, Some, None, IfNone, List, [], ◌∷◌, ◌++◌, length, refl, ap, sym, ◌∙◌, subst, inl, inr, arith, eq-eqb, length-append}
+use Rattle.std.proofs.Common.{◌≡◌, ◌≢◌, ◌↔◌, ◌⊎◌, ℕ, zero, suc, ◌+◌, ◌-◌, ◌%◌, ◌<◌, ◌≤◌, ◌==◌, ◌&&◌, ◌||◌, not, Bool, true, false, if◌then◌else◌, Option, Some, None, IfNone, List, [], ◌∷◌, ◌++◌, length, reverse, refl, ap, sym, ◌∙◌, subst, inl, inr, arith, eq-eqb, length-append}
 use Rattle.std.specs.Prelude.{slice_get, slice_set, replicate}
-use Rattle.std.proofs.lemmas.Bool.{cases_eq, cases_lt, ne_eqb}
+use Rattle.std.proofs.lemmas.Bool.{cases_eq, cases_lt, ne_eqb, eqb-true}
 use Rattle.std.proofs.lemmas.Option.{same_Some, slice_get_within}
 use Rattle.std.proofs.lemmas.List.{get_or-set_same, get_or-set_other, get_or-replicate, get_or_past, length-replicate}
 use Rattle.reservation_stations.specs.declared.station.Mark.{Mark}
 use Rattle.reservation_stations.specs.declared.station.Mark.TheVariants.{Waiting, Issued, Done}
 use Rattle.reservation_stations.specs.declared.mask.Mask.{Mask}
 use Rattle.reservation_stations.specs.declared.row.Row.{Row}
-use Rattle.reservation_stations.specs.Mask.{holds}
+use Rattle.reservation_stations.specs.Mask.{holds, is_index}
 use Rattle.reservation_stations.specs.Waits.{waits_on}
 use Rattle.reservation_stations.specs.Readiness.{is_waiting, is_issued, mark_of}
-use Rattle.reservation_stations.specs.AreTables.{AreTables, Each, row_at, free_row, stations_at}
+use Rattle.reservation_stations.specs.AreTables.{AreTables, Each, row_at, free_row, stations_at, is_among, among}
 use Rattle.reservation_stations.specs.Covers.{AreCovered, dependents_of, depends, no_indices}
 use Rattle.reservation_stations.specs.Changes.{EachChanges}
-use Rattle.reservation_stations.specs.Places.{place_in, IsReady, IsIssued, AreTurned, HoldsPlaces, ArePlaced, KeepsReady, NotesReady}
-use Rattle.reservation_stations.proofs.Indices.{Each-front, Each-push}
+use Rattle.reservation_stations.specs.Places.{place_in, IsReady, IsIssued, AreTurned, HoldsPlaces, ArePlaced, KeepsReady, NotesReady, standing}
+use Rattle.reservation_stations.proofs.Indices.{Each-front, Each-push, reverse-cons}
 use Rattle.reservation_stations.proofs.Bits.{none_from_zeros}
 use Rattle.reservation_stations.proofs.Marking.{mark_of-held}
 
@@ -330,6 +330,70 @@ cut_placed retired index place front rows ready executing ready' executing' row 
       executes = holds_front IsIssued executing executing' placed.executes executing_is;
     }
 
+-- the station that has an index is at the place of its turn, or there is none
+or_grouped : (b c d : Bool) → (b || (c || d)) ≡ ((b || c) || d)
+or_grouped true c d = refl
+or_grouped false c d = refl
+
+or_swapped : (b c : Bool) → (c || (b || false)) ≡ (b || c)
+or_swapped true true = refl
+or_swapped true false = refl
+or_swapped false true = refl
+or_swapped false false = refl
+
+true_right : (b c : Bool) → c ≡ true → (b || c) ≡ true
+true_right true c is = refl
+true_right false c is = is
+
+is_held : (o : Option ℕ) (index : ℕ) → is_index index o ≡ true → o ≡ Some index
+is_held None index is = absurd cc
+is_held (Some other) index is = ap Some (sym (eqb-true index other is))
+
+module _ (at : ℕ → Row) (index : ℕ) where
+  is_among-append : (xs ys : List ℕ) → is_among index (stations_at at (xs ++ ys)) ≡ (is_among index (stations_at at xs) || is_among index (stations_at at ys))
+  is_among-append [] ys = refl
+  is_among-append (other ∷ xs) ys =
+      ap (λ b. (index == other) || b) (is_among-append xs ys)
+      ∙ or_grouped (index == other) (is_among index (stations_at at xs)) (is_among index (stations_at at ys))
+
+  is_among-reverse : (xs : List ℕ) → is_among index (stations_at at (reverse xs)) ≡ is_among index (stations_at at xs)
+  is_among-reverse [] = refl
+  is_among-reverse (other ∷ xs) =
+      ap (λ ys. is_among index (stations_at at ys)) (reverse-cons other xs)
+      ∙ is_among-append (reverse xs) (other ∷ [])
+      ∙ ap (λ b. b || ((index == other) || false)) (is_among-reverse xs)
+      ∙ or_swapped (index == other) (is_among index (stations_at at xs))
+
+  is_among-there : (xs : List ℕ) (place : ℕ) → slice_get xs place ≡ Some index → is_among index (stations_at at xs) ≡ true
+  is_among-there [] place there = absurd cc
+  is_among-there (other ∷ xs) zero there = ap (λ b. b || is_among index (stations_at at xs)) (eq-eqb index other (sym (same_Some other index there)))
+  is_among-there (other ∷ xs) (suc place) there = true_right (index == other) (is_among index (stations_at at xs)) (is_among-there xs place there)
+
+  is_among-absent : (xs : List ℕ) → Each (λ other. other ≢ index) xs → is_among index (stations_at at xs) ≡ false
+  is_among-absent [] absent = refl
+  is_among-absent (other ∷ xs) absent =
+      ap (λ b. b || is_among index (stations_at at xs)) (ne_eqb index other (λ same. absent.0 (sym same))) ∙ is_among-absent xs absent.1
+
+standing_among : (retired : ℕ) (indices : List ℕ) (rows : List Row) → ((place index : ℕ) → slice_get indices place ≡ Some index → place_in retired (row_at rows index) ≡ place) →
+    (o : Option ℕ) → standing retired indices rows o ≡ among (stations_at (row_at rows) (reverse indices)) o
+standing_among retired indices rows places None = refl
+standing_among retired indices rows places (Some index) =
+    let held = is_index index (slice_get indices (place_in retired (row_at rows index))) in
+    let at = row_at rows in
+    ap (λ b. if b then Some index else None) (elim (find_place indices index) [
+      | inl found ↦
+          let here : held ≡ true = ap (λ p. is_index index (slice_get indices p)) (places found.0 index found.1) ∙ ap (is_index index) found.1 ∙ eq-eqb index index refl in
+          here ∙ sym (is_among-reverse at index indices ∙ is_among-there at index indices found.0 found.1)
+      | inr absent ↦
+          let none : held ≡ false = not_true held (λ is. not_absent indices (place_in retired (row_at rows index)) index (is_held (slice_get indices (place_in retired (row_at rows index))) index is) absent) in
+          none ∙ sym (is_among-reverse at index indices ∙ is_among-absent at index indices absent)
+    ])
+
+pub standing_front : (retired index : ℕ) (front : List ℕ) (rows : List Row) (ready executing : Mask) → ArePlaced retired (front ++ index ∷ []) rows ready executing →
+    (o : Option ℕ) → standing retired front rows o ≡ among (stations_at (row_at rows) (reverse front)) o
+standing_front retired index front rows ready executing placed o =
+    standing_among retired front rows (λ p s there. placed.turned.places p s (front_at front index p s there)) o
+
 -- a station enters behind the others
 pushed_at : (indices : List ℕ) (index p s : ℕ) → slice_get (indices ++ index ∷ []) p ≡ Some s → (slice_get indices p ≡ Some s) ⊎ ((p ≡ length indices) × (s ≡ index))
 pushed_at [] index zero s there = inr (refl, sym (same_Some index s there))
@@ -439,15 +503,12 @@ depends_none n other index mask empty = elim (mask_of n other mask) [
   | inr is ↦ ap (λ (m : Mask). holds m index) is ∙ none_from_zeros no_indices.words (λ k within. get_or-replicate 4 k 0 0 within) refl index
 ]
 
-pub covers_none : (capacity : ℕ) (row : Row) (mask : Mask) → row.displaced ≡ None → ((k : ℕ) → waits_on row.waits k ≡ false) → ((k : ℕ) → holds mask k ≡ false) →
+pub covers_none : (capacity : ℕ) (row : Row) (mask : Mask) → ((k : ℕ) → waits_on row.waits k ≡ false) → ((k : ℕ) → holds mask k ≡ false) →
     AreCovered (replicate capacity row) (replicate capacity mask)
-covers_none capacity row mask displaced waits empty = record {
+covers_none capacity row mask waits empty = record {
   every_index = length-replicate capacity mask ∙ sym (length-replicate capacity row);
   within = λ other index is. absurd (let off = depends_none capacity other index mask empty in cc);
   waits = λ index other inside is. absurd (
       let its : row_at (replicate capacity row) index ≡ row = get_or-replicate capacity index row free_row (omega (arith, inside, length-replicate capacity row)) in
       let off = ap (λ (e : Row). waits_on e.waits other) its ∙ waits other in cc);
-  displaced = λ index other inside is. absurd (
-      let its : row_at (replicate capacity row) index ≡ row = get_or-replicate capacity index row free_row (omega (arith, inside, length-replicate capacity row)) in
-      let off = ap (λ (e : Row). e.displaced) its ∙ displaced in cc);
 }

@@ -1,6 +1,6 @@
 -- What the tables of the stations stand for: the indices from the oldest to the youngest, a row for each index, and for
 -- each register the index of its producer.
-use Rattle.std.specs.Prelude.{◌≡◌, ◌≢◌, ℕ, ◌<◌, ◌≤◌, ◌||◌, if◌then◌else◌, Option, Some, None, List, [], ◌∷◌, length, map, reverse, get_or}
+use Rattle.std.specs.Prelude.{◌≡◌, ◌≢◌, ℕ, ◌<◌, ◌≤◌, ◌==◌, ◌||◌, Bool, false, if◌then◌else◌, Option, Some, None, List, [], ◌∷◌, length, map, reverse, get_or}
 use Rattle.reservation_stations.specs.declared.station.Mark.TheVariants.{Done}
 use Rattle.reservation_stations.specs.declared.station.Station.{Station}
 use Rattle.reservation_stations.specs.declared.row.Row.{Row}
@@ -55,10 +55,19 @@ abbrev pub awaited : List Station → Option ℕ → Option ℕ
 awaited older None = None
 awaited older (Some register) = unfinished older register
 
+-- an index, where one of some stations holds it
+abbrev pub is_among : ℕ → List Station → Bool
+is_among index [] = false
+is_among index (station ∷ older) = (index == station.index) || is_among index older
+
+abbrev pub among : List Station → Option ℕ → Option ℕ
+among older None = None
+among older (Some index) = if is_among index older then Some index else None
+
 -- a row beside the older stations, the youngest first
 pub record IsRow (older : List Station) (row : Row) : Type 0 where
   pub waits : (index : ℕ) → waits_on row.waits index ≡ (is_index index (awaited older row.first) || is_index index (awaited older row.second))
-  pub displaced : row.displaced ≡ producer_of older row.destination
+  pub displaced : among older row.displaced ≡ producer_of older row.destination
 
 -- the rows of some indices, the oldest first, behind older ones, the youngest first
 abbrev pub AreRows : (ℕ → Row) → List ℕ → List ℕ → Type 0

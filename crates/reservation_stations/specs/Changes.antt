@@ -1,8 +1,8 @@
 -- How single rows and the table of producers change.
-use Rattle.std.specs.Prelude.{◌≡◌, ℕ, ◌<◌, ◌&&◌, ◌==◌, not, if◌then◌else◌, Option, Some, None, List, length, slice_set, get_or}
+use Rattle.std.specs.Prelude.{◌≡◌, ◌⊎◌, ℕ, ◌<◌, ◌&&◌, ◌==◌, true, not, if◌then◌else◌, Option, Some, None, List, length, slice_set, get_or}
 use Rattle.reservation_stations.specs.declared.row.Row.{Row}
-use Rattle.reservation_stations.specs.declared.row.News.{News}
-use Rattle.reservation_stations.specs.declared.row.News.TheVariants.{HasValue, Retires}
+use Rattle.reservation_stations.specs.declared.station.Mark.{Mark}
+use Rattle.reservation_stations.specs.Readiness.{is_done}
 use Rattle.reservation_stations.specs.Waits.{waits_on}
 use Rattle.reservation_stations.specs.AreTables.{row_at}
 
@@ -16,16 +16,9 @@ pub record Releases (index : ℕ) (old new : Row) : Type 0 where
   pub kept : record new { waits = old.waits } ≡ old
   pub waits : (other : ℕ) → waits_on new.waits other ≡ (waits_on old.waits other && not (other == index))
 
--- the row knows an index no more, neither as one that it waits for nor as the one that it displaced
-pub record Forgets (index : ℕ) (old new : Row) : Type 0 where
-  pub kept : record new { waits = old.waits; displaced = old.displaced } ≡ old
-  pub waits : (other : ℕ) → waits_on new.waits other ≡ (waits_on old.waits other && not (other == index))
-  pub displaced : new.displaced ≡ without index old.displaced
-
--- what news of an index makes of a row
-abbrev pub Hears : News → ℕ → Row → Row → Type 0
-Hears HasValue = Releases
-Hears Retires = Forgets
+-- what the leaving of an index whose station has a mark makes of a row: where it is done, the row stays as it is
+abbrev pub Leaves : ℕ → Mark → Row → Row → Type 0
+Leaves index mark old new = Releases index old new ⊎ ((is_done mark ≡ true) × (new ≡ old))
 
 -- each row changes in this way
 pub record EachChanges (R : Row → Row → Type 0) (old new : List Row) : Type 0 where

@@ -1,6 +1,5 @@
--- Which rows may depend on the station of an index: at least those that wait for it and those that
--- displaced it.
-use Rattle.std.specs.Prelude.{◌≡◌, ◌≢◌, ℕ, ◌<◌, Bool, true, Option, Some, IfSome, List, [], ◌∷◌, length, get_or}
+-- Which rows may depend on the station of an index: at least those that wait for it.
+use Rattle.std.specs.Prelude.{◌≡◌, ◌≢◌, ℕ, ◌<◌, Bool, true, false, Option, IfSome, List, [], ◌∷◌, length, get_or}
 use Rattle.reservation_stations.specs.declared.mask.Mask.{Mask}
 use Rattle.reservation_stations.specs.declared.row.Row.{Row}
 use Rattle.reservation_stations.specs.Mask.{holds}
@@ -22,8 +21,11 @@ pub record AreCovered (rows : List Row) (dependents : List Mask) : Type 0 where
   pub within : (other index : ℕ) → depends dependents other index ≡ true → index < length rows
   pub waits : (index other : ℕ) → index < length rows →
       waits_on (row_at rows index).waits other ≡ true → depends dependents other index ≡ true
-  pub displaced : (index other : ℕ) → index < length rows →
-      (row_at rows index).displaced ≡ Some other → depends dependents other index ≡ true
+
+-- no row but those of a set waits for an index
+abbrev pub Unaware : ℕ → Mask → List Row → Type 0
+Unaware index knowing rows = (place : ℕ) → place < length rows → holds knowing place ≡ false →
+    waits_on (row_at rows place).waits index ≡ false
 
 -- an index is noted among those that depend on another one, if one is given, and no other is
 pub record Notes (index : ℕ) (on : Option ℕ) (old new : List Mask) : Type 0 where

@@ -1,9 +1,9 @@
 -- Where the stations stand in the list: the place of each by its turn, and the sets of the places of those that can
 -- begin and of those that execute.
-use Rattle.std.specs.Prelude.{◌≡◌, ◌≢◌, ◌↔◌, ◌⊎◌, ℕ, ◌+◌, ◌-◌, ◌%◌, ◌<◌, true, false, Some, List, length, slice_get}
+use Rattle.std.specs.Prelude.{◌≡◌, ◌≢◌, ◌↔◌, ◌⊎◌, ℕ, ◌+◌, ◌-◌, ◌%◌, ◌<◌, true, false, if◌then◌else◌, Option, Some, None, List, length, slice_get}
 use Rattle.reservation_stations.specs.declared.mask.Mask.{Mask}
 use Rattle.reservation_stations.specs.declared.row.Row.{Row}
-use Rattle.reservation_stations.specs.Mask.{holds}
+use Rattle.reservation_stations.specs.Mask.{holds, is_index}
 use Rattle.reservation_stations.specs.Waits.{waits_on}
 use Rattle.reservation_stations.specs.Readiness.{is_waiting, is_issued}
 use Rattle.reservation_stations.specs.AreTables.{Each, row_at}
@@ -11,6 +11,12 @@ use Rattle.reservation_stations.specs.AreTables.{Each, row_at}
 -- the place of a row's station, where so many retired
 abbrev pub place_in : ℕ → Row → ℕ
 place_in retired row = (row.turn + (256 - retired)) % 256
+
+-- an index, where it stands at the place of its row's turn
+abbrev pub standing : ℕ → List ℕ → List Row → Option ℕ → Option ℕ
+standing retired indices rows None = None
+standing retired indices rows (Some index) =
+    if is_index index (slice_get indices (place_in retired (row_at rows index))) then Some index else None
 
 -- it waits for nothing but a unit
 pub record IsReady (row : Row) : Type 0 where

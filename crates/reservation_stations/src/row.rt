@@ -1,15 +1,6 @@
 use crate::station::Mark;
 use crate::waits::Waits;
 
-/// What a station hears of an index that it depends on.
-#[derive(Clone, Copy, Debug, PartialEq, Eq)]
-pub enum News {
-    /// Its station's destination has a value.
-    HasValue,
-    /// Its station retires.
-    Retires,
-}
-
 /// What an index of the window keeps of the station that holds it.
 #[derive(Clone, Copy, Debug, PartialEq, Eq)]
 pub struct Row {
@@ -19,7 +10,7 @@ pub struct Row {
     pub mark: Mark,
     /// The indices that it still waits for: the producers of its sources that aren't done.
     pub waits: Waits,
-    /// The index that was its destination's producer before it, until that one retires.
+    /// The index that was its destination's producer as it entered, whose own may have retired.
     pub displaced: Option<u32>,
     /// Its place plus how many stations retired, modulo 256.
     pub turn: u8,
@@ -29,7 +20,7 @@ impl Row {
     ghost use Rattle.std.specs.Prelude.{◌≡◌, ◌↔◌, ◌+◌, ◌-◌, ◌%◌, ◌<◌, ℕ, false, IsTrue};
     ghost use Rattle.reservation_stations.specs.Waits.{waits_on};
     ghost use Rattle.reservation_stations.specs.AreTables.{free_row};
-    ghost use Rattle.reservation_stations.specs.Changes.{Releases, Forgets, Hears};
+    ghost use Rattle.reservation_stations.specs.Changes.{Releases};
     ghost use Rattle.reservation_stations.specs.Places.{IsReady, place_in};
 
     /// The row of an index that no station held yet.
@@ -70,26 +61,5 @@ impl Row {
         ensures released { Releases index self.old self.new }
     {
         self.waits.remove(index);
-    }
-
-    /// Its station waits no longer for an index whose own retires, and knows it no more as the one
-    /// that it displaced.
-    pub fn forget(&mut self, index: u32)
-        ensures forgotten { Forgets index self.old self.new }
-    {
-        self.release(index);
-        if self.displaced == Some(index) {
-            self.displaced = None;
-        }
-    }
-
-    /// Its station hears of an index.
-    pub fn hear(&mut self, index: u32, news: News)
-        ensures heard { Hears news index self.old self.new }
-    {
-        match news {
-            News::HasValue => self.release(index),
-            News::Retires => self.forget(index),
-        }
     }
 }

@@ -1,7 +1,9 @@
 use crate::mask::Mask;
-use crate::row::{News, Row};
+use crate::row::Row;
 use crate::station::Mark;
-use crate::tables::{drop_producer, note, note_ready, set_producer, tell, uncounted};
+use crate::tables::{
+    drop_producer, leave, note, note_ready, set_producer, standing, tell, uncounted,
+};
 use crate::waits::Waits;
 use circular_buffer::HeapCircularBuffer;
 use fsim_base::NoMemory;
@@ -19,7 +21,7 @@ pub struct Stations {
     order: HeapCircularBuffer<u32>,
     /// What each index keeps of the station that holds it.
     rows: Vec<Row>,
-    /// For each index, at least those whose stations wait for its own or displaced it.
+    /// For each index, at least those whose stations wait for its own.
     dependents: Vec<Mask>,
     /// The index of each register's producer, where it has one.
     producers: Vec<Option<u32>>,
@@ -144,7 +146,6 @@ impl Stations {
         let displaced = self.producer(destination);
         note(&mut self.dependents, first, index);
         note(&mut self.dependents, second, index);
-        note(&mut self.dependents, displaced, index);
         let place = self.order.len() as u8;
         let row = Row {
             first: sources.0,
@@ -205,9 +206,8 @@ impl Stations {
             tell(
                 &mut self.rows,
                 &mut self.ready,
-                &self.dependents,
+                &mut self.dependents,
                 index,
-                News::HasValue,
                 self.retired,
             );
         }
@@ -226,16 +226,14 @@ impl Stations {
             ..
         } = self.rows[index as usize];
         let _ = self.order.pop_front();
-        tell(
+        leave(
             &mut self.rows,
             &mut self.ready,
-            &self.dependents,
+            &mut self.dependents,
             index,
-            News::Retires,
             self.retired,
         );
         self.rows[index as usize].mark = Mark::Done;
-        self.dependents[index as usize] = Mask::none();
         drop_producer(&mut self.producers, destination, index);
         self.waiting = uncounted(self.waiting, mark);
         self.ready.shift();
@@ -258,10 +256,11 @@ impl Stations {
         } = self.rows[index as usize];
         let _ = self.order.pop_back();
         let place = self.order.len() as u32;
+        let before = standing(&self.order, &self.rows, displaced, self.retired);
         self.ready.remove(place);
         self.executing.remove(place);
         self.rows[index as usize].mark = Mark::Done;
-        set_producer(&mut self.producers, destination, displaced);
+        set_producer(&mut self.producers, destination, before);
         self.waiting = uncounted(self.waiting, mark);
     }
 

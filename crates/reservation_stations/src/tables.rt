@@ -1,15 +1,18 @@
 //! What changes at many rows at once, and at the producer of a register.
-ghost use Rattle.std.specs.Prelude.{◌≡◌, ◌<◌, ◌≤◌, ◌+◌, vec_len, if◌then◌else◌};
+ghost use Rattle.std.specs.Prelude.{◌≡◌, ℕ, ◌<◌, ◌≤◌, ◌+◌, true, vec_len, if◌then◌else◌};
 ghost use Rattle.std.specs.Option.{ForSome};
 ghost use Rattle.reservation_stations.specs.Readiness.{is_waiting};
-ghost use Rattle.reservation_stations.specs.Changes.{Hears, EachChanges, without};
+ghost use Rattle.reservation_stations.specs.Changes.{Leaves, Releases, EachChanges, without};
 ghost use Rattle.reservation_stations.specs.Changes.{with_producer, producer_at};
-ghost use Rattle.reservation_stations.specs.Covers.{AreCovered, Notes};
-ghost use Rattle.reservation_stations.specs.Places.{KeepsReady, NotesReady};
+ghost use Rattle.reservation_stations.specs.AreTables.{Each, row_at};
+ghost use Rattle.reservation_stations.specs.Covers.{AreCovered, Notes, Unaware};
+ghost use Rattle.reservation_stations.specs.Mask.{holds};
+ghost use Rattle.reservation_stations.specs.Places.{KeepsReady, NotesReady, standing};
 
 use crate::mask::Mask;
-use crate::row::{News, Row};
+use crate::row::Row;
 use crate::station::Mark;
+use circular_buffer::HeapCircularBuffer;
 
 /// Notes an index among those that depend on another one, if one is given.
 pub fn note(dependents: &mut Vec<Mask>, on: Option<u32>, index: u32)
@@ -22,23 +25,35 @@ pub fn note(dependents: &mut Vec<Mask>, on: Option<u32>, index: u32)
     }
 }
 
-/// Tells each row the news of an index, and puts the places of those that wait for nothing else into
-/// the ready ones, where so many stations retired before. Only those that depend on it know it.
+/// Lets no row wait for an index any longer, and puts the places of those that wait for nothing else
+/// into the ready ones, where so many stations retired before. Then none depends on it.
 pub fn tell(
     rows: &mut Vec<Row>,
     ready: &mut Mask,
-    dependents: &Vec<Mask>,
+    dependents: &mut Vec<Mask>,
     index: u32,
-    news: News,
     retired: u8,
 )
     requires within { index < vec_len rows.old }
     requires limit { vec_len rows.old ≤ 256 }
-    requires covered { AreCovered rows.old.items dependents.now.items }
-    ensures told { EachChanges (Hears news index) rows.old.items rows.new.items }
+    requires covered { AreCovered rows.old.items dependents.old.items }
+    ensures told { EachChanges (Releases index) rows.old.items rows.new.items }
     ensures ready { KeepsReady retired rows.old.items ready.old rows.new.items ready.new }
+    ensures covered { AreCovered rows.new.items dependents.new.items }
 {
     let knowing = dependents[index as usize];
+    tell_each(rows, ready, knowing, index, retired);
+    dependents[index as usize] = Mask::none();
+}
+
+/// Lets those rows of a set wait no longer for an index, which no other row knows.
+fn tell_each(rows: &mut Vec<Row>, ready: &mut Mask, knowing: Mask, index: u32, retired: u8)
+    requires limit { vec_len rows.old ≤ 256 }
+    requires within { (place : ℕ) → holds knowing place ≡ true → place < vec_len rows.old }
+    requires others { Unaware index knowing rows.old.items }
+    ensures told { EachChanges (Releases index) rows.old.items rows.new.items }
+    ensures ready { KeepsReady retired rows.old.items ready.old rows.new.items ready.new }
+{
     let indices = rows.len() as u32;
     let mut from = 0;
     while from < indices {
@@ -46,9 +61,50 @@ pub fn tell(
             return;
         };
         let row = &mut rows[dependent as usize];
-        row.hear(index, news);
+        row.release(index);
         note_ready(ready, row, retired);
         from = dependent + 1;
+    }
+}
+
+/// Lets no row wait for an index whose station leaves. Where that one is done none does, and there is
+/// nothing to tell.
+pub fn leave(
+    rows: &mut Vec<Row>,
+    ready: &mut Mask,
+    dependents: &mut Vec<Mask>,
+    index: u32,
+    retired: u8,
+)
+    requires within { index < vec_len rows.old }
+    requires limit { vec_len rows.old ≤ 256 }
+    requires covered { AreCovered rows.old.items dependents.old.items }
+    ensures told { EachChanges (Leaves index (row_at rows.old.items index).mark)
+        rows.old.items rows.new.items }
+    ensures ready { KeepsReady retired rows.old.items ready.old rows.new.items ready.new }
+    ensures covered { AreCovered rows.new.items dependents.new.items }
+{
+    if !rows[index as usize].mark.is_done() {
+        tell(rows, ready, dependents, index, retired);
+    }
+}
+
+/// An index, if one is given and its station is in the list, where so many retired. A station stands
+/// at the place of its turn, so no other place is looked at.
+pub fn standing(
+    order: &HeapCircularBuffer<u32>,
+    rows: &Vec<Row>,
+    index: Option<u32>,
+    retired: u8,
+) -> Option<u32>
+    requires within { Each (λ other. other < vec_len rows.now) order.now.items }
+    ensures standing { result ≡ standing retired order.now.items rows.now.items index }
+{
+    let index = index?;
+    let row = rows.get(index as usize)?;
+    match order.get(row.place(retired) as usize) {
+        Some(&held) if held == index => Some(index),
+        _ => None,
     }
 }
 

@@ -1,49 +1,24 @@
-use Rattle.std.proofs.Common.{◌≡◌, ◌<◌, ◌==◌, length, ap, ◌∙◌, arith}
-use Rattle.std.proofs.lemmas.List.{get_or_read}
-use Rattle.reservation_stations.specs.declared.row.Row.{Row}
-use Rattle.reservation_stations.specs.Waits.{waits_on}
-use Rattle.reservation_stations.specs.AreTables.{row_at, free_row}
-use Rattle.reservation_stations.specs.Changes.{Hears}
-use Rattle.reservation_stations.proofs.Noted.{known_within, mask_heard, heard_keeps, passed_over, passed_read, passed_all}
-use Rattle.reservation_stations.proofs.Places.{ready_noted, ready_on, fewer_held}
+use Rattle.std.proofs.Common.{◌<◌, length, arith}
+use Rattle.reservation_stations.proofs.Noted.{known_within, mask_unaware, covered_told}
 use Rattle.reservation_stations.proofs.tables.tell.Goals as goal
 
-pub returns-in_default : goal.returns-in_default
-returns-in_default c =
+pub tell_each-requires : goal.tell_each-requires
+tell_each-requires c =
     let old = c.args.rows.now.items in
+    let masks = c.args.dependents.now.items in
     let inside : c.args.index < length old = omega (arith, c.requires.within, c.args.rows.now.ok) in
-    let still = mask_heard old c.args.dependents.now.items c.args.index c.requires.covered c.index.result.now c.index.ensures inside c.args.news in
     record {
-      told = passed_all (Hears c.args.news c.args.index) c.index.result.now old still c.loop-from.rows.items c.len-indices.result
-          (passed_over (Hears c.args.news c.args.index) c.index.result.now old still c.loop-from.rows.items c.loop-from.from c.len-indices.result c.loop-from.invariant.0 (omega (arith, c.loop-from-test.true)) c.in_default.ensures.none)
-          (omega (arith, c.len-indices.ensures, c.args.rows.now.ok));
-      ready = c.loop-from.invariant.1;
+      limit = c.requires.limit;
+      within = λ place is. omega (arith, known_within old masks c.args.index c.requires.covered c.index-knowing.result.now c.index-knowing.ensures inside place is, c.args.rows.now.ok);
+      others = mask_unaware old masks c.args.index c.requires.covered c.index-knowing.result.now c.index-knowing.ensures inside;
     }
 
-pub index_mut-row-requires : goal.index_mut-row-requires
-index_mut-row-requires c =
-    let inside : c.args.index < length c.args.rows.now.items = omega (arith, c.requires.within, c.args.rows.now.ok) in
-    let within = known_within c.args.rows.now.items c.args.dependents.now.items c.args.index c.requires.covered c.index.result.now c.index.ensures inside c.in-Some.dependent c.in-Some.ensures.found in
-    omega (arith, within, c.loop-from.invariant.0.every_index, c.loop-from.rows.ok)
-
-pub loop-from-preserved : goal.loop-from-preserved
-loop-from-preserved c =
+pub returns : goal.returns
+returns c =
     let old = c.args.rows.now.items in
-    let mid = c.loop-from.rows.items in
-    let dependent = c.in-Some.dependent in
-    let row = c.hear.new.self in
     let inside : c.args.index < length old = omega (arith, c.requires.within, c.args.rows.now.ok) in
-    let still = mask_heard old c.args.dependents.now.items c.args.index c.requires.covered c.index.result.now c.index.ensures inside c.args.news in
-    let within = known_within old c.args.dependents.now.items c.args.index c.requires.covered c.index.result.now c.index.ensures inside dependent c.in-Some.ensures.found in
-    let inside_mid : dependent < length mid = omega (arith, within, c.loop-from.invariant.0.every_index) in
-    let read : c.index_mut-row.result.now ≡ row_at mid dependent = get_or_read mid dependent c.index_mut-row.result.now inside_mid c.index_mut-row.ensures.value free_row in
-    let keeps = heard_keeps c.args.news c.args.index c.index_mut-row.result.now row c.hear.ensures.heard in (
-      passed_read (Hears c.args.news c.args.index) c.index.result.now old still mid c.loop-from.from dependent c.index_mut-row.result.now row
-          c.loop-from.invariant.0 c.in-Some.ensures.behind.0 within c.in-Some.ensures.first c.index_mut-row.ensures.value c.hear.ensures.heard,
-      ready_on c.args.retired old mid _ c.args.ready.now c.loop-from.ready c.note_ready.new.ready c.loop-from.invariant.1
-          (ready_noted c.args.retired mid c.loop-from.ready c.note_ready.new.ready dependent row inside_mid
-          (keeps.turn ∙ ap (λ (e : Row). e.turn) read)
-          (keeps.mark ∙ ap (λ (e : Row). e.mark) read)
-          (λ k none. fewer_held (waits_on c.index_mut-row.result.now.waits k) (k == c.args.index) (waits_on row.waits k) (keeps.waits k) (ap (λ (e : Row). waits_on e.waits k) read ∙ none))
-          c.note_ready.ensures.noted),
-    )
+    record {
+      told = c.tell_each.ensures.told;
+      ready = c.tell_each.ensures.ready;
+      covered = covered_told old c.args.dependents.now.items c.args.index c.requires.covered c.tell_each.new.rows.items c.none.result inside c.tell_each.ensures.told c.none.ensures.none;
+    }

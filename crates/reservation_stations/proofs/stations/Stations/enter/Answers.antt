@@ -30,11 +30,10 @@ invariant_of-self c =
           c.try_push_back.ensures.variant c.try_push_back.ensures.ok c.set_producer.new.producers.items
           (λ k i. is_index k (c.awaited-first.ensures.awaited i) || is_index k (c.awaited-second.ensures.awaited i))
           c.producer-displaced.ensures.producer refl c.set_producer.ensures.set,
-      covered_entered c.self.inside.rows.items c.self.inside.dependents.items c.note.new.dependents.items c.note-2.new.dependents.items c.note-3.new.dependents.items c.args.index
-          c.awaited-first.result c.awaited-second.result c.producer-displaced.result _ c.self.invariant.1 c.note.ensures.noted c.note-2.ensures.noted c.note-3.ensures.noted
+      covered_entered c.self.inside.rows.items c.self.inside.dependents.items c.note.new.dependents.items c.note-2.new.dependents.items c.args.index
+          c.awaited-first.result c.awaited-second.result _ c.self.invariant.1 c.note.ensures.noted c.note-2.ensures.noted
           within
-          (λ k. refl)
-          refl,
+          (λ k. refl),
       rw (ap (λ (o : Buffer ℕ). o.items) pushed)
           (entered_placed c.self.inside.retired c.args.index indices c.self.inside.rows.items c.self.inside.ready c.self.inside.executing c.note_ready.new.ready _ c.self.invariant.2
           (omega arith) (omega (arith, few, c.self.invariant.0.limit)) (is_fresh c.self.invariant.0 c.self.view_is c.args.index c.requires.within c.requires.free) within refl

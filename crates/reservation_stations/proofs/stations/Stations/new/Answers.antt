@@ -12,6 +12,6 @@ invariant_of-result c =
     let none = c.in-Ok-vec-3.ensures.items_if_clones_equal (λ y is. first_of (search rules, grind (arith, common_steps))) in
     rw (c.in-Ok.ensures, items, masks, none) (
       Keeps_none c.args.capacity c.free.result c.requires.limit,
-      covers_none c.args.capacity c.free.result c.none.result (ap (λ (e : Row). e.displaced) c.free.ensures.free) (λ k. ap (λ (e : Row). waits_on e.waits k) c.free.ensures.free) c.none.ensures.none,
+      covers_none c.args.capacity c.free.result c.none.result (λ k. ap (λ (e : Row). waits_on e.waits k) c.free.ensures.free) c.none.ensures.none,
       none_placed _ c.none-2.result c.none-3.result (free_idle c.args.capacity c.free.result (ap (λ (e : Row). e.mark) c.free.ensures.free)) c.none-2.ensures.none c.none-3.ensures.none,
     )

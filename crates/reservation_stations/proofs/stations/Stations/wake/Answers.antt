@@ -8,7 +8,7 @@ use Rattle.reservation_stations.specs.AreTables.{row_at, free_row}
 use Rattle.reservation_stations.specs.Changes.{Releases}
 use Rattle.reservation_stations.specs.Places.{place_in}
 use Rattle.reservation_stations.proofs.Kept.{held_with, AreTables-marked, seen-written, AreTables-freed, seen-freed}
-use Rattle.reservation_stations.proofs.Noted.{covered_marked, covered_released}
+use Rattle.reservation_stations.proofs.Noted.{covered_marked}
 use Rattle.reservation_stations.proofs.Places.{marked_in, woken_placed, freed_placed}
 use Rattle.reservation_stations.proofs.stations.Stations.wake.Goals as goal
 
@@ -61,8 +61,7 @@ invariant_of-self-else-faulted c =
     (c.place-place.ensures.place ∙ ap (place_in c.self.inside.retired) (first ∙ sym read)) c.remove.ensures.removed
     in (
       AreTables-freed c.self.invariant.0 c.self.view_is index c.requires.issued row c.index_mut-else-faulted.ensures.value c.tell.new.rows.items c.tell.ensures.told,
-      covered_released (slice_set rows index (record row { mark = Done })) c.self.inside.dependents.items index
-          (covered_marked rows c.self.inside.dependents.items index c.self.invariant.1 row Done held.0 c.index_mut-else-faulted.ensures.value) c.tell.new.rows.items c.tell.ensures.told,
+      c.tell.ensures.covered,
       freed_placed (Releases index) (λ a b r. ap (λ (e : Row). e.mark) r.kept) c.self.inside.retired c.self.inside.order.items (slice_set rows index (record row { mark = Done }))
           c.tell.new.rows.items c.self.inside.ready c.remove.new.self c.tell.new.ready placed c.tell.ensures.told c.tell.ensures.ready,
     )
