@@ -3,7 +3,7 @@ use Rattle.std.proofs.Common.{◌≡◌, ◌≢◌, ℕ, suc, ◌+◌, ◌-◌, 
 use Rattle.std.specs.Prelude.{slice_set, bit_or, bit_and}
 use Rattle.std.specs.Int.{bit_at}
 use Rattle.std.proofs.lemmas.Bool.{cases_eq, cases_lt, ne_eqb}
-use Rattle.std.proofs.lemmas.List.{get_or-set_same, get_or-set_other, get_or_past}
+use Rattle.std.proofs.lemmas.List.{get_or-set_same, get_or-set_other, get_or_past, length-set}
 use Rattle.std.proofs.lemmas.Nat.Bits.{bit_at_set_same, bit_at_set_other, bit_at_clear_same, bit_at_clear_other, bit_at-zero, bit_at-suc, bit_at_lowest, bit_at_cat_low, bit_at_cat_high}
 
 -- whether a bit is set
@@ -149,3 +149,14 @@ each_halved words new four first second third fourth k within = elim (below_four
     | inr last_two ↦ elim last_two [ inl is ↦ rw is third | inr is ↦ rw is (fourth ∙ ap (halved (get_or words 3 0)) (sym (get_or_past words 4 0 (omega arith)))) ]
   ]
 ]
+
+-- where only the first word isn't 0, it alone changes
+pub is_set-lowered : (words : List ℕ) → length words ≡ 4 → ((k : ℕ) → get_or words k 0 < 2 ^ 64) → get_or words 1 0 ≡ 0 → get_or words 2 0 ≡ 0 → get_or words 3 0 ≡ 0 →
+    (place : ℕ) → is_set (slice_set words 0 (get_or words 0 0 / 2)) place ≡ is_set words (place + 1)
+is_set-lowered words four fits second third fourth =
+    let new = slice_set words 0 (get_or words 0 0 / 2) in
+    let first = get_or-set_same words 0 (get_or words 0 0 / 2) 0 (omega (arith, four)) in
+    let kept : (k : ℕ) → k ≢ 0 → get_or new k 0 ≡ get_or words k 0 = λ k apart. get_or-set_other words 0 k (get_or words 0 0 / 2) 0 apart in
+    is_set-shifted words new four (length-set words 0 (get_or words 0 0 / 2) ∙ four) fits
+    (each_halved words new four (omega (arith, first, second)) (omega (arith, kept 1 (λ e. omega (arith, e)), second, third))
+    (omega (arith, kept 2 (λ e. omega (arith, e)), third, fourth)) (omega (arith, kept 3 (λ e. omega (arith, e)), fourth)))

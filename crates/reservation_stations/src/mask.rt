@@ -42,6 +42,10 @@ impl Mask {
         ensures shifted { (place : ℕ) → holds self.new place ≡ holds self.old (place + 1) }
     {
         let [first, second, third, fourth] = self.words;
+        if second == 0 && third == 0 && fourth == 0 {
+            self.words[0] = first / 2;
+            return;
+        }
         self.words = [
             halved(first, second),
             halved(second, third),

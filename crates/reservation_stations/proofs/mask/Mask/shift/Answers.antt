@@ -1,6 +1,12 @@
-use Rattle.std.proofs.Common.{ℕ, List, [], ◌∷◌, rules, refl}
-use Rattle.reservation_stations.proofs.Bits.{is_set-shifted, each_halved}
+use Rattle.std.proofs.Common.{ℕ, List, [], ◌∷◌, rules, refl, arith}
+use Rattle.reservation_stations.proofs.Bits.{is_set-shifted, is_set-lowered, each_halved}
 use Rattle.reservation_stations.proofs.mask.Mask.shift.Goals as goal
+
+pub returns-then-fourth-eq0 : goal.returns-then-fourth-eq0
+returns-then-fourth-eq0 c = record {
+  shifted = is_set-lowered c.args.self.now.words (search rules) (λ k. search rules) (omega (arith, c.if-second-eq0.true)) (omega (arith, c.if-third-eq0.true))
+      (omega (arith, c.if-fourth-eq0.true));
+}
 
 pub returns : goal.returns
 returns c =
