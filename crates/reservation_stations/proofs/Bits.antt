@@ -1,5 +1,5 @@
 -- One bit of four words: set, cleared, and all of them clear.
-use Rattle.std.proofs.Common.{◌≡◌, ◌≢◌, ℕ, suc, ◌+◌, ◌-◌, ◌*◌, ◌/◌, ◌%◌, ◌^◌, min, ◌<◌, ◌==◌, ◌&&◌, ◌||◌, not, Bool, true, false, List, length, get_or, w64, inl, inr, ◌⊎◌, arith, ap, refl, sym, ◌∙◌, eq-eqb}
+use Rattle.std.proofs.Common.{◌≡◌, ◌≢◌, ℕ, suc, ◌+◌, ◌-◌, ◌*◌, ◌/◌, ◌%◌, ◌^◌, min, ◌<◌, ◌≤◌, ◌==◌, ◌&&◌, ◌||◌, not, Bool, true, false, List, ◌∷◌, length, get_or, w64, inl, inr, ◌⊎◌, arith, ap, refl, sym, ◌∙◌, eq-eqb}
 use Rattle.std.specs.Prelude.{slice_set, bit_or, bit_and}
 use Rattle.std.specs.Int.{bit_at}
 use Rattle.std.proofs.lemmas.Bool.{cases_eq, cases_lt, ne_eqb}
@@ -86,6 +86,42 @@ is_set-without words index within four other =
           ∙ and_not_true (is_set words other) (other == index) (eq-eqb other index same)
       | inr differ ↦ without_other words index other within four differ ∙ and_not_false (is_set words other) (other == index) (ne_eqb other index differ)
     ]
+
+-- the same of the first word, and of the others
+module _ (low : ℕ) (high : List ℕ) (three : length high ≡ 3) (index : ℕ) (other : ℕ) where
+  first_word : index < 64 → index / 64 ≡ 0
+  first_word below = omega (arith, below)
+
+  first_bit : index < 64 → index % 64 ≡ index
+  first_bit below = omega (arith, below)
+
+  later_word : 64 ≤ index → index / 64 ≡ suc (index / 64 - 1)
+  later_word above = omega (arith, above)
+
+  four : length (low ∷ high) ≡ 4
+  four = omega (arith, three)
+
+  pub low_with : index < 64 → is_set (bit_or low (1 * 2 ^ index % 18446744073709551616) ∷ high) other ≡ (is_set (low ∷ high) other || (other == index))
+  low_with below =
+      (λ i. is_set (slice_set (low ∷ high) (sym (first_word below) i) (bit_or (get_or (low ∷ high) (sym (first_word below) i) 0) (1 * 2 ^ (sym (first_bit below) i) % 18446744073709551616))) other)
+      ∙ is_set-with (low ∷ high) index (omega (arith, below)) four other
+
+  pub low_without : index < 64 → is_set (bit_and low (18446744073709551615 - 1 * 2 ^ index % 18446744073709551616) ∷ high) other ≡ (is_set (low ∷ high) other && not (other == index))
+  low_without below =
+      (λ i. is_set (slice_set (low ∷ high) (sym (first_word below) i) (bit_and (get_or (low ∷ high) (sym (first_word below) i) 0) (18446744073709551615 - 1 * 2 ^ (sym (first_bit below) i) % 18446744073709551616))) other)
+      ∙ is_set-without (low ∷ high) index (omega (arith, below)) four other
+
+  pub high_with : 64 ≤ index → index < 256 →
+      is_set (low ∷ slice_set high (index / 64 - 1) (bit_or (get_or high (index / 64 - 1) 0) (1 * 2 ^ (index % 64) % 18446744073709551616))) other ≡ (is_set (low ∷ high) other || (other == index))
+  high_with above within =
+      (λ i. is_set (slice_set (low ∷ high) (sym (later_word above) i) (bit_or (get_or (low ∷ high) (sym (later_word above) i) 0) (1 * 2 ^ (index % 64) % 18446744073709551616))) other)
+      ∙ is_set-with (low ∷ high) index within four other
+
+  pub high_without : 64 ≤ index → index < 256 →
+      is_set (low ∷ slice_set high (index / 64 - 1) (bit_and (get_or high (index / 64 - 1) 0) (18446744073709551615 - 1 * 2 ^ (index % 64) % 18446744073709551616))) other ≡ (is_set (low ∷ high) other && not (other == index))
+  high_without above within =
+      (λ i. is_set (slice_set (low ∷ high) (sym (later_word above) i) (bit_and (get_or (low ∷ high) (sym (later_word above) i) 0) (18446744073709551615 - 1 * 2 ^ (index % 64) % 18446744073709551616))) other)
+      ∙ is_set-without (low ∷ high) index within four other
 
 -- no bit is set exactly where each word is 0
 pub none_from_zeros : (words : List ℕ) → ((k : ℕ) → k < 4 → get_or words k 0 ≡ 0) → length words ≡ 4 → (index : ℕ) → is_set words index ≡ false

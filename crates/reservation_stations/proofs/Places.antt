@@ -8,7 +8,7 @@ use Rattle.reservation_stations.specs.declared.station.Mark.{Mark}
 use Rattle.reservation_stations.specs.declared.station.Mark.TheVariants.{Waiting, Issued, Done}
 use Rattle.reservation_stations.specs.declared.mask.Mask.{Mask}
 use Rattle.reservation_stations.specs.declared.row.Row.{Row}
-use Rattle.reservation_stations.specs.Mask.{holds, is_index}
+use Rattle.reservation_stations.specs.Mask.{holds, is_index, words_of}
 use Rattle.reservation_stations.specs.Waits.{waits_on}
 use Rattle.reservation_stations.specs.Readiness.{is_waiting, is_issued, mark_of}
 use Rattle.reservation_stations.specs.AreTables.{AreTables, Each, row_at, free_row, stations_at, is_among, among}
@@ -500,7 +500,7 @@ mask_of n index mask = elim (cases_lt index n) [
 depends_none : (n other index : ℕ) (mask : Mask) → ((k : ℕ) → holds mask k ≡ false) → depends (replicate n mask) other index ≡ false
 depends_none n other index mask empty = elim (mask_of n other mask) [
   | inl is ↦ ap (λ (m : Mask). holds m index) is ∙ empty index
-  | inr is ↦ ap (λ (m : Mask). holds m index) is ∙ none_from_zeros no_indices.words (λ k within. get_or-replicate 4 k 0 0 within) refl index
+  | inr is ↦ ap (λ (m : Mask). holds m index) is ∙ none_from_zeros (words_of no_indices) (λ k within. get_or-replicate 4 k 0 0 within) refl index
 ]
 
 pub covers_none : (capacity : ℕ) (row : Row) (mask : Mask) → ((k : ℕ) → waits_on row.waits k ≡ false) → ((k : ℕ) → holds mask k ≡ false) →

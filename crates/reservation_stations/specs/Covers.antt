@@ -7,7 +7,7 @@ use Rattle.reservation_stations.specs.Waits.{waits_on}
 use Rattle.reservation_stations.specs.AreTables.{row_at}
 
 abbrev pub no_indices : Mask
-no_indices = record { words = 0 ∷ 0 ∷ 0 ∷ 0 ∷ [] }
+no_indices = record { low = 0; high = 0 ∷ 0 ∷ 0 ∷ [] }
 
 abbrev pub dependents_of : List Mask → ℕ → Mask
 dependents_of dependents index = get_or dependents index no_indices

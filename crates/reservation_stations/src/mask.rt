@@ -1,14 +1,18 @@
-//! A set of indices, or of places, in four words.
+//! A set of indices, or of places, in four words, the first apart from the others.
 ghost use Rattle.std.specs.Prelude.{◌≡◌, ◌+◌, ◌/◌, ◌%◌, ◌*◌, ◌^◌, ◌<◌, ◌≤◌, ◌==◌, ◌&&◌, ◌||◌, not};
 ghost use Rattle.std.specs.Prelude.{ℕ, IsTrue, false};
 ghost use Rattle.std.specs.Prelude.{IfSome, IfNone};
 ghost use Rattle.std.specs.Int.{bit_at};
 ghost use Rattle.reservation_stations.specs.Mask.{holds};
 
-/// A set of indices or of places, each below 256: bit `index % 64` of word `index / 64`.
+/// A set of indices or of places, each below 256. Most windows need no more than the first word, so
+/// that stands alone.
 #[derive(Clone, Copy, Debug, PartialEq, Eq)]
 pub struct Mask {
-    words: [u64; 4],
+    /// Those below 64, each a bit.
+    low: u64,
+    /// The others: bit `index % 64` of word `index / 64 - 1`.
+    high: [u64; 3],
 }
 
 impl Mask {
@@ -16,7 +20,10 @@ impl Mask {
     pub fn none() -> Mask
         ensures none { (index : ℕ) → holds result index ≡ false }
     {
-        Mask { words: [0; 4] }
+        Mask {
+            low: 0,
+            high: [0; 3],
+        }
     }
 
     /// Puts an index into the set.
@@ -25,7 +32,11 @@ impl Mask {
         ensures inserted { (other : ℕ)
             → holds self.new other ≡ (holds self.old other || (other == index)) }
     {
-        self.words[(index / 64) as usize] |= 1 << (index % 64);
+        if index < 64 {
+            self.low |= 1 << index;
+        } else {
+            self.high[(index / 64 - 1) as usize] |= 1 << (index % 64);
+        }
     }
 
     /// Takes an index out of the set.
@@ -34,20 +45,24 @@ impl Mask {
         ensures removed { (other : ℕ)
             → holds self.new other ≡ (holds self.old other && not (other == index)) }
     {
-        self.words[(index / 64) as usize] &= !(1 << (index % 64));
+        if index < 64 {
+            self.low &= !(1 << index);
+        } else {
+            self.high[(index / 64 - 1) as usize] &= !(1 << (index % 64));
+        }
     }
 
     /// Takes place 0 out of the set, if it is there, and lets all others be one lower.
     pub fn shift(&mut self)
         ensures shifted { (place : ℕ) → holds self.new place ≡ holds self.old (place + 1) }
     {
-        let [first, second, third, fourth] = self.words;
+        let [second, third, fourth] = self.high;
         if second == 0 && third == 0 && fourth == 0 {
-            self.words[0] = first / 2;
+            self.low /= 2;
             return;
         }
-        self.words = [
-            halved(first, second),
+        self.low = halved(self.low, second);
+        self.high = [
             halved(second, third),
             halved(third, fourth),
             halved(fourth, 0),
@@ -63,10 +78,32 @@ impl Mask {
             holds self.now k ≡ false) }
         ensures none { IfNone result ((k : ℕ) → from ≤ k → k < upto → holds self.now k ≡ false) }
     {
+        if from < 64
+            && let Some(bit) = lowest(self.low, from)
+        {
+            return Some(bit);
+        }
+        if upto <= 64 {
+            return None;
+        }
+        self.next_high(from.max(64), upto)
+    }
+
+    /// The same behind the first word. It stays a call, so that callers inline the first alone.
+    #[inline(never)]
+    fn next_high(&self, from: u32, upto: u32) -> Option<u32>
+        requires behind { 64 ≤ from }
+        requires few { upto ≤ 256 }
+        ensures behind { IfSome result (λ index. (from ≤ index) × (index < 256)) }
+        ensures found { IfSome result (λ index. IsTrue (holds self.now index)) }
+        ensures first { IfSome result (λ index. (k : ℕ) → from ≤ k → k < index →
+            holds self.now k ≡ false) }
+        ensures none { IfNone result ((k : ℕ) → from ≤ k → k < upto → holds self.now k ≡ false) }
+    {
         let mut at = from;
         while at < upto {
             let word = at / 64;
-            match lowest(self.words[word as usize], at % 64) {
+            match lowest(self.high[(word - 1) as usize], at % 64) {
                 Some(bit) => return Some(word * 64 + bit),
                 None => at = word * 64 + 64,
             }

@@ -25,8 +25,8 @@ pub fn note(dependents: &mut Vec<Mask>, on: Option<u32>, index: u32)
     }
 }
 
-/// Lets no row wait for an index any longer, and puts the places of those that wait for nothing else
-/// into the ready ones, where so many stations retired before. Then none depends on it.
+/// Lets no row wait for an index any longer, and puts the places of those that wait for nothing
+/// else into the ready ones, where so many stations retired before. Then none depends on it.
 pub fn tell(
     rows: &mut Vec<Row>,
     ready: &mut Mask,
@@ -46,7 +46,7 @@ pub fn tell(
     dependents[index as usize] = Mask::none();
 }
 
-/// Lets those rows of a set wait no longer for an index, which no other row knows.
+/// Does so for the rows of a set. No other row waits for the index.
 fn tell_each(rows: &mut Vec<Row>, ready: &mut Mask, knowing: Mask, index: u32, retired: u8)
     requires limit { vec_len rows.old ≤ 256 }
     requires within { (place : ℕ) → holds knowing place ≡ true → place < vec_len rows.old }
@@ -67,8 +67,8 @@ fn tell_each(rows: &mut Vec<Row>, ready: &mut Mask, knowing: Mask, index: u32, r
     }
 }
 
-/// Lets no row wait for an index whose station leaves. Where that one is done none does, and there is
-/// nothing to tell.
+/// Lets no row wait for an index whose station leaves. Where that one is done none does, and there
+/// is nothing to tell.
 pub fn leave(
     rows: &mut Vec<Row>,
     ready: &mut Mask,
@@ -89,8 +89,8 @@ pub fn leave(
     }
 }
 
-/// An index, if one is given and its station is in the list, where so many retired. A station stands
-/// at the place of its turn, so no other place is looked at.
+/// An index, if one is given and its station is in the list, where so many retired. A station
+/// stands at the place of its turn, so no other place is looked at.
 pub fn standing(
     order: &HeapCircularBuffer<u32>,
     rows: &Vec<Row>,

@@ -1,17 +1,18 @@
 use Rattle.std.proofs.Common.{ℕ, List, [], ◌∷◌, rules, refl, arith}
+use Rattle.reservation_stations.specs.Mask.{words_of}
 use Rattle.reservation_stations.proofs.Bits.{is_set-shifted, is_set-lowered, each_halved}
 use Rattle.reservation_stations.proofs.mask.Mask.shift.Goals as goal
 
 pub returns-then-fourth-eq0 : goal.returns-then-fourth-eq0
 returns-then-fourth-eq0 c = record {
-  shifted = is_set-lowered c.args.self.now.words (search rules) (λ k. search rules) (omega (arith, c.if-second-eq0.true)) (omega (arith, c.if-third-eq0.true))
+  shifted = is_set-lowered (words_of c.args.self.now) (search rules) (λ k. search rules) (omega (arith, c.if-second-eq0.true)) (omega (arith, c.if-third-eq0.true))
       (omega (arith, c.if-fourth-eq0.true));
 }
 
 pub returns : goal.returns
 returns c =
-    let words = c.args.self.now.words in
-    let new : List ℕ = c.halved.result ∷ c.halved-2.result ∷ c.halved-3.result ∷ c.halved-4.result ∷ [] in
+    let words = words_of c.args.self.now in
+    let new : List ℕ = c.halved-self.result ∷ c.halved.result ∷ c.halved-2.result ∷ c.halved-3.result ∷ [] in
     record {
       shifted = is_set-shifted words new (search rules) refl (λ k. search rules)
           (each_halved words new (search rules) (search rules) (search rules) (search rules) (search rules));

@@ -1,6 +1,6 @@
 use Rattle.std.proofs.Common.{◌-◌, ◌≡◌, ℕ, ◌<◌, ◌≤◌, false}
 use Rattle.reservation_stations.specs.Mask.{holds}
-use Rattle.reservation_stations.proofs.mask.Mask.next.Given as goal
+use Rattle.reservation_stations.proofs.mask.Mask.next_high.Given as goal
 
 -- none of those passed is in the set
 abbrev pub invariant-loop-at : goal.invariant-loop-at
