@@ -6,14 +6,12 @@ use Rattle.std.proofs.lemmas.List.{length-set, append-nil, get_or_read}
 use Rattle.reservation_stations.specs.declared.station.Mark.{Mark}
 use Rattle.reservation_stations.specs.declared.station.Mark.TheVariants.{Waiting, Issued, Done, Faulted}
 use Rattle.reservation_stations.specs.declared.row.Row.{Row}
-use Rattle.reservation_stations.specs.Mask.{is_index}
-use Rattle.reservation_stations.specs.declared.waits.Waits.{Waits}
 use Rattle.reservation_stations.specs.Waits.{waits_on}
 use Rattle.reservation_stations.specs.Readiness.{Window, is_waiting, is_done, station_of, mark_of, marked, waiting_count}
 use Rattle.reservation_stations.specs.AreTables.{AreTables, Each, row_at, free_row, stations_at, producer, among}
 use Rattle.reservation_stations.specs.Changes.{without, Releases, EachChanges}
 use Rattle.reservation_stations.proofs.Indices.{Each-map}
-use Rattle.reservation_stations.proofs.Carried.{is_index-dropped, either_kept, dropped, Changes, Carries, AreRows-carried, Carries-behind}
+use Rattle.reservation_stations.proofs.Carried.{dropped, Changes, Carries, AreRows-carried, Carries-behind}
 use Rattle.reservation_stations.proofs.Marking.{row_at-set, with_mark_of, mark_of-held, Marks, stations_at-marked, waiting_count-same, waiting_count-one_less}
 
 abbrev pub none : ℕ → Bool
@@ -29,17 +27,6 @@ one index other = other == index
 pub dropped_one : (index : ℕ) (o : Option ℕ) → dropped (one index) o ≡ without index o
 dropped_one index None = refl
 dropped_one index (Some other) = refl
-
--- what is waited for, without an index
-index_without : (k index : ℕ) (o : Option ℕ) → is_index k (without index o) ≡ (is_index k o && not (k == index))
-index_without k index o = ap (is_index k) (sym (dropped_one index o)) ∙ is_index-dropped (one index) k o
-
-pub waits_without : (old new : Waits) (index : ℕ) → new.first ≡ without index old.first → new.second ≡ without index old.second →
-    (other : ℕ) → waits_on new other ≡ (waits_on old other && not (other == index))
-waits_without old new index first second other =
-    (λ i. is_index other (first i) || is_index other (second i))
-    ∙ (λ i. index_without other index old.first i || index_without other index old.second i)
-    ∙ sym (either_kept (is_index other old.first) (is_index other old.second) (not (other == index)))
 
 pub or_false : (b : Bool) → b ≡ (b || false)
 or_false true = refl

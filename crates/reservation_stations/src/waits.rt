@@ -16,8 +16,8 @@ impl Waits {
         ensures removed { (other : ℕ)
             → waits_on self.new other ≡ (waits_on self.old other && not (other == index)) }
     {
-        self.first = without(self.first, index);
-        self.second = without(self.second, index);
+        forget(&mut self.first, index);
+        forget(&mut self.second, index);
     }
 
     /// Whether it waits for no index.
@@ -28,12 +28,11 @@ impl Waits {
     }
 }
 
-/// The index that is waited for, unless it is this one.
-fn without(awaited: Option<u32>, index: u32) -> Option<u32>
-    ensures { result ≡ without index awaited }
+/// Lets an index be awaited no longer, if it is this one. Else nothing is written.
+fn forget(awaited: &mut Option<u32>, index: u32)
+    ensures forgotten { awaited.new ≡ without index awaited.old }
 {
-    match awaited {
-        Some(other) if other != index => awaited,
-        _ => None,
+    if *awaited == Some(index) {
+        *awaited = None;
     }
 }
