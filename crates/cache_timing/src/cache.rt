@@ -246,7 +246,7 @@ impl Cache {
 
     /// Whether an address lies in the line that was accessed last. Reading there is a hit that
     /// leaves the cache as it is, so it needs no search.
-    pub fn is_latest(&self, addr: u32) -> bool
+    pub(crate) fn is_latest(&self, addr: u32) -> bool
         ensures hit { IsTrue result → (p : CacheParams) (back : Bool) (sets : ℕ → List Line)
             → CacheStandsFor self.now p back sets →
             (touched p back sets addr false).touch ≡ Touch.Hit }

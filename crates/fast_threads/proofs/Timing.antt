@@ -20,7 +20,8 @@ use Rattle.machine_laws.proofs.Stopping.{halted_machine}
 use Rattle.time_model.specs.declared.state.TimeState.{TimeState}
 use Rattle.time_model.specs.declared.turn.Turn.{Turn}
 use Rattle.time_model.specs.declared.turn.Turn.TheVariants.{Moved, Ordered, Want, CycleEnd, Halted}
-use Rattle.time_model.specs.Turns.{turn_told}
+use Rattle.time_model.specs.Turns.{turn_told, order_told}
+use Rattle.time_model.proofs.Turns.{told_turn}
 use Rattle.time_model.specs.Standing.{TimeSideStandsFor, IsStep, IsMade, IsRight, is_told_out, wants_in}
 use Rattle.time_model.proofs.Owing.{stands_wants}
 use Rattle.trace_ring.specs.Ring.{IsNamed}
@@ -92,25 +93,6 @@ pub time_with : (end : TimeAt) (side : TimeState) (hand other : Option Order) (i
 time_with end side hand other is_halted same is =
     let P : Option Order → Type 0 = λ o. IsTimeAt end side o is_halted in
     subst P same is
-
--- the order that a turn tells, if it tells one
-abbrev pub order_told : Turn → Option Order
-order_told Moved = None
-order_told (Ordered o) = Some o
-order_told Want = None
-order_told CycleEnd = None
-order_told Halted = None
-
-told_turn : (o : Option Order) (at : At) → order_told (turn_told o at) ≡ o
-told_turn (Some o) at = refl
-told_turn None interrupting = refl
-told_turn None committing = refl
-told_turn None completing = refl
-told_turn None issuing = refl
-told_turn None (trying more) = refl
-told_turn None ending = refl
-told_turn None stopping = refl
-told_turn None halted = refl
 
 goes_on : (o : Option Order) (at : At) → turn_told o at ≡ Halted → ⊥
 goes_on (Some o) at is = cc

@@ -38,7 +38,8 @@ pub struct Interrupted {
 pub struct PastStep {
     /// The address of its instruction.
     pub addr: u32,
-    /// The byte that it sent to the output.
+    /// The byte that it sent to the output. Whether it sent one would be enough; but a lone flag
+    /// leaves a hole in the record, which is zeroed and copied by itself.
     pub sent: Option<u8>,
     /// The register that its instruction writes, with its value before.
     pub reg: OldRegister,

@@ -6,7 +6,7 @@ use Rattle.mono_model.specs.declared.setup.Setup.{Setup}
 use Rattle.mono_model.specs.Split.{told_by}
 use Rattle.lane_model.specs.Demand.{LaneAt, interrupting, writing, accessing, executing, issuing, trying, ending, stopping, halted, lane_place, seen}
 use Rattle.time_model.specs.declared.turn.Turn.{Turn}
-use Rattle.split_core.specs.Events.{order_told}
+use Rattle.time_model.specs.Turns.{order_told}
 use Rattle.split_core.specs.Timed.{IsStepOn, StepsOn, IsRightOn}
 use Rattle.inorder_model.specs.declared.state.InorderState.{InorderState}
 use Rattle.inorder_model.specs.At.{turn_told}

@@ -252,7 +252,8 @@ impl InorderState {
     /// did, and None where it was made and told no order.
     fn step(&mut self) -> Option<Turn>
         requires standing { IsStanding self.old }
-        ensures made { Steps self.old self.new (unwrap_or result (turn_untold (at_in self.old.at))) }
+        ensures made { Steps self.old self.new
+            (unwrap_or result (turn_untold (at_in self.old.at))) }
     {
         if self.wants() {
             return Some(Turn::Want);

@@ -14,7 +14,7 @@ use Rattle.side_laws.specs.Along.{MayObey}
 use Rattle.time_model.specs.declared.turn.Turn.{Turn}
 use Rattle.time_model.specs.declared.turn.Turn.TheVariants.{Moved, Ordered, Want, CycleEnd, Halted}
 use Rattle.time_model.specs.Running.{is_silent, IsSilent, start, more, IsRun}
-use Rattle.split_core.specs.Events.{order_told}
+use Rattle.time_model.specs.Turns.{order_told}
 use Rattle.split_core.specs.Plays.{Plays, IsClear}
 use Rattle.split_core.specs.declared.state.SplitState.{SplitState}
 use Rattle.split_core.specs.Along.{At, event_on, IsReachedOn}

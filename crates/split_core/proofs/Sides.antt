@@ -1,32 +1,19 @@
 -- What the monolithic machine's timing side does, as the split state takes it.
-use Rattle.std.proofs.Common.{◌≡◌, ℕ, suc, true, Option, Some, None, refl, ap, ◌∙◌}
-use Rattle.rollback_cmds.specs.declared.order.Order.{Order}
+use Rattle.std.proofs.Common.{◌≡◌, ℕ, suc, true, ap, ◌∙◌}
 use Rattle.trace_entry.specs.declared.Entry.{Entry}
 use Rattle.mono_model.specs.declared.setup.Setup.{Setup}
 use Rattle.mono_model.specs.Setup.{is_setup}
-use Rattle.mono_model.specs.Demand.{At, interrupting, committing, completing, issuing, trying, ending, stopping, halted, place}
+use Rattle.mono_model.specs.Demand.{place}
 use Rattle.mono_model.specs.Split.{told_by}
 use Rattle.time_model.specs.declared.state.TimeState.{TimeState}
 use Rattle.time_model.specs.declared.turn.Turn.{Turn}
 use Rattle.time_model.specs.Standing.{TimeSideStandsFor, IsStep, IsMade, IsRight}
 use Rattle.time_model.specs.Running.{Steps, IsRun}
 use Rattle.time_model.proofs.Running.{run_by}
-use Rattle.time_model.specs.Turns.{turn_told}
-use Rattle.split_core.specs.Events.{order_told}
+use Rattle.time_model.specs.Turns.{order_told}
+use Rattle.time_model.proofs.Turns.{told_turn}
 use Rattle.split_core.specs.Timed.{IsStepOn, StepsOn, IsRightOn}
 use Rattle.split_core.specs.TimeSide.{mono_timed}
-
--- a turn tells an order exactly where the step does
-told_turn : (o : Option Order) (at : At) → order_told (turn_told o at) ≡ o
-told_turn (Some o) at = refl
-told_turn None interrupting = refl
-told_turn None committing = refl
-told_turn None completing = refl
-told_turn None issuing = refl
-told_turn None (trying tries) = refl
-told_turn None ending = refl
-told_turn None stopping = refl
-told_turn None halted = refl
 
 pub step_on : (s : Setup) (k : ℕ) (old new : TimeState) (turn : Turn) → IsStep s k old new turn → IsStepOn mono_timed s k old new turn
 step_on s k old new turn is = record {

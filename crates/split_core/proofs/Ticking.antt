@@ -8,14 +8,13 @@ use Rattle.mono_model.specs.Demand.{Place, needs_entry}
 use Rattle.time_model.specs.Standing.{is_told_out}
 use Rattle.mono_model.specs.Split.{tick, may_tick, is_halted, told_by, held_after, is_place_boundary}
 use Rattle.time_model.specs.declared.turn.Turn.{Turn}
-use Rattle.split_core.specs.Events.{order_told}
+use Rattle.time_model.specs.Turns.{order_told}
 use Rattle.split_core.specs.declared.state.SplitState.{SplitState}
 use Rattle.split_core.specs.Along.{At, stepped_to, event_on, IsReachedOn}
 use Rattle.split_core.specs.Timed.{Timed, IsTimed, IsMadeOn, IsStepOn}
 use Rattle.split_core.specs.Standing.{StandsOn}
 use Rattle.split_core.proofs.Standing.{sees, still_stands, none_is}
 use Rattle.machine_laws.specs.DemandRun.{DemandRun}
-use Rattle.split_core.specs.Events.{order_told}
 
 tick_not : (s : Setup) (r : DemandRun) (x : At) → may_tick x.split ≡ false → event_on s r tick x ≡ x
 unfolding event_on

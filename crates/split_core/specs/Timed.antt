@@ -10,7 +10,7 @@ use Rattle.machine_laws.specs.DemandRun.{DemandRun}
 use Rattle.machine_laws.specs.SplitLaw.{IsRunIn, IsRanged}
 use Rattle.time_model.specs.declared.turn.Turn.{Turn}
 use Rattle.time_model.specs.Standing.{is_told_out}
-use Rattle.split_core.specs.Events.{order_told}
+use Rattle.time_model.specs.Turns.{order_told}
 use Rattle.split_core.specs.Along.{At, rounds_on, IsReachedOn}
 
 pub record Timed (T : Type 0) : Type 1 where

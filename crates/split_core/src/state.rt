@@ -1,5 +1,5 @@
 ghost use Rattle.std.specs.Prelude.{◌≡◌, ℕ, true, false, map, IfOk};
-ghost use Rattle.split_core.specs.Events.{order_told};
+ghost use Rattle.time_model.specs.Turns.{order_told};
 
 use crate::event::Event;
 use crate::timing::Timing;

@@ -1,8 +1,9 @@
 -- The turns of the timing side, each from its phase.
-use Rattle.std.proofs.Common.{◌≡◌, ℕ, ◌==◌, not, if◌then◌else◌, Bool, Option, None, ap, sym, ◌∙◌, subst}
+use Rattle.std.proofs.Common.{◌≡◌, ℕ, ◌==◌, not, if◌then◌else◌, Bool, Option, Some, None, refl, ap, sym, ◌∙◌, subst}
+use Rattle.rollback_cmds.specs.declared.order.Order.{Order}
 use Rattle.trace_entry.specs.declared.Entry.{Entry}
 use Rattle.mono_model.specs.declared.setup.Setup.{Setup}
-use Rattle.mono_model.specs.Demand.{trying, ending}
+use Rattle.mono_model.specs.Demand.{At, interrupting, committing, completing, issuing, trying, ending, stopping, halted}
 use Rattle.timing_side.specs.Timing.{Timing}
 use Rattle.timing_side.specs.Fetch.{timing_try}
 use Rattle.timing_side.specs.Turn.{try_or_end, timing_turn}
@@ -13,6 +14,7 @@ use Rattle.timing_core.specs.Orders.{orders_in}
 use Rattle.time_model.specs.declared.at.At as code
 use Rattle.time_model.specs.declared.state.TimeState.{TimeState}
 use Rattle.time_model.specs.At.{at_in}
+use Rattle.time_model.specs.Turns.{turn_told, order_told}
 use Rattle.time_model.specs.Turning.{IsTurned, held_by}
 use Rattle.time_model.proofs.Bool.{if_not}
 
@@ -41,3 +43,15 @@ try_held s t allowed e x new held is =
 
 pub at_turned : (s : Setup) (e : Entry) (t : Timing) (a at : code.At) (new : TimeState) (told : Orders) → at ≡ a → IsTurned s (timing_turn s e (at_in a) t) new told → IsTurned s (timing_turn s e (at_in at) t) new told
 at_turned s e t a at new told is turned = subst (λ (x : code.At). IsTurned s (timing_turn s e (at_in x) t) new told) (sym is) turned
+
+-- what is told of a step has the step's order
+pub told_turn : (o : Option Order) (at : At) → order_told (turn_told o at) ≡ o
+told_turn (Some o) at = refl
+told_turn None interrupting = refl
+told_turn None committing = refl
+told_turn None completing = refl
+told_turn None issuing = refl
+told_turn None (trying more) = refl
+told_turn None ending = refl
+told_turn None stopping = refl
+told_turn None halted = refl

@@ -68,8 +68,9 @@ impl TimeSide {
         self.state.run(1)
     }
 
-    /// Makes steps of the demand run, up to the first that tells an order, needs an entry that isn't
-    /// held, or finds the run over; and at most 64 of them. The result is what the last one did.
+    /// Makes steps of the demand run, up to the first that tells an order, needs an entry that
+    /// isn't held, or finds the run over; and at most 64 of them. The result is what the last one
+    /// did.
     pub fn run(&mut self) -> Turn
         ensures made { IsRun Steps self.old self.new result }
     {

@@ -1,6 +1,6 @@
 use Rattle.std.proofs.Common.{ap}
 use Rattle.side_laws.specs.Along.{MayObey}
-use Rattle.split_core.specs.Events.{order_told}
+use Rattle.time_model.specs.Turns.{order_told}
 use Rattle.split_core.proofs.OnDemand.{plays_on, plays_standing}
 use Rattle.split_core.proofs.Clear.{run_silent, run_clear, run_may, run_obeyed, run_obeyed_clear}
 use Rattle.split_core.proofs.state.SplitState.play_turn.Goals as goal
