@@ -76,7 +76,8 @@ impl<D: Device> Debugger<D> {
         Ok(Debugger { history })
     }
 
-    /// Makes one step; Ended, and nothing changed, exactly where the run has none behind the position.
+    /// Makes one step; Ended, and nothing changed, exactly where the run has none behind the
+    /// position.
     pub fn step(&mut self) -> Stepped
         ensures told { (s : RunSetup) → TrailStandsFor s self.old
             → IsTold s self.old self.new (ended_in result) }

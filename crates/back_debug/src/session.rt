@@ -21,7 +21,8 @@ pub fn play<D: Device, K: Sink>(
     script: &Script,
     sink: &mut K,
 ) -> Result<(), WriteFault>
-    ensures stands { (s : RunSetup) → TrailStandsFor s debugger.old → TrailStandsFor s debugger.new }
+    ensures stands { (s : RunSetup) → TrailStandsFor s debugger.old →
+        TrailStandsFor s debugger.new }
     ensures count { K.faults sink.old ≤ K.faults sink.new }
     ensures written { (s : RunSetup) → TrailStandsFor s debugger.old
         → Puts (session_text debugger.old.steps.capacity s script.now (position_of debugger.old))

@@ -50,7 +50,8 @@ impl Caches {
         ensures touch { (p : AllCaches) (s : CachesState) → CachesStandFor self.old p s →
             result ≡ (touched p.icache false s.icache addr false).touch }
         ensures state { (p : AllCaches) (s : CachesState) → CachesStandFor self.old p s →
-            CachesStandFor self.new p (icache_touched s (touched p.icache false s.icache addr false)) }
+            CachesStandFor self.new p
+            (icache_touched s (touched p.icache false s.icache addr false)) }
     {
         let touch = self.icache.access(addr, false);
         self.counts.count_icache(touch);
@@ -62,7 +63,8 @@ impl Caches {
         ensures touch { (p : AllCaches) (s : CachesState) → CachesStandFor self.old p s →
             result ≡ (touched p.dcache p.back s.dcache addr write).touch }
         ensures state { (p : AllCaches) (s : CachesState) → CachesStandFor self.old p s →
-            CachesStandFor self.new p (dcache_touched s (touched p.dcache p.back s.dcache addr write)) }
+            CachesStandFor self.new p
+            (dcache_touched s (touched p.dcache p.back s.dcache addr write)) }
     {
         let touch = self.dcache.access(addr, write);
         self.counts.count_dcache(touch);

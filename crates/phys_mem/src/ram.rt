@@ -121,7 +121,8 @@ impl Ram {
         ensures range { range_of self.new ≡ range_of self.old }
         ensures ram { OnOk result (ram_of self.new
             ≡ with_bytes segment.now.addr segment.now.bytes (ram_of self.old)) }
-        ensures exec { OnOk result (exec_of self.new ≡ with_segment segment.now (exec_of self.old)) }
+        ensures exec { OnOk result (exec_of self.new
+            ≡ with_segment segment.now (exec_of self.old)) }
     {
         self.put_all(segment.addr, segment.bytes.as_slice());
         if segment.exec {

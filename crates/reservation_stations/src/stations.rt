@@ -43,7 +43,10 @@ impl Model for Stations {
 
     ghost Value = { Window };
 
-    ghost view = { λ s. record { capacity = s.order.capacity; stations = stations_at (row_at s.rows.items) s.order.items } };
+    ghost view = { λ s. record {
+      capacity = s.order.capacity;
+      stations = stations_at (row_at s.rows.items) s.order.items;
+    } };
 
     ghost invariant = { λ s.
         AreTables s.order.capacity s.order.items s.rows.items s.producers.items s.waiting
@@ -99,7 +102,8 @@ impl Stations {
         ensures room { length self.now.stations ≤ self.now.capacity }
         ensures limit { self.now.capacity ≤ 256 }
         ensures within { All (λ station. station.index < self.now.capacity) self.now.stations }
-        ensures distinct { AllPairs (λ older younger. older.index ≢ younger.index) self.now.stations }
+        ensures distinct { AllPairs (λ older younger. older.index ≢ younger.index)
+            self.now.stations }
     {
         self.order.len() as u32
     }
@@ -271,7 +275,8 @@ impl Stations {
         ensures found { IfSome result (λ place. IsTrue (can_begin_at self.now.stations place)) }
         ensures first { IfSome result (λ place. (k : ℕ) → from ≤ k → k < place →
             can_begin_at self.now.stations k ≡ false) }
-        ensures none { IfNone result ((k : ℕ) → from ≤ k → can_begin_at self.now.stations k ≡ false) }
+        ensures none { IfNone result ((k : ℕ) → from ≤ k →
+            can_begin_at self.now.stations k ≡ false) }
     {
         self.ready.next(from, self.order.len() as u32)
     }
@@ -282,7 +287,8 @@ impl Stations {
         ensures found { IfSome result (λ place. IsTrue (executes_at self.now.stations place)) }
         ensures first { IfSome result (λ place. (k : ℕ) → from ≤ k → k < place →
             executes_at self.now.stations k ≡ false) }
-        ensures none { IfNone result ((k : ℕ) → from ≤ k → executes_at self.now.stations k ≡ false) }
+        ensures none { IfNone result ((k : ℕ) → from ≤ k →
+            executes_at self.now.stations k ≡ false) }
     {
         self.executing.next(from, self.order.len() as u32)
     }

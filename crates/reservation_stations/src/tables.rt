@@ -132,7 +132,8 @@ pub fn set_producer(producers: &mut Vec<Option<u32>>, register: Option<u8>, inde
 pub fn drop_producer(producers: &mut Vec<Option<u32>>, register: Option<u8>, index: u32)
     requires every_register { vec_len producers.old ≡ 256 }
     ensures dropped { producers.new.items ≡
-        with_producer register (without index (producer_at producers.old.items register)) producers.old.items }
+        with_producer register (without index (producer_at producers.old.items register))
+        producers.old.items }
 {
     if let Some(register) = register
         && producers[register as usize] == Some(index)

@@ -209,7 +209,8 @@ impl TimingCore {
     fn leave_done(&mut self, slot: &Slot) -> Leaving
         requires oldest { slice_get self.old.flight.slots 0 ≡ Some slot.now }
         ensures kept { (s : Setup) (t : Timing) → CoreStandsFor s t self.old → IsAlmostSmall t →
-            CoreStandsFor s (behind_of t (leaving_done s slot.now (drop 1 t.slots) slot.now.cause t)) self.new }
+            CoreStandsFor s
+            (behind_of t (leaving_done s slot.now (drop 1 t.slots) slot.now.cause t)) self.new }
         ensures kind { (s : Setup) (t : Timing) → CoreStandsFor s t self.old → IsAlmostSmall t →
             result ≡ kind_of (leaving_done s slot.now (drop 1 t.slots) slot.now.cause t) }
     {
@@ -237,7 +238,8 @@ impl TimingCore {
     fn follow(&mut self, slot: &Slot) -> Leaving
         ensures kept { (s : Setup) (t : Timing) → CoreStandsFor s t self.old
             → t.counts.squashed < 2 ^ 63 + 2 ^ 32 →
-            CoreStandsFor s (behind_of t (leaving_by (is_fence_i (found_in slot.now)) slot.now.halt t)) self.new }
+            CoreStandsFor s
+            (behind_of t (leaving_by (is_fence_i (found_in slot.now)) slot.now.halt t)) self.new }
         ensures kind { (s : Setup) (t : Timing) → CoreStandsFor s t self.old
             → t.counts.squashed < 2 ^ 63 + 2 ^ 32 →
             result ≡ kind_of (leaving_by (is_fence_i (found_in slot.now)) slot.now.halt t) }

@@ -151,8 +151,12 @@ impl TimingCore {
         ensures kept { (s : Setup) (t : Timing) (slot : HeldSlot) → CoreStandsFor s t self.old
             → t.cycle < 2 ^ 63 →
             slice_get t.slots place ≡ Some slot →
-            let turned = turn_of s t.cycle busy (older_at t.slots place) slot (used_in used) t.caches in
-            CoreStandsFor s (record t { slots = slice_set t.slots place turned.turned; caches = turned.caches }) self.new }
+            let turned =
+            turn_of s t.cycle busy (older_at t.slots place) slot (used_in used) t.caches in
+            CoreStandsFor s (record t {
+              slots = slice_set t.slots place turned.turned;
+              caches = turned.caches;
+            }) self.new }
         ensures used { (s : Setup) (t : Timing) (slot : HeldSlot) → CoreStandsFor s t self.old
             → t.cycle < 2 ^ 63 →
             slice_get t.slots place ≡ Some slot →

@@ -18,7 +18,8 @@ pub(crate) fn load_cycles(caches: &mut Caches, slot: &Slot) -> u32
         result ≡ (cached s slot.now.cause slot.now.access state).cycles }
     ensures state { (s : Setup) (state : CachesState)
         → CachesStandFor caches.old (caches_params s.params) state →
-        CachesStandFor caches.new (caches_params s.params) (cached s slot.now.cause slot.now.access state).state }
+        CachesStandFor caches.new (caches_params s.params)
+        (cached s slot.now.cause slot.now.access state).state }
 {
     match slot.access {
         Access::Load {

@@ -124,7 +124,11 @@ impl TimingCore {
     fn pass(&mut self, slot: &Slot)
         ensures kept { (s : Setup) (t : Timing) → CoreStandsFor s t self.old
             → t.to_commit < 2 ^ 63 + 2 ^ 32 →
-            CoreStandsFor s (record t { to_commit = t.to_commit + 1; irq_on = slot.now.irq_on; cmp = slot.now.cmp }) self.new }
+            CoreStandsFor s (record t {
+              to_commit = t.to_commit + 1;
+              irq_on = slot.now.irq_on;
+              cmp = slot.now.cmp;
+            }) self.new }
     {
         self.to_commit = self.to_commit.saturating_add(1);
         self.irq = IrqView {

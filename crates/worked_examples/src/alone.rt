@@ -161,12 +161,14 @@ pub fn output_full_alone()
 /// The limit ends the run behind its step.
 pub fn limit_inside_a_run_alone()
     ensures ends { alone_final (alone
-        (record (setup_of (data_image uart_driver 0x80001000 16 (0xa6948 ∷ [])) plain_machine) { cycles = 25 }) 25)
+        (record (setup_of (data_image uart_driver 0x80001000 16 (0xa6948 ∷ [])) plain_machine)
+        { cycles = 25 }) 25)
         ≡ record {
           end = Limit;
           stats = record no_stats { version = 0; instructions = 25; output = 2 };
           pc = 0x80000024;
-          regs = registers ((8, 0x10000000) ∷ (9, 3) ∷ (11, 0x80001002) ∷ (12, 105) ∷ (13, 32) ∷ []);
+          regs = registers ((8, 0x10000000) ∷ (9, 3) ∷ (11, 0x80001002) ∷ (12, 105)
+              ∷ (13, 32) ∷ []);
           csrs = record opening_csrs { retired = 25 };
           cmp = never;
         } }
@@ -174,7 +176,8 @@ pub fn limit_inside_a_run_alone()
         plain_machine) { cycles = 25 }) 25).arch.output
         ≡ 72 ∷ 105 ∷ [] }
     ensures not_before { (alone (record
-        (setup_of (data_image uart_driver 0x80001000 16 (0xa6948 ∷ [])) plain_machine) { cycles = 25 }) 24).end
+        (setup_of (data_image uart_driver 0x80001000 16 (0xa6948 ∷ [])) plain_machine)
+        { cycles = 25 }) 24).end
         ≡ Running }
 {}
 
@@ -234,7 +237,8 @@ pub fn time_registers_alone()
           stats = record no_stats { version = 0; instructions = 19; exceptions = 1 };
           pc = 0x80000050;
           regs = registers ((5, 0x80000038) ∷ (6, 0x100000) ∷ (7, 0x5555) ∷ (8, 0x2004000) ∷
-              (9, 0xffffffff) ∷ (11, 30) ∷ (13, 30) ∷ (15, 0x200c000) ∷ (17, 5) ∷ (18, 0x200bff8) ∷ []);
+              (9, 0xffffffff) ∷ (11, 30) ∷ (13, 30) ∷ (15, 0x200c000) ∷ (17, 5)
+              ∷ (18, 0x200bff8) ∷ []);
           csrs = record opening_csrs {
             mtvec = 0x80000038;
             mepc = 0x80000034;

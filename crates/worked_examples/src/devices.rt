@@ -96,7 +96,8 @@ pub fn console_load_on_a_wrong_path_takes_no_input()
           cmp = never;
         } }
     ensures not_before { (mono (record
-        (setup_of (code_image console_load_on_a_wrong_path) window_of_eight) { input = 65 ∷ 66 ∷ [] }) 11).end
+        (setup_of (code_image console_load_on_a_wrong_path) window_of_eight)
+        { input = 65 ∷ 66 ∷ [] }) 11).end
         ≡ Running }
 {}
 
@@ -116,7 +117,8 @@ pub fn output_full_ends_before_the_byte()
         wide_commit_behind_division) { output = 4 }) 25).arch.output
         ≡ 65 ∷ 65 ∷ 65 ∷ 65 ∷ [] }
     ensures not_before { (mono (record
-        (setup_of (code_image bytes_behind_a_division) wide_commit_behind_division) { output = 4 }) 24).end
+        (setup_of (code_image bytes_behind_a_division) wide_commit_behind_division)
+        { output = 4 }) 24).end
         ≡ Running }
 {}
 
@@ -133,7 +135,8 @@ pub fn limit_of_one_cycle()
           cmp = never;
         } }
     ensures not_before { (mono (record
-        (setup_of (code_image bytes_behind_a_division) wide_commit_behind_division) { cycles = 1; output = 4 }) 0).end
+        (setup_of (code_image bytes_behind_a_division) wide_commit_behind_division)
+        { cycles = 1; output = 4 }) 0).end
         ≡ Running }
 {}
 
@@ -204,7 +207,8 @@ pub fn exact_room_for_the_output()
         wide_commit_behind_division) { output = 5 }) 26).arch.output
         ≡ 65 ∷ 65 ∷ 65 ∷ 65 ∷ 65 ∷ [] }
     ensures not_before { (mono (record
-        (setup_of (code_image bytes_behind_a_division) wide_commit_behind_division) { output = 5 }) 25).end
+        (setup_of (code_image bytes_behind_a_division) wide_commit_behind_division)
+        { output = 5 }) 25).end
         ≡ Running }
 {}
 
@@ -221,6 +225,7 @@ pub fn no_room_for_any_output()
           cmp = never;
         } }
     ensures not_before { (mono (record
-        (setup_of (code_image bytes_behind_a_division) wide_commit_behind_division) { output = 0 }) 24).end
+        (setup_of (code_image bytes_behind_a_division) wide_commit_behind_division)
+        { output = 0 }) 24).end
         ≡ Running }
 {}

@@ -136,7 +136,8 @@ pub fn stores_partly_cover_a_load()
           cmp = never;
         } }
     ensures not_before { (mono (setup_of
-        (data_image partly_covering_stores 0x80000040 4 (0x11223344 ∷ [])) slow_division_and_memory) 23).end
+        (data_image partly_covering_stores 0x80000040 4 (0x11223344 ∷ []))
+        slow_division_and_memory) 23).end
         ≡ Running }
 {}
 

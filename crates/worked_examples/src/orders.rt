@@ -30,8 +30,9 @@ pub fn orders_of_the_interrupt()
     ensures all { told (place reading 400)
         ≡ Stop 15 ∷ Commit 15 ∷ Set 17 0x80000078 ∷ Commit 14 ∷ Set 16 0x80000074 ∷ Commit 13 ∷
         Commit 12 ∷ Commit 11
-        ∷ Time 10 17 ∷ Interrupt 10 ∷ Commit 10 ∷ Set 15 0x8000003c ∷ Set 14 0x80000038 ∷ Commit 9 ∷ Set 13 0x80000034
-        ∷ Set 12 0x80000030 ∷ Commit 8 ∷ Set 11 0x8000002c ∷ Commit 7 ∷ Commit 6 ∷ Commit 5 ∷ Commit 4 ∷ Commit 3
+        ∷ Time 10 17 ∷ Interrupt 10 ∷ Commit 10 ∷ Set 15 0x8000003c ∷ Set 14 0x80000038
+        ∷ Commit 9 ∷ Set 13 0x80000034 ∷ Set 12 0x80000030 ∷ Commit 8 ∷ Set 11 0x8000002c
+        ∷ Commit 7 ∷ Commit 6 ∷ Commit 5 ∷ Commit 4 ∷ Commit 3
         ∷ Commit 2 ∷ Commit 1 ∷ [] }
     ensures halts { (place reading 400).run.at ≡ halted }
     ensures same_machine { (place reading 400).run.demand.machine ≡ mono reading 25 }

@@ -446,7 +446,8 @@ pub fn limit_inside_a_run()
           cmp = never;
         } }
     ensures not_before { (mono (record
-        (setup_of (code_image backward_branch_loop) bimodal_window_of_eight) { cycles = 17 }) 16).end
+        (setup_of (code_image backward_branch_loop) bimodal_window_of_eight)
+        { cycles = 17 }) 16).end
         ≡ Running }
 {}
 

@@ -1,5 +1,5 @@
-// Reports of `func`, `run`, `sched` and `inorder`. The values were worked out by hand, and by another
-// simulator.
+// Reports of `func`, `run`, `sched` and `inorder`. The values were worked out by hand, and by
+// another simulator.
 use super::answer;
 use super::programs::files_of_runs;
 use fsim_ports::{MemoryFiles, MemorySink};
@@ -638,8 +638,8 @@ fn check_on_one_thread<R: Threads + Wait + Sync + Abort>(
 fn each_put_that_fails_leaves_a_prefix(rt: HostRuntime) -> Result<(), Fail> {
     let alloc = rt.alloc();
     let mut files = files_of_runs(alloc)?;
-    // Output, its line feed, and a put for each line of the report, or for each line of a debugger; of
-    // a sweep name, what stands behind it, and the line feed.
+    // Output, its line feed, and a put for each line of the report, or for each line of a debugger;
+    // of a sweep name, what stands behind it, and the line feed.
     for (text, number, puts) in [
         ("func five --output 4", 3, 18),
         ("run five wide --output 4", 3, 26),
