@@ -12,8 +12,9 @@ use Rattle.reservation_stations.specs.declared.station.Mark.TheVariants as mark
 use Rattle.reservation_stations.specs.declared.station.Station.{Station}
 use Rattle.reservation_stations.specs.Readiness.{Window, mark_of, marked, entered}
 use Rattle.load_store_queue.specs.Queue.{Contents as Stores}
-use Rattle.mono_model.specs.Found.{first_source, second_source, destination_in}
-use Rattle.timing_side.specs.Slots.{found_in, is_done_state}
+use Rattle.timing_side.specs.Slots.{is_done_state}
+use Rattle.in_flight.specs.declared.registers.Registers.{Registers}
+use Rattle.in_flight.specs.Registers.{registers_of}
 use Rattle.in_flight.specs.Flight.{IsExecuting}
 use Rattle.in_flight.specs.Step.{done_mark, mark_in, station_in, stations_of, queue_of, queued_as, IsInStep}
 use Rattle.in_flight.proofs.Divisions.{division, waits_undivided, done_undivided, divisions-append, divisions-set}
@@ -94,22 +95,28 @@ finished_keeps window stations stores queued dividing place slot step apart here
     }
 
 -- one more comes
-pub appended_keeps : (window : Contents) (stations : Window) (stores queued : Stores) (dividing index : ℕ) (first second destination : Option ℕ) (slot : Slot)
+pub appended_keeps : (window : Contents) (stations : Window) (stores queued : Stores) (dividing index : ℕ) (registers : Registers) (slot : Slot)
     → IsInStep window stations stores dividing → slot.state ≡ Waiting → index ≡ index_of window.capacity slot.number
-    → first ≡ first_source (found_in slot) → second ≡ second_source (found_in slot) → destination ≡ destination_in (found_in slot)
+    → registers ≡ registers_of slot.word
     → queued ≡ queue_of window.capacity (window.slots ++ slot ∷ [])
     → IsInStep (record window { slots = window.slots ++ slot ∷ [] })
-    (record stations { stations = stations.stations ++ entered index first second destination ∷ [] })
+    (record stations { stations = stations.stations ++ entered index registers.sources.0 registers.sources.1 registers.destination ∷ [] })
     queued
     dividing
-appended_keeps window stations stores queued dividing index first second destination slot step waiting at one two three is =
-    let station : entered index first second destination ≡ station_in window.capacity slot =
-    λ i. record { index = at i; first = one i; second = two i; destination = three i; mark = sym (ap (λ state. mark_in state slot.cause) waiting) i }
+appended_keeps window stations stores queued dividing index registers slot step waiting at own is =
+    let entry : entered index registers.sources.0 registers.sources.1 registers.destination ≡ station_in window.capacity slot =
+    λ i. record {
+      index = at i;
+      first = (own i).sources.0;
+      second = (own i).sources.1;
+      destination = (own i).destination;
+      mark = sym (ap (λ state. mark_in state slot.cause) waiting) i;
+    }
     in
     record {
       limit = step.limit;
       stations_are =
-          (λ i. let now : Window = record { capacity = (step.stations_are i).capacity; stations = (step.stations_are i).stations ++ station i ∷ [] } in now)
+          (λ i. let now : Window = record { capacity = (step.stations_are i).capacity; stations = (step.stations_are i).stations ++ entry i ∷ [] } in now)
           ∙ ap (λ held. let now : Window = record { capacity = window.capacity; stations = held } in now) (sym (map-append (station_in window.capacity) window.slots (slot ∷ [])));
       stores_are = is;
       dividing_is = omega (arith, step.dividing_is, divisions-append window.slots (slot ∷ []), waiting_undivided slot waiting);

@@ -1,4 +1,5 @@
 use crate::cutting::cut_stations;
+use crate::known::KnownRegisters;
 use crate::queueing::{finish_store, pop_oldest, put_store};
 use crate::reading::{divisions_in, slot_at};
 use crate::registers::registers_of;
@@ -19,6 +20,8 @@ pub struct InFlight {
     stores: StoreQueue,
     /// How many divisions execute.
     dividing: u32,
+    /// Words whose registers need not be read again: no part of what is in flight.
+    known: KnownRegisters,
 }
 
 impl Model for InFlight {
@@ -57,11 +60,13 @@ impl InFlight {
         let window = Window::new(alloc, capacity)?;
         let stations = Stations::new(alloc, capacity)?;
         let stores = StoreQueue::new(alloc, capacity)?;
+        let known = KnownRegisters::new(alloc)?;
         Ok(InFlight {
             window,
             stations,
             stores,
             dividing: 0,
+            known,
         })
     }
 
@@ -123,7 +128,7 @@ impl InFlight {
         prove!(self.window.len() < 256);
         let index = self.window.append(slot);
         put_store(&mut self.stores, &slot);
-        let registers = registers_of(slot.word);
+        let registers = self.known.registers_of(slot.addr, slot.word);
         self.stations
             .enter(index, registers.sources, registers.destination);
     }

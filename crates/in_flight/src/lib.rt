@@ -4,6 +4,7 @@
 
 mod cutting;
 mod flight;
+mod known;
 mod queueing;
 mod reading;
 mod registers;

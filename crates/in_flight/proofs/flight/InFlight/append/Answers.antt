@@ -32,7 +32,6 @@ pub invariant_of-self : goal.invariant_of-self
 invariant_of-self c =
     let window = c.self.inside.window in
     let slot = c.args.slot in
-    let registers = c.registers_of-registers.result in
     let queue : Stores → Stores = λ q. record q { stores = put_in slot q.stores } in
     let queued =
     c.put_store.ensures.put ∙ ap queue c.self.invariant.stores_are
@@ -40,7 +39,7 @@ invariant_of-self c =
     in
     let keeps =
     appended_keeps window c.self.inside.stations c.self.inside.stores c.put_store.new.stores c.self.inside.dividing c.append-index.result
-    registers.sources.0 registers.sources.1 registers.destination slot c.self.invariant c.requires.waiting c.append-index.ensures.index
-    c.registers_of-registers.ensures.first c.registers_of-registers.ensures.second c.registers_of-registers.ensures.destination queued
+    c.registers_of-registers.result slot c.self.invariant c.requires.waiting c.append-index.ensures.index
+    c.registers_of-registers.ensures.registers queued
     in
     rw (c.append-index.ensures.appended, c.enter.ensures.entered) keeps
