@@ -5,8 +5,8 @@ use crate::registers::{Registers, registers_of};
 use fsim_base::NoMemory;
 use std::alloc::Global;
 
-/// How many words are kept: as many as 4 KiB of text have.
-const KEPT: usize = 1024;
+/// How many words are kept: as many as 16 KiB of text have.
+const KEPT: usize = 4096;
 
 /// A word and its registers.
 #[derive(Clone, Copy, Debug)]
@@ -22,7 +22,7 @@ struct KnownWord {
 #[derive(Debug, Drop)]
 pub struct KnownRegisters {
     words: Vec<KnownWord>,
-    ghost every: { vec_len words ≡ 1024 },
+    ghost every: { vec_len words ≡ 4096 },
 }
 
 impl KnownRegisters {
