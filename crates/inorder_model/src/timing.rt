@@ -43,6 +43,11 @@ impl Timing for InorderSide {
         InorderSide::take(self, entry)
     }
 
+    fn feed(&mut self, entry: &Entry) -> Turn {
+        InorderSide::take(self, entry);
+        InorderSide::run(self)
+    }
+
     fn end(&self) -> End {
         InorderSide::end(self)
     }

@@ -1,6 +1,6 @@
 -- Steps of the timing side with nothing under way, the order of the last one obeyed at once, as where it goes through the
 -- hand and an empty list.
-use Rattle.std.proofs.Common.{◌≡◌, ◌<◌, true, is_none, if◌then◌else◌, Option, Some, None, List, [], ◌∷◌, ◌++◌, length, drop, slice_get, refl, ap, sym, ◌∙◌, subst, arith}
+use Rattle.std.proofs.Common.{◌≡◌, ◌<◌, true, is_none, IfSome, if◌then◌else◌, Option, Some, None, List, [], ◌∷◌, ◌++◌, length, drop, slice_get, refl, ap, sym, ◌∙◌, subst, arith}
 use Rattle.std.proofs.lemmas.Bool.{cond_both}
 use Rattle.circular_buffer.specs.Buffer.{Buffer, buffer}
 use Rattle.rollback_cmds.specs.declared.order.Order.{Order}
@@ -15,7 +15,7 @@ use Rattle.time_model.specs.declared.turn.Turn.{Turn}
 use Rattle.time_model.specs.declared.turn.Turn.TheVariants.{Moved, Ordered, Want, CycleEnd, Halted}
 use Rattle.time_model.specs.Running.{is_silent, IsSilent, start, more, IsRun}
 use Rattle.time_model.specs.Turns.{order_told}
-use Rattle.split_core.specs.Plays.{Plays, IsClear}
+use Rattle.split_core.specs.Plays.{Plays, IsClear, HasObeyed}
 use Rattle.split_core.specs.declared.state.SplitState.{SplitState}
 use Rattle.split_core.specs.Along.{At, event_on, IsReachedOn}
 use Rattle.split_core.specs.Timed.{Timed, IsTimed, StepsOn}
@@ -25,6 +25,9 @@ use Rattle.split_core.proofs.OnDemand.{plays_none, plays_on, plays_standing}
 use Rattle.split_core.proofs.Obeying.{can_obey, order_obeyed}
 use Rattle.split_core.proofs.Ticking.{stepped}
 use Rattle.split_core.specs.AlongLaws.{event_reached_on}
+
+same_order : (a b : Order) → ◌≡◌ {A = Option Order} (Some a) (Some b) → a ≡ b
+same_order a b is = cc
 
 module _ {D T : Type 0} (timed : Timed T) (laws : IsTimed timed) (state : SplitState D T) (clear : IsClear state) (time : T) (turn : Turn)
     (made : StepsOn timed state.time time turn) where
@@ -69,8 +72,8 @@ module _ {D T : Type 0} (timed : Timed T) (laws : IsTimed timed) (state : SplitS
       way_reached = event_reached_on s (timed.run s) send (event_on s (timed.run s) tick x) (event_reached_on s (timed.run s) tick x reached)
 
     -- it may be obeyed
-    told_may : IsStandingOn timed state → MayObey order state.func
-    told_may st =
+    step_may : IsStandingOn timed state → MayObey order state.func
+    step_may st =
         let standing : IsStandingOn timed on_way = record {
           setup = st.setup;
           sound = st.sound;
@@ -96,6 +99,13 @@ module _ {D T : Type 0} (timed : Timed T) (laws : IsTimed timed) (state : SplitS
           events = tick ∷ send ∷ obey ∷ [];
           stands = subst H (sym clear.hand) (subst C (sym clear.computed) (subst B way_back obeyed));
         }
+
+told_ordered : (turn : Turn) (order : Order) → order_told turn ≡ Some order → turn ≡ Ordered order
+told_ordered Moved order told = cc
+told_ordered (Ordered other) order told = ap Ordered (same_order other order told)
+told_ordered Want order told = cc
+told_ordered CycleEnd order told = cc
+told_ordered Halted order told = cc
 
 silent_tells : (turn : Turn) → is_silent turn ≡ true → order_told turn ≡ None
 silent_tells Moved silent = refl
@@ -124,20 +134,34 @@ module _ {D T : Type 0} (timed : Timed T) (laws : IsTimed timed) (state : SplitS
   comes : Plays timed state mid
   comes = silent_run timed laws state clear is.behind is.silent
 
-  pub run_silent : order_told turn ≡ None → Plays timed state (record state { time = time })
+  run_silent : order_told turn ≡ None → Plays timed state (record state { time = time })
   run_silent none = plays_on timed laws state mid (record state { time = time }) comes (silent_played timed laws mid mid_clear time turn is.last none)
 
-  pub run_clear : IsClear (record state { time = time })
-  run_clear = clear_at state clear time
-
   module _ (order : Order) (told : turn ≡ Ordered order) where
-    pub run_may : IsStandingOn timed state → MayObey order state.func
-    run_may st = told_may timed laws mid mid_clear time turn is.last order told (plays_standing timed laws state mid st comes)
+    run_may : IsStandingOn timed state → MayObey order state.func
+    run_may st = step_may timed laws mid mid_clear time turn is.last order told (plays_standing timed laws state mid st comes)
 
-    pub run_obeyed : (func : Walk D) → ((s : Setup) (os : List Order) → WalkStandsFor s os state.func → WalkStandsFor s (order ∷ os) func) →
+    run_obeyed : (func : Walk D) → ((s : Setup) (os : List Order) → WalkStandsFor s os state.func → WalkStandsFor s (order ∷ os) func) →
         IsObeyed order state.func func → Plays timed state (record state { func = func; time = time })
     run_obeyed func stands moved =
         plays_on timed laws state mid (record state { func = func; time = time }) comes (told_played timed laws mid mid_clear time turn is.last order told func stands moved)
 
-    pub run_obeyed_clear : (func : Walk D) → IsClear (record state { func = func; time = time })
-    run_obeyed_clear func = record { computed = clear.computed; hand = clear.hand; entries = clear.entries; orders = clear.orders }
+  -- the order that the run tells, whichever it is
+  pub told_may : (told : Option Order) → told ≡ order_told turn → IsStandingOn timed state → IfSome told (λ order. MayObey order state.func)
+  told_may None tells st = tt
+  told_may (Some order) tells st = run_may order (told_ordered turn order (sym tells)) st
+
+  told_plays : (told : Option Order) → told ≡ order_told turn → (func : Walk D) → (told ≡ None → func ≡ state.func) →
+      IfSome told (λ order. (s : Setup) (os : List Order) → WalkStandsFor s os state.func → WalkStandsFor s (order ∷ os) func) →
+      IfSome told (λ order. IsObeyed order state.func func) → Plays timed state (record state { func = func; time = time })
+  told_plays None tells func none stands obeyed =
+      subst (λ (f : Walk D). Plays timed state (record state { func = f; time = time })) (sym (none refl)) (run_silent (sym tells))
+  told_plays (Some order) tells func none stands obeyed = run_obeyed order (told_ordered turn order (sym tells)) func stands obeyed
+
+  pub obeyed_plays : (told : Option Order) → told ≡ order_told turn → (new : SplitState D T) → HasObeyed told (record state { time = time }) new → Plays timed state new
+  obeyed_plays told tells new is =
+      subst (λ (end : SplitState D T). Plays timed state end) (sym is.others) (told_plays told tells new.func is.none is.stands is.obeyed)
+
+  pub obeyed_clear : (told : Option Order) (new : SplitState D T) → HasObeyed told (record state { time = time }) new → IsClear new
+  obeyed_clear told new is = subst (λ (end : SplitState D T). IsClear end) (sym is.others)
+      (record { computed = clear.computed; hand = clear.hand; entries = clear.entries; orders = clear.orders })

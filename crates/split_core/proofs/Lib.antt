@@ -11,5 +11,6 @@ pub mod Opening
 pub mod OnDemand
 pub mod Handing
 pub mod Clear
+pub mod Feeding
 pub mod Sides
 pub mod Mono

@@ -1,5 +1,5 @@
 -- A timing side as the split state takes it: the demand run that it makes, and where it stands there.
-use Rattle.std.specs.Prelude.{◌≡◌, ℕ, suc, ◌≤◌, ◌&&◌, Bool, true, false, is_none, Option, None}
+use Rattle.std.specs.Prelude.{◌≡◌, ◌↔◌, ℕ, suc, ◌≤◌, ◌&&◌, Bool, true, false, is_none, Option, Some, None}
 use Rattle.trace_entry.specs.declared.Entry.{Entry}
 use Rattle.mono_model.specs.declared.setup.Setup.{Setup}
 use Rattle.mono_model.specs.Setup.{is_setup}
@@ -8,9 +8,12 @@ use Rattle.mono_model.specs.Demand.{place_start, told, needs_entry, needed_entry
 use Rattle.mono_model.specs.Split.{is_halted, is_boundary, told_by, held_after}
 use Rattle.machine_laws.specs.DemandRun.{DemandRun}
 use Rattle.machine_laws.specs.SplitLaw.{IsRunIn, IsRanged}
+use Rattle.time_model.specs.declared.side.Taken.{Taken}
+use Rattle.time_model.specs.declared.side.Taken.TheVariants.{Used, Dropped}
 use Rattle.time_model.specs.declared.turn.Turn.{Turn}
 use Rattle.time_model.specs.Standing.{is_told_out}
 use Rattle.time_model.specs.Turns.{order_told}
+use Rattle.time_model.specs.Running.{IsRun}
 use Rattle.split_core.specs.Along.{At, rounds_on, IsReachedOn}
 
 pub record Timed (T : Type 0) : Type 1 where
@@ -51,6 +54,17 @@ pub record IsRightOn {T : Type 0} (timed : Timed T) (entry : Entry) (side : T) :
   pub steps : ℕ
   pub stands : timed.stands setup steps side
   pub needed : entry.epoch ≡ timed.epoch side → entry ≡ needed_entry setup ((timed.run setup).places steps)
+
+-- An entry of the side's epoch was held and any other dropped, and from the side behind that some steps were made, the
+-- last of which did this.
+pub record IsFedOn {T : Type 0} (timed : Timed T) (entry : Entry) (old new : T) (turn : Turn) : Type 0 where
+  pub answer : Taken
+  pub taken : T
+  pub stands : (s : Setup) (k : ℕ) → timed.stands s k old → (entry.epoch ≡ timed.epoch old → entry ≡ needed_entry s ((timed.run s).places k)) → timed.stands s k taken
+  pub used : answer ≡ Used → timed.held taken ≡ Some entry
+  pub dropped : answer ≡ Dropped → taken ≡ old
+  pub by_epoch : (answer ≡ Used) ↔ (entry.epoch ≡ timed.epoch old)
+  pub run : IsRun (StepsOn timed) taken new turn
 
 -- What the split state needs of the demand run and of the side.
 pub record IsTimed {T : Type 0} (timed : Timed T) : Type 0 where

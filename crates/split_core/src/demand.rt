@@ -1,10 +1,12 @@
-ghost use Rattle.std.specs.Prelude.{◌≡◌, []};
-ghost use Rattle.split_core.specs.Plays.{Plays, IsClear};
+ghost use Rattle.std.specs.Prelude.{◌≡◌, [], IfSome};
+ghost use Rattle.side_laws.specs.Along.{MayObey};
+ghost use Rattle.split_core.specs.Plays.{Plays, IsClear, HasObeyed};
 ghost use Rattle.split_core.specs.Standing.{IsStandingOn};
 
-use crate::state::SplitState;
+use crate::state::{SplitState, order_told};
 use crate::timing::Timing;
 use device_bus::Device;
+use rollback_cmds::Order;
 use time_model::Turn;
 
 /// The run on demand: an entry is computed only where the timing side wants it, and an order is
@@ -81,50 +83,57 @@ impl<D: Device, T: Timing> SplitState<D, T> {
         requires clear { IsClear self.old }
         ensures plays { Plays T.timed self.old self.new }
     {
+        let mut turn = Turn::Moved;
         // each step may want an entry first
         for _ in 0..self.steps.saturating_mul(2) {
-            if self.play_turn() {
-                return;
-            }
+            turn = match turn {
+                Turn::Want => self.hand_over(),
+                Turn::Halted => return,
+                Turn::Moved | Turn::CycleEnd | Turn::Ordered(_) => self.play_turn(),
+            };
         }
     }
 
-    /// With nothing under way the timing side makes steps, or is handed the entry that the next one
-    /// wants. The order that it tells is obeyed at once. Whether the timing side stood at the end
-    /// of the run.
-    fn play_turn(&mut self) -> bool
+    /// With nothing under way the timing side makes steps. The order that they tell is obeyed at
+    /// once. The result is what the last one did.
+    fn play_turn(&mut self) -> Turn
         requires standing { IsStandingOn T.timed self.old }
         requires clear { IsClear self.old }
         ensures plays { Plays T.timed self.old self.new }
         ensures clear { IsClear self.new }
     {
-        match self.time.run() {
-            Turn::Moved => false,
-            Turn::CycleEnd => false,
-            Turn::Want => {
-                self.hand_over();
-                false
-            }
-            Turn::Ordered(order) => {
-                self.func.obey(order);
-                false
-            }
-            Turn::Halted => true,
-        }
+        let turn = self.time.run();
+        self.obey_told(order_told(turn));
+        turn
     }
 
     /// Hands the timing side the next entry as it is computed, if it wants one: as where it goes
-    /// through the list of entries, with none before it.
-    fn hand_over(&mut self)
+    /// through the list of entries, with none before it. The steps that it makes with it are as in
+    /// a turn.
+    fn hand_over(&mut self) -> Turn
         requires standing { IsStandingOn T.timed self.old }
         requires clear { IsClear self.old }
         ensures plays { Plays T.timed self.old self.new }
         ensures clear { IsClear self.new }
     {
-        if self.time.wants() {
-            if let Some(entry) = self.func.produce() {
-                self.time.take(&entry);
-            }
+        if !self.time.wants() {
+            return Turn::Moved;
+        }
+        let Some(entry) = self.func.produce() else {
+            return Turn::Moved;
+        };
+        let turn = self.time.feed(&entry);
+        self.obey_told(order_told(turn));
+        turn
+    }
+
+    /// Obeys the order that was told, if one was.
+    fn obey_told(&mut self, told: Option<Order>)
+        requires may { IfSome told (λ order. MayObey order self.old.func) }
+        ensures obeyed { HasObeyed told self.old self.new }
+    {
+        if let Some(order) = told {
+            self.func.obey(order);
         }
     }
 }

@@ -15,7 +15,7 @@ pub trait Timing: Drop {
     ghost use Rattle.mono_model.specs.Demand.{needs_entry, needed_entry};
     ghost use Rattle.mono_model.specs.Split.{is_place_boundary};
     ghost use Rattle.time_model.specs.Running.{IsRun};
-    ghost use Rattle.split_core.specs.Timed.{Timed, IsTimed, StepsOn, IsRightOn};
+    ghost use Rattle.split_core.specs.Timed.{Timed, IsTimed, StepsOn, IsRightOn, IsFedOn};
 
     ghost timed: { Timed Self };
 
@@ -64,6 +64,13 @@ pub trait Timing: Drop {
         ensures used { result ≡ Taken.Used → timed.held self.new ≡ Some entry.now }
         ensures dropped { result ≡ Taken.Dropped → self.new ≡ self.old }
         ensures by_epoch { (result ≡ Taken.Used) ↔ (entry.now.epoch ≡ timed.epoch self.old) };
+
+    /// Takes the entry that arrives next, where one is needed, and makes the steps behind it: a
+    /// [`Timing::take`] and a [`Timing::run`]. The result is what the last step did.
+    fn feed(&mut self, entry: &Entry) -> Turn
+        requires wants { timed.wants self.old ≡ true }
+        requires right { IsRightOn timed entry.now self.old }
+        ensures fed { IsFedOn timed entry.now self.old self.new result };
 
     /// How the run stands or ended.
     fn end(&self) -> End
@@ -117,6 +124,10 @@ impl Timing for TimeSide {
 
     fn take(&mut self, entry: &Entry) -> Taken {
         TimeSide::take(self, entry)
+    }
+
+    fn feed(&mut self, entry: &Entry) -> Turn {
+        TimeSide::feed(self, entry)
     }
 
     fn end(&self) -> End {

@@ -9,3 +9,4 @@ pub mod Turns
 pub mod Trials
 pub mod NextNumber
 pub mod Running
+pub mod Feeding

@@ -4,3 +4,4 @@ pub mod Standing
 pub mod Turning
 pub mod Trial
 pub mod Running
+pub mod Feeding

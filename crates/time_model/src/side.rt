@@ -46,6 +46,7 @@ impl TimeSide {
     ghost use Rattle.mono_model.specs.Demand.{place, next, needs_entry, needed_entry};
     ghost use Rattle.mono_model.specs.Split.{is_place_boundary};
     ghost use Rattle.time_model.specs.Running.{IsRun, Steps};
+    ghost use Rattle.time_model.specs.Feeding.{IsFed};
     ghost use Rattle.time_model.specs.Standing.{TimeSideStandsFor, IsStep, IsRight, wants_in};
 
     /// The timing side before the first step of a run. It takes all its memory here, and want of it
@@ -103,6 +104,20 @@ impl TimeSide {
         }
         self.state.held = Some(*entry);
         Taken::Used
+    }
+
+    /// Takes the entry that arrives next, where one is needed, and makes the try that needs it: a
+    /// [`TimeSide::take`], and steps behind it. The result is what the last step did.
+    pub fn feed(&mut self, entry: &Entry) -> Turn
+        requires wants { wants_in self.old ≡ true }
+        requires right { IsRight entry.now self.old }
+        ensures fed { IsFed entry.now self.old self.new result }
+    {
+        if entry.epoch == self.state.epoch {
+            self.state.feed(entry)
+        } else {
+            Turn::Want
+        }
     }
 
     /// The number of the cycle, counted from 0.

@@ -41,6 +41,7 @@ impl TimeState {
     ghost use Rattle.time_model.specs.At.{at_in};
     ghost use Rattle.time_model.specs.Standing.{TimeSideStandsFor, IsStanding, IsStep, wants_in};
     ghost use Rattle.time_model.specs.Running.{IsRun, Steps};
+    ghost use Rattle.time_model.specs.Feeding.{holding};
     ghost use Rattle.time_model.specs.Turns.{turn_untold};
     ghost use Rattle.time_model.specs.Turning.{MayTry, IsTurned, IsTold, over_in, held_by, owed_by};
     ghost use Rattle.time_model.specs.Turning.{epoch_by, kept_by};
@@ -148,6 +149,27 @@ impl TimeState {
         self.at = self.at_after_try(tried.goes_on, allowed);
         if tried.appended {
             self.held = None;
+        }
+        tried.orders
+    }
+
+    /// Tries to fetch the instruction of an entry that isn't held yet, with so many tries allowed
+    /// behind it. It is held where it wasn't appended.
+    fn attempt_at_once(&mut self, entry: &Entry, allowed: u32) -> Orders
+        requires none { self.old.held ≡ None }
+        requires tries { MayTry (holding entry.now self.old) }
+        ensures made { (s : RunSetup) (t : Timing) → CoreStandsFor s t self.old.core → IsSmall t
+            → IsTurned s (timing_turn s entry.now (trying allowed) t) self.new result }
+        ensures held { (s : RunSetup) (t : Timing) → CoreStandsFor s t self.old.core → IsSmall t
+            → self.new.held
+            ≡ held_by (timing_turn s entry.now (trying allowed) t).timing t (Some entry.now) }
+        ensures others { self.new
+            ≡ record self.old { core = self.new.core; at = self.new.at; held = self.new.held } }
+    {
+        let tried = self.core.fetch(entry);
+        self.at = self.at_after_try(tried.goes_on, allowed);
+        if !tried.appended {
+            self.held = Some(*entry);
         }
         tried.orders
     }
@@ -264,6 +286,27 @@ impl TimeState {
         let orders = self.due();
         let order = self.tell(orders)?;
         Some(Turn::Ordered(order))
+    }
+
+    /// Makes the try that comes next with the entry that it needs, as if that were held; and tells
+    /// that the step behind it wants an entry where it does.
+    pub fn feed(&mut self, entry: &Entry) -> Turn
+        requires wants { wants_in self.old ≡ true }
+        requires standing { IsStanding (holding entry.now self.old) }
+        ensures made { IsRun Steps (holding entry.now self.old) self.new result }
+        ensures standing { IsStanding self.new }
+    {
+        let At::Trying(allowed) = self.at else {
+            return Turn::Want;
+        };
+        let orders = self.attempt_at_once(entry, allowed);
+        if let Some(order) = self.tell(orders) {
+            return Turn::Ordered(order);
+        }
+        if self.wants() {
+            return Turn::Want;
+        }
+        Turn::Moved
     }
 
     /// Makes steps of the demand run, at least one and at most so many, up to the first that isn't

@@ -49,6 +49,16 @@ fn hand_over(side: &mut TimeSide, epoch: u64) -> Taken
     side.take(&refused_fetch(epoch))
 }
 
+/// Hands over the entry of the first try in an epoch, and makes the try.
+#[tactic(auto, using(crate::proofs::Trials::is_right))]
+fn feed(side: &mut TimeSide, epoch: u64) -> Turn
+    requires at { TimeSideStandsFor trial 4 side.old }
+    requires wants { wants_in side.old ≡ true }
+    requires sound { is_setup trial ≡ true }
+{
+    side.feed(&refused_fetch(epoch))
+}
+
 /// Drops an entry of another epoch at the first try, and uses the one of epoch 0.
 fn serve_try(rt: &impl Abort, side: &mut TimeSide)
     requires at { TimeSideStandsFor trial 4 side.old }
@@ -89,5 +99,23 @@ fn a_run_of_one_cycle_is_made_step_by_step(rt: HostRuntime) -> Result<(), Fail> 
     assert_eq!(rt; side.committed(), 0);
     let stats = side.stats();
     assert_eq!(rt; (stats.cycles, stats.fetched, stats.squashed), (1, 1, 0));
+    Ok(())
+}
+
+#[test]
+fn an_entry_is_tried_at_once(rt: HostRuntime) -> Result<(), Fail> {
+    let setup = setup(rt.alloc());
+    assert!(rt; setup.sound());
+    for (epoch, turn, wants, fetched) in [
+        (1, Turn::Want, true, 0),
+        (0, Turn::Ordered(Order::Set { n: 1, addr: 4 }), false, 1),
+    ] {
+        let mut side = TimeSide::new(rt.alloc(), &setup)?;
+        reach_try(&rt, &mut side);
+        assert!(rt; side.wants());
+        assert_eq!(rt; feed(&mut side, epoch), turn);
+        assert_eq!(rt; side.wants(), wants, "behind {turn:?}");
+        assert_eq!(rt; side.stats().fetched, fetched, "behind {turn:?}");
+    }
     Ok(())
 }
