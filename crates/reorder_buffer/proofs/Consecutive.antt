@@ -1,7 +1,7 @@
 -- Slots whose numbers follow one another: their indices, one slot more, and those below a number.
-use Rattle.std.proofs.Common.{◌≡◌, ℕ, zero, suc, ◌+◌, ◌-◌, ◌/◌, ◌%◌, sym, ◌<◌, ◌≤◌, min, nat_lt, nat_le, List, [], ◌∷◌, ◌++◌, length, get_or, take, drop, subst, refl, ap, ◌∙◌, arith, Option, Some, None, IfSome, IsNone, ◌↔◌, Bor, ◌⊎◌, slice_get, All, inl, inr, length-append, length-take}
-use Rattle.std.proofs.Math.Nat.{div-add-mod, mul-le-mul_left, mul-suc, mod-eq_of_lt, mod-add-mod, add-mod_right}
-use Rattle.std.proofs.lemmas.Bool.{cases_lt}
+use Rattle.std.proofs.Common.{◌≡◌, ℕ, zero, suc, ◌+◌, ◌-◌, ◌/◌, ◌%◌, sym, ◌<◌, ◌≤◌, min, nat_lt, nat_le, List, [], ◌∷◌, ◌++◌, length, get_or, take, drop, set, subst, refl, ap, ◌∙◌, arith, Option, Some, None, IfSome, IsNone, ◌↔◌, Bor, ◌⊎◌, slice_get, All, inl, inr, length-append, length-take, length-set, get_or-take, get_or-set_same, get_or-set_other}
+use Rattle.std.proofs.Math.Nat.{div-add-mod, mul-le-mul_left, mul-suc, mod-add-mod}
+use Rattle.std.proofs.lemmas.Bool.{cases_lt, cases_eq}
 use Rattle.std.proofs.lemmas.List.{get_or_append_left, get_or_push, take_min}
 use Rattle.std.proofs.lemmas.List.Filters.{length-filter_both}
 use Rattle.std.proofs.lemmas.List.Sums.{length-filter}
@@ -105,19 +105,6 @@ oldest_none [] (Some s) same = grind arith
 oldest_none (s ∷ slots) None same = grind arith
 oldest_none (s ∷ slots) (Some t) same = (λ none. grind arith, λ empty. grind arith)
 
--- so many places on, the index goes on, and back to 0 at the end
-pub index_on : (capacity index places number : ℕ) → index < capacity → places < capacity - index → index ≡ index_of capacity number → index + places ≡ index_of capacity (number + places)
-index_on capacity index places number within before is =
-    let below : index + places < capacity = omega arith in
-    sym (mod-eq_of_lt below) ∙ ap (λ k. (k + places) % capacity) is ∙ mod-add-mod number capacity places
-
-pub index_around : (capacity index places number : ℕ) → index < capacity → places ≤ capacity → capacity - index ≤ places → index ≡ index_of capacity number → places - (capacity - index) ≡ index_of capacity (number + places)
-index_around capacity index places number within most behind is =
-    let over : index + places ≡ places - (capacity - index) + capacity = omega arith in
-    let below : places - (capacity - index) < capacity = omega arith in
-    sym (mod-eq_of_lt below) ∙ sym (add-mod_right (places - (capacity - index)) capacity) ∙ ap (λ k. k % capacity) (sym over)
-    ∙ ap (λ k. (k + places) % capacity) is ∙ mod-add-mod number capacity places
-
 -- the number of a slot is that of the oldest and its place
 pub number_at : (slots : List Slot) (place : ℕ) (oldest slot : Slot) → IsConsecutive slots → slice_get slots 0 ≡ Some oldest → slice_get slots place ≡ Some slot → slot.number ≡ oldest.number + place
 number_at slots place oldest slot consecutive first there =
@@ -128,46 +115,81 @@ number_at slots place oldest slot consecutive first there =
     sym (ap (λ (s : Slot). s.number) mine) ∙ on ∙ ap (λ (s : Slot). s.number + place) theirs
 
 -- What is behind the index of the oldest slot: that of a slot at a place, of the next slot, and of the oldest but one.
-abbrev pub IsBehind : ℕ → ℕ → ℕ → ℕ → Type 0
-IsBehind capacity first places result = (number : ℕ) → first ≡ index_of capacity number → result ≡ index_of capacity (number + places)
+behind : (capacity first places number : ℕ) → first ≡ index_of capacity number → index_of capacity (first + places) ≡ index_of capacity (number + places)
+behind capacity first places number is = ap (λ k. (k + places) % capacity) is ∙ mod-add-mod number capacity places
 
-module _ (capacity room first result : ℕ) (same : capacity ≡ room) where
-  behind_is : (places number : ℕ) → IsBehind capacity first places result → first ≡ index_of room number → result ≡ index_of room (number + places)
-  behind_is places number behind is = behind number (is ∙ ap (λ c. index_of c number) (sym same)) ∙ ap (λ c. index_of c (number + places)) same
+-- the index of the oldest slot once there is one of this number behind the others
+abbrev pub IsFirstWith : List Slot → ℕ → ℕ → ℕ → ℕ → Type 0
+IsFirstWith slots capacity first number now = ((length slots ≡ 0) × (now ≡ index_of capacity number)) ⊎ ((1 ≤ length slots) × (now ≡ first))
 
-  pub place_index : (slots : List Slot) (place : ℕ) (slot : Slot) → IsConsecutive slots → IsFirst slots room first → IsBehind capacity first place result →
-      slice_get slots place ≡ Some slot → result ≡ index_of room slot.number
-  place_index [] place slot consecutive is behind there = let within = slice_get_within [] place slot there in absurd (omega (arith, within))
-  place_index (s ∷ slots) place slot consecutive is behind there =
-      behind_is place s.number behind is ∙ ap (index_of room) (sym (number_at (s ∷ slots) place s slot consecutive refl there))
+module _ (capacity first : ℕ) where
+  pub place_index : (slots : List Slot) (place : ℕ) (slot : Slot) → IsConsecutive slots → IsFirst slots capacity first → slice_get slots place ≡ Some slot →
+      index_of capacity (first + place) ≡ index_of capacity slot.number
+  place_index [] place slot consecutive is there = let within = slice_get_within [] place slot there in absurd (omega (arith, within))
+  place_index (s ∷ slots) place slot consecutive is there =
+      behind capacity first place s.number is ∙ ap (index_of capacity) (sym (number_at (s ∷ slots) place s slot consecutive refl there))
 
-  pub next_index : (slots : List Slot) (number : ℕ) → IsConsecutive slots → IsFirst slots room first → IsBehind capacity first (length slots) result →
-      IfSome (youngest slots) (λ last. number ≡ last.number + 1) → 1 ≤ length slots → result ≡ index_of room number
-  next_index [] number consecutive is behind next some = absurd (omega (arith, some))
-  next_index (s ∷ slots) number consecutive is behind next some =
+  pub next_index : (slots : List Slot) (number now : ℕ) → IsConsecutive slots → IsFirst slots capacity first → IfSome (youngest slots) (λ last. number ≡ last.number + 1) →
+      IsFirstWith slots capacity first number now → index_of capacity (now + length slots) ≡ index_of capacity number
+  next_index [] number now consecutive is next (inl empty) = let e : number + 0 ≡ number = omega arith in behind capacity now 0 number empty.1 ∙ ap (index_of capacity) e
+  next_index [] number now consecutive is next (inr some) = absurd (let least = some.0 in omega arith)
+  next_index (s ∷ slots) number now consecutive is next (inl empty) = absurd (let none = empty.0 in omega arith)
+  next_index (s ∷ slots) number now consecutive is next (inr some) =
       let last = get_or (s ∷ slots) (length slots) s in
       let newest : slice_get (s ∷ slots) (length slots) ≡ Some last = slice_get-get_or (s ∷ slots) (length slots) s (omega arith) in
       let at : length (s ∷ slots) - 1 ≡ length slots = omega arith in
       let one : number ≡ last.number + 1 = rw newest at (subst (λ k. IfSome (slice_get (s ∷ slots) k) (λ l. number ≡ l.number + 1)) at next) in
       let on : last.number ≡ s.number + length slots = number_at (s ∷ slots) (length slots) s last consecutive refl newest in
       let e : s.number + length (s ∷ slots) ≡ number = omega (arith, one, on) in
-      behind_is (length (s ∷ slots)) s.number behind is ∙ ap (index_of room) e
+      behind capacity now (length (s ∷ slots)) s.number (some.1 ∙ is) ∙ ap (index_of capacity) e
 
-  pub second_index : (slots : List Slot) → IsConsecutive slots → IsFirst slots room first → IsBehind capacity first 1 result → IsFirst (drop 1 slots) room result
-  second_index [] consecutive is behind = tt
-  second_index (s ∷ []) consecutive is behind = tt
-  second_index (s ∷ t ∷ slots) consecutive is behind =
+  pub second_index : (slots : List Slot) → IsConsecutive slots → IsFirst slots capacity first → IsFirst (drop 1 slots) capacity (index_of capacity (first + 1))
+  second_index [] consecutive is = tt
+  second_index (s ∷ []) consecutive is = tt
+  second_index (s ∷ t ∷ slots) consecutive is =
       let next : t.number ≡ s.number + 1 = consecutive 0 s (omega arith) in
-      behind_is 1 s.number behind is ∙ ap (index_of room) (sym next)
+      behind capacity first 1 s.number is ∙ ap (index_of capacity) (sym next)
 
 pub rest_of : (slots : List Slot) → IsConsecutive slots → IsConsecutive (drop 1 slots)
 rest_of [] consecutive = consecutive
 rest_of (s ∷ slots) consecutive = rest_follows s slots consecutive
 
 -- the index of the oldest slot behind a further one
-pub first_with : (slots : List Slot) (s : Slot) (room first now : ℕ) → IsFirst slots room first →
-    ((length slots ≡ 0) × (now ≡ index_of room s.number)) ⊎ ((1 ≤ length slots) × (now ≡ first)) → IsFirst (slots ++ s ∷ []) room now
+pub first_with : (slots : List Slot) (s : Slot) (room first now : ℕ) → IsFirst slots room first → IsFirstWith slots room first s.number now → IsFirst (slots ++ s ∷ []) room now
 first_with [] s room first now is (inl empty) = empty.1
 first_with [] s room first now is (inr some) = absurd (let least = some.0 in omega arith)
 first_with (t ∷ slots) s room first now is (inl empty) = absurd (let none = empty.0 in omega arith)
 first_with (t ∷ slots) s room first now is (inr some) = some.1 ∙ is
+
+-- the oldest slot of a part, and slots with other states
+pub first_of : (slots : List Slot) (kept room first : ℕ) → IsFirst slots room first → IsFirst (take kept slots) room first
+first_of slots zero room first is = tt
+first_of [] (suc kept) room first is = tt
+first_of (s ∷ slots) (suc kept) room first is = is
+
+pub part_of : (slots : List Slot) (kept : ℕ) → IsConsecutive slots → IsConsecutive (take kept slots)
+part_of slots kept consecutive = λ k d within.
+    let long = length-take kept slots in
+    let e = get_or-take kept slots k d (omega (arith, long, within)) in
+    let e' = get_or-take kept slots (k + 1) d (omega (arith, long, within)) in
+    rw (e, e') (consecutive k d (omega (arith, long, within)))
+
+module _ (slots : List Slot) (place : ℕ) (s now : Slot) (there : slice_get slots place ≡ Some s) (same : now.number ≡ s.number) where
+  same_number : (k : ℕ) (d : Slot) → (get_or (set slots place now) k d).number ≡ (get_or slots k d).number
+  same_number k d = elim (cases_eq k place) [
+    | inl here ↦
+        let within = slice_get_within slots place s there in
+        let mine = get_or_from_slice_get slots place s d there in
+        rw (here, get_or-set_same slots place now d within, mine) same
+    | inr other ↦ ap (λ (x : Slot). x.number) (get_or-set_other slots place k now d other)
+  ]
+
+  pub consecutive_still : IsConsecutive slots → IsConsecutive (set slots place now)
+  consecutive_still consecutive = λ k d within.
+      let long = length-set slots place now in
+      same_number (k + 1) d ∙ consecutive k d (omega (arith, long, within)) ∙ ap (λ m. m + 1) (sym (same_number k d))
+
+pub first_still : (slots : List Slot) (place : ℕ) (s now : Slot) (room first : ℕ) → slice_get slots place ≡ Some s → now.number ≡ s.number → IsFirst slots room first → IsFirst (set slots place now) room first
+first_still [] place s now room first there same is = tt
+first_still (t ∷ slots) zero s now room first there same is = let e : t ≡ s = grind (arith, there) in is ∙ ap (λ (x : Slot). index_of room x.number) e ∙ ap (index_of room) (sym same)
+first_still (t ∷ slots) (suc place) s now room first there same is = is

@@ -1,5 +1,5 @@
 -- The instructions in the window (Hennessy and Patterson, Computer Architecture, section 3.6, the reorder buffer).
-use Rattle.std.specs.Prelude.{◌≡◌, ◌≢◌, ℕ, ◌+◌, ◌-◌, ◌%◌, List, Option, IfSome, nat_lt, nat_le, length, filter, count_by, AllPairs, slice_get}
+use Rattle.std.specs.Prelude.{◌≡◌, ◌≢◌, ℕ, ◌+◌, ◌-◌, ◌%◌, List, Option, IfSome, nat_lt, nat_le, length, filter, count_by, AllPairs, slice_get, ◌<◌, ◌≤◌, ◌^◌, ◌++◌, take, drop}
 use Rattle.std.specs.List.{AllAdjacentBelow}
 use Rattle.reorder_buffer.specs.declared.slot.Slot.{Slot}
 
@@ -36,3 +36,16 @@ below_number n slots = filter (λ s. nat_lt s.number n) slots
 -- how many slots have the number n or one above
 abbrev pub count_from : ℕ → List Slot → ℕ
 count_from n slots = count_by (λ s. nat_le n s.number) slots
+
+-- the `count` items from index `first` on, going on at 0 behind the last index
+unfoldable pub ring_slots : List Slot → ℕ → ℕ → List Slot
+ring_slots items first count = take count (drop first items ++ take first items)
+
+-- what holds of the fields of a window that holds these slots
+pub record IsRing (capacity first count : ℕ) (slots : List Slot) : Type 0 where
+  pub fits : capacity < 2 ^ 32
+  pub within : count ≤ capacity
+  pub held : length slots ≡ count
+  pub inside : 0 < capacity → first < capacity
+  pub first_is : IsFirst slots capacity first
+  pub consecutive : IsConsecutive slots

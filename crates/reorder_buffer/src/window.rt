@@ -2,7 +2,6 @@ ghost use Rattle.std.specs.Prelude.{◌≡◌, ℕ, ◌+◌, ◌<◌, ◌≤◌,
 ghost use Rattle.reorder_buffer.specs.Window.{index_of};
 
 use crate::slot::{Slot, SlotState};
-use circular_buffer::HeapCircularBuffer;
 use fsim_base::NoMemory;
 use std::alloc::Global;
 use std::marker::Model;
@@ -11,22 +10,26 @@ use std::marker::Model;
 /// room (Hennessy and Patterson, Computer Architecture, section 3.6, the reorder buffer).
 #[derive(Debug, Drop)]
 pub struct Window {
-    slots: HeapCircularBuffer<Slot>,
+    /// A slot for each index. Those that the window holds begin at `first`, and go on at 0 behind
+    /// the last index.
+    slots: Vec<Slot>,
     /// The index of the oldest slot, where there is one.
     first: u32,
+    /// How many slots the window holds.
+    count: u32,
 }
 
 impl Model for Window {
-    ghost use Rattle.std.specs.Prelude.{◌<◌, ◌^◌};
-    ghost use Rattle.reorder_buffer.specs.Window.{Contents, IsConsecutive, IsFirst};
+    ghost use Rattle.std.specs.Prelude.{vec_len};
+    ghost use Rattle.reorder_buffer.specs.Window.{Contents, IsRing, ring_slots};
 
     ghost Value = { Contents };
 
-    ghost view = { λ w. record { capacity = w.slots.capacity; slots = w.slots.items } };
+    ghost view = { λ w. record
+        { capacity = vec_len w.slots; slots = ring_slots w.slots.items w.first w.count } };
 
-    ghost invariant = { λ w. ((w.slots.capacity < 2 ^ 32)
-        × IsFirst w.slots.items w.slots.capacity w.first)
-        × IsConsecutive w.slots.items };
+    ghost invariant = { λ w.
+        IsRing (vec_len w.slots) w.first w.count (ring_slots w.slots.items w.first w.count) };
 }
 
 impl Window {
@@ -42,8 +45,12 @@ impl Window {
     pub fn new(alloc: Global, capacity: u32) -> Result<Window, NoMemory>
         ensures opening { IfOk result (λ w. w ≡ record { capacity = capacity; slots = [] }) }
     {
-        match HeapCircularBuffer::with_capacity(alloc, capacity as usize) {
-            Ok(slots) => Ok(Window { slots, first: 0 }),
+        match vec![in alloc; Slot::free(); capacity as usize] {
+            Ok(slots) => Ok(Window {
+                slots,
+                first: 0,
+                count: 0,
+            }),
             Err(_) => Err(NoMemory),
         }
     }
@@ -56,6 +63,13 @@ impl Window {
         ensures consecutive { IsConsecutive self.now.slots }
         ensures apart { HasOwnIndices self.now.capacity self.now.slots }
     {
+        self.count
+    }
+
+    /// How many slots have room.
+    fn capacity(&self) -> u32
+        ensures capacity { result ≡ self.now.capacity }
+    {
         self.slots.len() as u32
     }
 
@@ -64,7 +78,7 @@ impl Window {
         ensures full { IsTrue result ↔ (length self.now.slots ≡ self.now.capacity) }
         ensures within { length self.now.slots ≤ self.now.capacity }
     {
-        self.slots.len() == self.slots.capacity()
+        self.count == self.capacity()
     }
 
     /// Adds a slot behind the others and gives its index, which no other slot has. There is room,
@@ -77,28 +91,17 @@ impl Window {
         ensures below { result < self.old.capacity }
         ensures free { All (λ held. index_of self.old.capacity held.number ≢ result) self.old.slots }
     {
-        let index = self.next_index(s.number);
-        if self.slots.is_empty() {
-            self.first = index;
-        }
-        // There is room, so this is Ok.
-        let _ = self.slots.try_push_back(s);
+        let capacity = self.capacity();
+        let first = if self.count == 0 {
+            index_in(capacity, s.number)
+        } else {
+            self.first
+        };
+        let index = index_behind(capacity, first, self.count);
+        self.slots[index as usize] = s;
+        self.first = first;
+        self.count += 1;
         index
-    }
-
-    /// The index of a further slot of this number.
-    fn next_index(&self, number: u64) -> u32
-        requires room { length self.now.slots < self.now.capacity }
-        requires next { IfSome (youngest self.now.slots) (λ last. number ≡ last.number + 1) }
-        ensures index { result ≡ index_of self.now.capacity number }
-        ensures below { result < self.now.capacity }
-    {
-        let capacity = self.slots.capacity();
-        let held = self.slots.len();
-        if held == 0 {
-            return index_in(capacity, number);
-        }
-        index_behind(capacity as u32, self.first, held as u32)
     }
 
     /// The index and the slot at a place, counted from the oldest at 0.
@@ -108,9 +111,8 @@ impl Window {
         ensures index { result.0 ≡ index_of self.now.capacity result.1.now.number }
         ensures below { result.0 < self.now.capacity }
     {
-        let slot = self.slots.get(place as usize).unwrap();
-        let capacity = self.slots.capacity() as u32;
-        (index_behind(capacity, self.first, place), slot)
+        let index = index_behind(self.capacity(), self.first, place);
+        (index, &self.slots[index as usize])
     }
 
     /// The slot at a place, counted from the oldest at 0.
@@ -118,7 +120,7 @@ impl Window {
         requires place { place < length self.now.slots }
         ensures slot { slice_get self.now.slots place ≡ Some result.now }
     {
-        self.slots.get(place as usize).unwrap()
+        self.at(place).1
     }
 
     /// Sets the state of the slot at a place, counted from the oldest at 0, and nothing else.
@@ -128,9 +130,8 @@ impl Window {
             (λ s. self.new ≡ record self.old
             { slots = slice_set self.old.slots place (record s { state = state }) }) }
     {
-        if let Some(slot) = self.slots.get_mut(place as usize) {
-            slot.state = state;
-        }
+        let index = index_behind(self.capacity(), self.first, place);
+        self.slots[index as usize].state = state;
     }
 
     /// The oldest slot; None where there is none.
@@ -139,7 +140,10 @@ impl Window {
         ensures oldest { option_copied result ≡ slice_get self.now.slots 0 }
         ensures empty { IsNone result ↔ (self.now.slots ≡ []) }
     {
-        self.slots.front()
+        if self.count == 0 {
+            return None;
+        }
+        Some(&self.slots[self.first as usize])
     }
 
     /// Removes the oldest slot. There is one.
@@ -147,52 +151,51 @@ impl Window {
         requires some { 0 < length self.old.slots }
         ensures popped { self.new ≡ record self.old { slots = drop 1 self.old.slots } }
     {
-        self.first = index_behind(self.slots.capacity() as u32, self.first, 1);
-        let _ = self.slots.pop_front();
+        self.first = index_behind(self.capacity(), self.first, 1);
+        self.count -= 1;
     }
 
     /// Removes the slots of this number and above, and gives how many they were.
-    #[tactic(auto, using(crate::proofs::Consecutive::take_below, crate::proofs::Consecutive::count_others))]
+    #[tactic(auto, using(crate::proofs::Consecutive::count_others))]
     pub fn cut_from(&mut self, number: u64) -> u32
         ensures kept { self.new ≡ record self.old { slots = below_number number self.old.slots } }
         ensures count { result ≡ count_from number self.old.slots }
     {
-        let len = self.slots.len();
         let kept = self.count_below(number);
-        self.slots.truncate_back(kept);
-        (len - kept) as u32
+        let cut = self.count - kept;
+        self.count = kept;
+        cut
     }
 
     /// How many slots have numbers below this one. They stand first, and their numbers follow one
     /// another.
-    fn count_below(&self, number: u64) -> usize
+    fn count_below(&self, number: u64) -> u32
         ensures count { result ≡ length (below_number number self.now.slots) }
         ensures within { result ≤ length self.now.slots }
     {
-        let len = self.slots.len();
         match self.oldest() {
-            Some(oldest) => len.min(number.saturating_sub(oldest.number) as usize),
+            Some(oldest) => {
+                u64::from(self.count).min(number.saturating_sub(oldest.number)) as u32
+            }
             None => 0,
         }
     }
 }
 
 /// The index of the slot that an instruction of this number has in a window of this capacity.
-fn index_in(capacity: usize, number: u64) -> u32
+fn index_in(capacity: u32, number: u64) -> u32
     requires some { 0 < capacity }
-    requires fits { capacity < 2 ^ 32 }
     ensures index { result ≡ index_of capacity number }
     ensures below { result < capacity }
 {
-    (number % capacity as u64) as u32
+    (number % u64::from(capacity)) as u32
 }
 
 /// The index so many places behind one, in a window of this capacity.
 fn index_behind(capacity: u32, index: u32, places: u32) -> u32
     requires index { index < capacity }
     requires places { places ≤ capacity }
-    ensures behind { (number : ℕ) → index ≡ index_of capacity number
-        → result ≡ index_of capacity (number + places) }
+    ensures behind { result ≡ index_of capacity (index + places) }
     ensures below { result < capacity }
 {
     let to_end = capacity - index;

@@ -1,13 +1,20 @@
-use Rattle.std.proofs.Common.{rules, ◌≡◌, ap, ◌∙◌, Some, slice_get}
+use Rattle.std.proofs.Common.{rules, ◌≡◌, ◌+◌, ◌<◌, ap, ◌∙◌}
 use Rattle.reorder_buffer.specs.Window.{Contents, index_of}
 use Rattle.reorder_buffer.proofs.Consecutive.{place_index}
+use Rattle.reorder_buffer.proofs.Ring.{slots_of, slot_at}
 use Rattle.reorder_buffer.proofs.window.Window.at.Goals as goal
 
-pub returns-clause-index : goal.returns-clause-index
-returns-clause-index c =
-    let window = c.self.inside.slots in
-    let slot = c.unwrap-slot.result.now in
-    let there : slice_get window.items c.args.place ≡ Some slot = search rules in
-    place_index c.capacity-capacity.result window.capacity c.self.inside.first c.index_behind.result c.capacity-capacity.ensures.capacity window.items c.args.place slot
-    c.self.invariant.1 c.self.invariant.0.1 c.index_behind.ensures.behind there
-    ∙ ap (λ (w : Contents). index_of w.capacity slot.number) c.self.view_is
+pub returns : goal.returns
+returns c =
+    let window = c.self.inside in
+    let ring = c.self.invariant in
+    let index = c.index_behind-index.result in
+    let slot = c.index.result.now in
+    let held : c.args.place < window.count = search rules in
+    let is : index ≡ index_of window.slots.len (window.first + c.args.place) = search rules in
+    let there = slot_at window ring index c.args.place slot held is c.index.ensures in
+    record {
+      slot = rw (← c.self.view_is) there;
+      index = is ∙ place_index window.slots.len window.first (slots_of window) c.args.place slot ring.consecutive ring.first_is there ∙ ap (λ (w : Contents). index_of w.capacity slot.number) c.self.view_is;
+      below = search rules;
+    }

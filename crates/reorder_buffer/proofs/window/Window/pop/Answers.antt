@@ -1,12 +1,22 @@
-use Rattle.std.proofs.Common.{drop}
-use Rattle.reorder_buffer.specs.Window.{IsFirst}
-use Rattle.reorder_buffer.proofs.Consecutive.{second_index, rest_of}
+use Rattle.std.proofs.Common.{rules, ◌≡◌, ◌+◌, ◌<◌}
+use Rattle.reorder_buffer.specs.Window.{index_of}
+use Rattle.reorder_buffer.proofs.Ring.{popped, still_popped}
 use Rattle.reorder_buffer.proofs.window.Window.pop.Goals as goal
 
 pub invariant_of-self : goal.invariant_of-self
 invariant_of-self c =
-    let window = c.self.inside.slots in
-    let first : IsFirst (drop 1 window.items) window.capacity c.index_behind-self-inside.result =
-    second_index c.capacity.result window.capacity c.self.inside.first c.index_behind-self-inside.result c.capacity.ensures.capacity window.items
-    c.self.invariant.1 c.self.invariant.0.1 c.index_behind-self-inside.ensures.behind in
-    rw c.pop_front.ensures.items ((c.self.invariant.0.0, first), rest_of window.items c.self.invariant.1)
+    let window = c.self.inside in
+    let next = c.index_behind-self-inside.result in
+    let some : 0 < window.count = search rules in
+    let is : next ≡ index_of window.slots.len (window.first + 1) = search rules in
+    let below : next < window.slots.len = search rules in
+    still_popped window c.self.invariant next some is below
+
+pub returns : goal.returns
+returns c =
+    let window = c.self.inside in
+    let next = c.index_behind-self-inside.result in
+    let some : 0 < window.count = search rules in
+    let is : next ≡ index_of window.slots.len (window.first + 1) = search rules in
+    let rest = popped window c.self.invariant next some is in
+    rw (← c.self.view_is, rest) (search rules)

@@ -1,0 +1,173 @@
+-- The slots of a ring: how many they are, which item each is, and what they are after a write, without the oldest, and without the youngest.
+use Rattle.std.proofs.Common.{◌≡◌, ℕ, ◌+◌, ◌-◌, ◌%◌, ◌<◌, ◌≤◌, ◌⊎◌, List, [], ◌∷◌, ◌++◌, length, get_or, take, drop, set, refl, ap, sym, Some, IfSome, slice_get, ◌∙◌, inl, inr, mod-eq_of_lt, arith, length-append, length-drop, length-set, length-take, get_or-drop, get_or-take}
+use Rattle.std.proofs.Math.Nat.{mod-eq-sub-mod, mod-add-mod}
+use Rattle.std.proofs.lemmas.List.{same_lists, take-take, get_or_append_left, get_or-append_right}
+use Rattle.std.proofs.lemmas.Bool.{cases_lt}
+use Rattle.std.proofs.lemmas.Grind.{common_steps}
+use Rattle.std.proofs.lemmas.Option.{slice_get_read}
+use Rattle.reorder_buffer.specs.declared.slot.Slot.{Slot}
+use Rattle.reorder_buffer.specs.declared.window.Window.TheInside.{Inside}
+use Rattle.reorder_buffer.specs.Window.{IsFirst, IsRing, youngest, index_of, ring_slots}
+use Rattle.reorder_buffer.proofs.Consecutive.{IsFirstWith, second_index, rest_of, first_with, one_more, first_of, part_of, first_still, consecutive_still}
+
+-- at most one wrap-around
+wraps : (n i : ℕ) → i < n + n → ((i < n) × (i % n ≡ i)) ⊎ ((n ≤ i) × (i % n ≡ i - n))
+wraps n i below = elim (cases_lt i n) [
+  | inl low ↦ inl (low, mod-eq_of_lt low)
+  | inr high ↦ inr (high, mod-eq-sub-mod high ∙ mod-eq_of_lt (omega arith))
+]
+
+module _ (items : List Slot) (n first count : ℕ) (long : n ≡ length items) (within : count ≤ n) (inside : 0 < n → first < n) where
+  pub length-ring : length (ring_slots items first count) ≡ count
+  unfolding ring_slots
+  length-ring = simp (length-take, length-append, length-drop, length-take) (omega arith)
+
+  -- the slot at a place is the item at its index
+  pub get_or-ring : (place : ℕ) (d : Slot) → place < count → get_or (ring_slots items first count) place d ≡ get_or items (index_of n (first + place)) d
+  unfolding ring_slots
+  get_or-ring place d held =
+      let tail = length-drop first items in
+      get_or-take count _ place d held ∙ elim (wraps n (first + place) (omega arith)) [
+        | inl before ↦ get_or_append_left _ _ d place (omega arith) ∙ get_or-drop first items place d ∙ ap (λ k. get_or items k d) (omega arith)
+        | inr behind ↦ get_or-append_right _ _ (n - first) place d (omega arith) (omega arith) ∙ get_or-take first items _ d (omega arith) ∙ ap (λ k. get_or items k d) (omega arith)
+      ]
+
+module _ (items : List Slot) (n first count : ℕ) (long : n ≡ length items) (within : count ≤ n) (inside : 0 < n → first < n) where
+  -- a write at the index behind the youngest
+  pub ring-append : (s : Slot) → count < n → ring_slots (set items (index_of n (first + count)) s) first (count + 1) ≡ ring_slots items first count ++ s ∷ []
+  ring-append s room =
+      let written = set items (index_of n (first + count)) s in
+      let long_written : n ≡ length written = long ∙ sym (length-set items (index_of n (first + count)) s) in
+      let before = length-ring items n first count long within inside in
+      let after = length-ring written n first (count + 1) long_written (omega arith) inside in
+      let end = wraps n (first + count) (omega arith) in
+      same_lists _ _ (grind (arith, common_steps)) (λ place d held. grind (
+        arith,
+        common_steps,
+        end,
+        wraps n (first + place) (omega arith),
+        get_or-ring items n first count long within inside place d,
+        get_or-ring written n first (count + 1) long_written (omega arith) inside place d,
+      ))
+
+  -- a write at the index of a place
+  pub ring-set : (place : ℕ) (s : Slot) → place < count → ring_slots (set items (index_of n (first + place)) s) first count ≡ set (ring_slots items first count) place s
+  ring-set place s held =
+      let written = set items (index_of n (first + place)) s in
+      let long_written : n ≡ length written = long ∙ sym (length-set items (index_of n (first + place)) s) in
+      let before = length-ring items n first count long within inside in
+      let after = length-ring written n first count long_written within inside in
+      let here = wraps n (first + place) (omega arith) in
+      same_lists _ _ (grind (arith, common_steps)) (λ other d below. grind (
+        arith,
+        common_steps,
+        here,
+        wraps n (first + other) (omega arith),
+        get_or-ring items n first count long within inside other d,
+        get_or-ring written n first count long_written within inside other d,
+      ))
+
+  -- without the oldest
+  pub ring-pop : 0 < count → ring_slots items (index_of n (first + 1)) (count - 1) ≡ drop 1 (ring_slots items first count)
+  ring-pop some =
+      let next : 0 < n → index_of n (first + 1) < n = λ positive. grind (arith, wraps n (first + 1) (omega arith)) in
+      let before = length-ring items n first count long within inside in
+      let after = length-ring items n (index_of n (first + 1)) (count - 1) long (omega arith) next in
+      same_lists _ _ (simp length-drop (omega arith)) (λ place d held. grind (
+        arith,
+        get_or-drop 1 (ring_slots items first count) place d,
+        mod-add-mod (first + 1) n place,
+        get_or-ring items n first count long within inside (1 + place) d,
+        get_or-ring items n (index_of n (first + 1)) (count - 1) long (omega arith) next place d,
+      ))
+
+-- the oldest alone
+pub ring-cut : (items : List Slot) (first count kept : ℕ) → kept ≤ count → ring_slots items first kept ≡ take kept (ring_slots items first count)
+unfolding ring_slots
+ring-cut items first count kept less = sym (take-take kept count _ less)
+
+-- at no count nothing is read
+same_first : (items : List Slot) (first now count : ℕ) → (count ≡ 0) ⊎ (now ≡ first) → ring_slots items now count ≡ ring_slots items first count
+unfolding ring_slots
+same_first items first now count (inl none) = rw none refl
+same_first items first now count (inr same) = rw same refl
+
+pub ring_nothing : (items : List Slot) (first : ℕ) → ring_slots items first 0 ≡ []
+unfolding ring_slots
+ring_nothing items first = refl
+
+-- the slots of a window with these fields
+abbrev pub slots_of : Inside → List Slot
+slots_of w = ring_slots w.slots.items w.first w.count
+
+-- What a window reads, and what it is after each change, where `index` is so many places behind the oldest slot's.
+module _ (w : Inside) (ring : IsRing w.slots.len w.first w.count (slots_of w)) (index : ℕ) where
+  pub slot_at : (place : ℕ) (s : Slot) → place < w.count → index ≡ index_of w.slots.len (w.first + place) → s ≡ get_or w.slots.items index s → slice_get (slots_of w) place ≡ Some s
+  slot_at place s held is read =
+      slice_get_read (slots_of w) w.count place s (sym ring.held) held
+      (read ∙ ap (λ k. get_or w.slots.items k s) is ∙ sym (get_or-ring w.slots.items w.slots.len w.first w.count w.slots.ok.0 ring.within ring.inside place s held))
+
+  pub popped : 0 < w.count → index ≡ index_of w.slots.len (w.first + 1) → ring_slots w.slots.items index (w.count - 1) ≡ drop 1 (slots_of w)
+  popped some is = rw is (ring-pop w.slots.items w.slots.len w.first w.count w.slots.ok.0 ring.within ring.inside some)
+
+  pub still_popped : 0 < w.count → index ≡ index_of w.slots.len (w.first + 1) → index < w.slots.len → IsRing w.slots.len index (w.count - 1) (ring_slots w.slots.items index (w.count - 1))
+  still_popped some is below =
+      let shorter = length-drop 1 (slots_of w) in
+      let first_is : IsFirst (drop 1 (slots_of w)) w.slots.len index = rw is (second_index w.slots.len w.first (slots_of w) ring.consecutive ring.first_is) in
+      rw (popped some is) record {
+        fits = ring.fits;
+        within = omega (arith, ring.within);
+        held = omega (arith, ring.held, shorter);
+        inside = λ positive. below;
+        first_is = first_is;
+        consecutive = rest_of (slots_of w) ring.consecutive;
+      }
+
+  pub marked : (place : ℕ) (now : Slot) → place < w.count → index ≡ index_of w.slots.len (w.first + place)
+      → ring_slots (set w.slots.items index now) w.first w.count ≡ set (slots_of w) place now
+  marked place now held is = rw is (ring-set w.slots.items w.slots.len w.first w.count w.slots.ok.0 ring.within ring.inside place now held)
+
+  pub still_marked : (place : ℕ) (s now : Slot) → place < w.count → index ≡ index_of w.slots.len (w.first + place) → slice_get (slots_of w) place ≡ Some s → now.number ≡ s.number
+      → IsRing w.slots.len w.first w.count (ring_slots (set w.slots.items index now) w.first w.count)
+  still_marked place s now held is there same =
+      rw (marked place now held is) record {
+        fits = ring.fits;
+        within = ring.within;
+        held = length-set (slots_of w) place now ∙ ring.held;
+        inside = ring.inside;
+        first_is = first_still (slots_of w) place s now w.slots.len w.first there same ring.first_is;
+        consecutive = consecutive_still (slots_of w) place s now there same ring.consecutive;
+      }
+
+  pub appended : (now : ℕ) (s : Slot) → w.count < w.slots.len → now < w.slots.len → IsFirstWith (slots_of w) w.slots.len w.first s.number now
+      → index ≡ index_of w.slots.len (now + w.count) → ring_slots (set w.slots.items index s) now (w.count + 1) ≡ slots_of w ++ s ∷ []
+  appended now s room below with is =
+      let none_or_same : (w.count ≡ 0) ⊎ (now ≡ w.first) = elim with [ inl empty ↦ inl (omega (arith, empty, ring.held)) | inr some ↦ inr some.1 ] in
+      let same = same_first w.slots.items w.first now w.count none_or_same in
+      rw is (ring-append w.slots.items w.slots.len now w.count w.slots.ok.0 ring.within (λ positive. below) s room ∙ ap (λ xs. xs ++ s ∷ []) same)
+
+  pub still_appended : (now : ℕ) (s : Slot) → w.count < w.slots.len → now < w.slots.len → IsFirstWith (slots_of w) w.slots.len w.first s.number now
+      → index ≡ index_of w.slots.len (now + w.count) → IfSome (youngest (slots_of w)) (λ last. s.number ≡ last.number + 1)
+      → IsRing w.slots.len now (w.count + 1) (ring_slots (set w.slots.items index s) now (w.count + 1))
+  still_appended now s room below with is next =
+      let longer = length-append (slots_of w) (s ∷ []) in
+      rw (appended now s room below with is) record {
+        fits = ring.fits;
+        within = omega (arith, room);
+        held = omega (arith, ring.held, longer);
+        inside = λ positive. below;
+        first_is = first_with (slots_of w) s w.slots.len w.first now ring.first_is with;
+        consecutive = one_more (slots_of w) s ring.consecutive next;
+      }
+
+pub still_cut : (w : Inside) (kept : ℕ) → IsRing w.slots.len w.first w.count (slots_of w) → kept ≤ w.count → IsRing w.slots.len w.first kept (ring_slots w.slots.items w.first kept)
+still_cut w kept ring less =
+    let shorter = length-take kept (slots_of w) in
+    rw (ring-cut w.slots.items w.first w.count kept less) record {
+      fits = ring.fits;
+      within = omega (arith, ring.within, less);
+      held = omega (arith, ring.held, shorter, less);
+      inside = ring.inside;
+      first_is = first_of (slots_of w) kept w.slots.len w.first ring.first_is;
+      consecutive = part_of (slots_of w) kept ring.consecutive;
+    }
