@@ -14,7 +14,7 @@ use Rattle.back_debug.specs.Script.{commands_of, first_bad_line}
 use Rattle.report_text.specs.declared.status.Status.TheVariants.{BadScript, Image, Machine, Memory}
 use Rattle.report_text.specs.SweepText.{is_sweep_refusal}
 use Rattle.fast_run.specs.Gives.{unless}
-use Rattle.fast_run.specs.Job.{image_in, machine_in, script_in}
+use Rattle.fast_run.specs.Stages.{image_in, machine_in, script_in}
 use Rattle.fast_run.specs.Refusal.{refused_image, refused_machine, refused_script}
 
 pub refused_image-told : (ram : RamRange) (bytes : List ℕ) (fault : ImageFault)

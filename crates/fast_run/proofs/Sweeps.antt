@@ -22,9 +22,8 @@ use Rattle.fast_cli.specs.declared.line.Options.{Options}
 use Rattle.fast_run.specs.declared.sweep_files.NamedMachine.{NamedMachine}
 use Rattle.fast_run.specs.declared.sweep_files.SweepFiles.{SweepFiles}
 use Rattle.fast_run.specs.Gives.{◌>>=◌}
-use Rattle.fast_run.specs.Stages.{bytes_at, image_in, machine_in, setup_for}
+use Rattle.fast_run.specs.Stages.{bytes_at}
 use Rattle.fast_run.specs.SweepFiles.{AreTold, HasLine, HasSets, finals_behind, limits_of, machine_setup, machine_told, named_machines, next_line, run_told, sweep_files, sweep_lines, swept, told_line, told_lines}
-use Rattle.fast_run.proofs.Jobs.{stage-done, stage-refused}
 
 -- fewer sets of devices are there too
 pub sets-fewer : (more fewer : ℕ) (kinds : List DeviceKind) → fewer ≤ more → HasSets more kinds → HasSets fewer kinds
@@ -114,33 +113,6 @@ pub lines-swept : (files : SweepFiles) (refusals : List (Option Status)) (finals
     → told_lines files.machines refusals finals ≡ sweep_lines files
 unfolding sweep_lines
 lines-swept files refusals finals told = lines-told files files.machines refusals finals told
-
--- the stages of a machine's setup
-module _ (files : SweepFiles) (machine : List ℕ) where
-  with-image : Params → Image → Result Setup Status
-  with-image params image = Ok (setup_for params files.limits image files.input)
-
-  with-params : Params → Result Setup Status
-  unfolding with-image
-  with-params params = image_in (ram_range params) files.image >>= with-image params
-
-  pub setup-made : (params : Params) (image : Image) → machine_in machine ≡ Ok params → image_in (ram_range params) files.image ≡ Ok image
-      → machine_setup files machine ≡ Ok (setup_for params files.limits image files.input)
-  unfolding machine_setup with-params with-image
-  setup-made params image read loaded =
-      stage-done (machine_in machine) params with-params read
-      ∙ stage-done (image_in (ram_range params) files.image) image (with-image params) loaded
-
-  pub setup-no_machine : (status : Status) → (status ≢ Memory → machine_in machine ≡ Err status) → status ≢ Memory → machine_setup files machine ≡ Err status
-  unfolding machine_setup with-params with-image
-  setup-no_machine status refused = stage-refused (machine_in machine) status with-params refused
-
-  pub setup-no_image : (params : Params) (status : Status) → machine_in machine ≡ Ok params
-      → (status ≢ Memory → image_in (ram_range params) files.image ≡ Err status) → status ≢ Memory → machine_setup files machine ≡ Err status
-  unfolding machine_setup with-params with-image
-  setup-no_image params status read refused other =
-      stage-done (machine_in machine) params with-params read
-      ∙ stage-refused (image_in (ram_range params) files.image) status (with-image params) refused other
 
 -- the file at a place is the first of those from there on
 pub at-drop : (i : ℕ) (contents : List (List ℕ)) → bytes_at (drop i contents) 0 ≡ bytes_at contents i

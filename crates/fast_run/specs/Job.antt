@@ -20,7 +20,7 @@ use Rattle.fast_run.specs.declared.job.PlannedRun.{PlannedRun}
 use Rattle.fast_run.specs.declared.sweep_files.SweepFiles.{SweepFiles}
 use Rattle.fast_run.specs.Gives.{◌>>=◌}
 pub use Rattle.fast_run.specs.Stages.{setup_for, bytes_at}
-unfoldable pub use Rattle.fast_run.specs.Stages.{machine_in, image_in, plan_in, script_in}
+unfoldable pub use Rattle.fast_run.specs.Stages.{image_in, timed_image, plan_in, script_in}
 use Rattle.fast_run.specs.SweepFiles.{swept}
 
 -- the plain machine runs an image without a machine file
@@ -29,20 +29,21 @@ func_job options contents = do
   image ← image_in (ram_range plain_params) (bytes_at contents 0)
   Ok (Func (setup_for plain_params options image (bytes_at contents 1)))
 
--- the machine file is tested before the image, since it has the range of RAM
+-- the run on the machine of a machine file
 unfoldable pub run_job : Options → List (List ℕ) → Result Job Status
 run_job options contents = do
-  params ← machine_in (bytes_at contents 1)
-  image ← image_in (ram_range params) (bytes_at contents 0)
-  Ok (Run (setup_for params options image (bytes_at contents 2)))
+  loaded ← timed_image (bytes_at contents 1) (bytes_at contents 0)
+  Ok (Run (setup_for loaded.params options loaded.image (bytes_at contents 2)))
 
 -- the run on a machine that a plan is for: the plan is tested behind the image
 unfoldable pub planned_run : Options → List (List ℕ) → Result PlannedRun Status
 planned_run options contents = do
-  params ← machine_in (bytes_at contents 1)
-  image ← image_in (ram_range params) (bytes_at contents 0)
+  loaded ← timed_image (bytes_at contents 1) (bytes_at contents 0)
   events ← plan_in (bytes_at contents 2)
-  Ok (record { setup = setup_for params options image (bytes_at contents 3); plan = events })
+  Ok (record {
+    setup = setup_for loaded.params options loaded.image (bytes_at contents 3);
+    plan = events;
+  })
 
 unfoldable pub sched_job : Options → List (List ℕ) → Result Job Status
 sched_job options contents = do

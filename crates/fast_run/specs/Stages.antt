@@ -1,10 +1,11 @@
--- What the bytes of one file give, or what refuses them, and the setup that they make.
-use Rattle.std.specs.Prelude.{ℕ, List, [], slice_index_or, option_map, Result}
+-- What the bytes of files give, or what refuses them, and the setup that they make.
+use Rattle.std.specs.Prelude.{ℕ, List, [], slice_index_or, option_map, Result, Ok}
 use Rattle.fsim_base.specs.declared.access.RamRange.{RamRange}
 use Rattle.elf_image.specs.declared.image.Image.{Image as LoadedImage}
 use Rattle.elf_image.specs.Image.{image_fault, image_of}
 use Rattle.mono_model.specs.declared.params.Params.{Params}
 use Rattle.mono_model.specs.declared.setup.Setup.{Setup}
+use Rattle.mono_model.specs.Setup.{ram_range}
 use Rattle.machine_file.specs.File.{machine_fault, params_of}
 use Rattle.split_core.specs.declared.event.Event.{Event}
 use Rattle.back_debug.specs.declared.script.Command.{Command}
@@ -13,7 +14,8 @@ use Rattle.report_text.specs.declared.status.Status.{Status}
 use Rattle.report_text.specs.declared.status.Status.TheVariants.{Image, Machine, BadPlan}
 use Rattle.report_text.specs.declared.status.Status.TheVariants.{BadScript}
 use Rattle.fast_cli.specs.declared.line.Options.{Options}
-use Rattle.fast_run.specs.Gives.{unless}
+use Rattle.fast_run.specs.declared.loaded.Loaded.{Loaded}
+use Rattle.fast_run.specs.Gives.{◌>>=◌, unless}
 use Rattle.fast_run.specs.Plan.{plan_events, first_bad}
 
 -- the parameters that a machine file gives
@@ -23,6 +25,14 @@ machine_in bytes = unless (option_map Machine (machine_fault bytes)) (params_of 
 -- the image of a file for this RAM
 unfoldable pub image_in : RamRange → List ℕ → Result LoadedImage Status
 image_in ram bytes = unless (option_map Image (image_fault bytes ram)) (image_of bytes)
+
+-- a machine file and an image for its machine: the machine file is tested before the image, since
+-- it has the range of RAM
+unfoldable pub timed_image : List ℕ → List ℕ → Result Loaded Status
+timed_image machine bytes = do
+  params ← machine_in machine
+  image ← image_in (ram_range params) bytes
+  Ok (record { params = params; image = image })
 
 -- the events of a plan
 unfoldable pub plan_in : List ℕ → Result (List Event) Status

@@ -6,7 +6,6 @@ use Rattle.device_bus.specs.Bus.{sets_order}
 use Rattle.mono_model.specs.declared.setup.Setup.{Setup}
 use Rattle.mono_model.specs.declared.final_state.Final.{Final}
 use Rattle.mono_model.specs.Report.{joined}
-use Rattle.mono_model.specs.Setup.{ram_range}
 use Rattle.report_text.specs.declared.status.Status.{Status}
 use Rattle.report_text.specs.declared.status.Status.TheVariants.{Sets}
 use Rattle.report_text.specs.SweepText.{is_sweep_refusal, sweep_text, sweep_refusal_text}
@@ -15,7 +14,7 @@ use Rattle.fast_cli.specs.declared.line.Options.{Options}
 use Rattle.fast_run.specs.declared.sweep_files.NamedMachine.{NamedMachine}
 use Rattle.fast_run.specs.declared.sweep_files.SweepFiles.{SweepFiles}
 use Rattle.fast_run.specs.Gives.{◌>>=◌}
-use Rattle.fast_run.specs.Stages.{bytes_at, image_in, machine_in, setup_for}
+use Rattle.fast_run.specs.Stages.{bytes_at, setup_for, timed_image}
 
 -- each name with the bytes of its machine file
 abbrev pub named_machines : List (List ℕ) → List (List ℕ) → List NamedMachine
@@ -43,13 +42,11 @@ swept names options sets contents =
     then Err (Sets (length names))
     else Ok (sweep_files names options contents)
 
--- The setup of the run on a machine, or what refuses it. The machine file is tested before the
--- image, since it has the range of RAM.
+-- the setup of the run on a machine, or what refuses it
 unfoldable pub machine_setup : SweepFiles → List ℕ → Result Setup Status
 machine_setup files machine = do
-  params ← machine_in machine
-  image ← image_in (ram_range params) files.image
-  Ok (setup_for params files.limits image files.input)
+  loaded ← timed_image machine files.image
+  Ok (setup_for loaded.params files.limits loaded.image files.input)
 
 -- what is reported of the run, where there is one
 abbrev pub run_told : Result Setup Status → Result Final Status

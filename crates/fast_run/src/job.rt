@@ -11,7 +11,8 @@ ghost use Rattle.fast_run.specs.Job.{CanBegin, is_single, is_still, sets_for, so
 ghost use Rattle.fast_run.specs.Reading.{AreWithin};
 
 use crate::image::read_image;
-use crate::machine::{ram_of, read_machine};
+use crate::loaded::timed_image;
+use crate::machine::ram_of;
 use crate::plan::Plan;
 use crate::refusal::Refusal;
 use crate::script::read_script;
@@ -72,6 +73,7 @@ pub fn job_of(alloc: Global, line: &Line, sets: usize, contents: Vec<Bytes>) -> 
 }
 
 /// The sequential run of an image on the plain machine; the files are image and input.
+#[tactic(auto, unfolding(crate::specs::Job::func_job))]
 fn func_job(alloc: Global, options: &Options, contents: Vec<Bytes>) -> Result<Job, Refusal>
     requires ranges { HasRanges options.now }
     requires input { length (bytes_at contents.items 1) ≤ 16777216 }
@@ -86,6 +88,7 @@ fn func_job(alloc: Global, options: &Options, contents: Vec<Bytes>) -> Result<Jo
 }
 
 /// The run of an image on a machine; the files are image, machine file and input.
+#[tactic(auto, unfolding(crate::specs::Job::run_job))]
 fn run_job(alloc: Global, options: &Options, contents: Vec<Bytes>) -> Result<Job, Refusal>
     requires ranges { HasRanges options.now }
     requires input { length (bytes_at contents.items 2) ≤ 16777216 }
@@ -93,10 +96,10 @@ fn run_job(alloc: Global, options: &Options, contents: Vec<Bytes>) -> Result<Job
     ensures can { IfOk result (λ job. CanBegin job) }
     ensures alone { IfOk result (λ job. is_single job ≡ true) }
 {
-    let params = read_machine(alloc, bytes_at(contents.as_slice(), 1))?;
-    let image = read_image(alloc, bytes_at(contents.as_slice(), 0), ram_of(&params))?;
+    let files = contents.as_slice();
+    let loaded = timed_image(alloc, bytes_at(files, 1), bytes_at(files, 0))?;
     let input = take_at(alloc, contents, 2);
-    Ok(Job::Run(setup_for(params, options, image, input)))
+    Ok(Job::Run(setup_for(loaded.params, options, loaded.image, input)))
 }
 
 /// A run on a machine, and the plan for it.
@@ -107,6 +110,7 @@ pub struct PlannedRun {
 }
 
 /// A plan for a run on a machine; the files are image, machine file, plan and input.
+#[tactic(auto, unfolding(crate::specs::Job::planned_run))]
 fn planned_run(
     alloc: Global,
     options: &Options,
@@ -117,15 +121,16 @@ fn planned_run(
     ensures planned { Gives (planned_run options.now contents.items) result }
     ensures sound { IfOk result (λ planned. is_setup planned.setup ≡ true) }
 {
-    let params = read_machine(alloc, bytes_at(contents.as_slice(), 1))?;
-    let image = read_image(alloc, bytes_at(contents.as_slice(), 0), ram_of(&params))?;
-    let plan = Plan::read(alloc, bytes_at(contents.as_slice(), 2))?;
+    let files = contents.as_slice();
+    let loaded = timed_image(alloc, bytes_at(files, 1), bytes_at(files, 0))?;
+    let plan = Plan::read(alloc, bytes_at(files, 2))?;
     let input = take_at(alloc, contents, 3);
-    let setup = setup_for(params, options, image, input);
+    let setup = setup_for(loaded.params, options, loaded.image, input);
     Ok(PlannedRun { setup, plan })
 }
 
 /// The plan, and the way to the next cycle boundary.
+#[tactic(auto, unfolding(crate::specs::Job::sched_job))]
 fn sched_job(alloc: Global, options: &Options, contents: Vec<Bytes>) -> Result<Job, Refusal>
     requires ranges { HasRanges options.now }
     requires input { length (bytes_at contents.items 3) ≤ 16777216 }
@@ -138,6 +143,7 @@ fn sched_job(alloc: Global, options: &Options, contents: Vec<Bytes>) -> Result<J
 }
 
 /// The plan on the in-order machine, and the way to its end.
+#[tactic(auto, unfolding(crate::specs::Job::inorder_job))]
 fn inorder_job(alloc: Global, options: &Options, contents: Vec<Bytes>) -> Result<Job, Refusal>
     requires ranges { HasRanges options.now }
     requires input { length (bytes_at contents.items 3) ≤ 16777216 }
@@ -162,6 +168,7 @@ fn inorder_setup(setup: Setup) -> Setup
 
 /// A debugger's script for the sequential run of an image on the plain machine; the files are
 /// image, script and input.
+#[tactic(auto, unfolding(crate::specs::Job::back_job))]
 fn back_job(
     alloc: Global,
     history: u32,
@@ -175,8 +182,9 @@ fn back_job(
     ensures alone { IfOk result (λ job. is_single job ≡ true) }
 {
     let params = Params::plain();
-    let image = read_image(alloc, bytes_at(contents.as_slice(), 0), ram_of(&params))?;
-    let script = read_script(alloc, bytes_at(contents.as_slice(), 1))?;
+    let files = contents.as_slice();
+    let image = read_image(alloc, bytes_at(files, 0), ram_of(&params))?;
+    let script = read_script(alloc, bytes_at(files, 1))?;
     let input = take_at(alloc, contents, 2);
     Ok(Job::Back(setup_for(params, options, image, input), history, script))
 }

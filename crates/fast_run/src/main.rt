@@ -9,6 +9,7 @@ mod image;
 mod inorder;
 mod job;
 mod load;
+mod loaded;
 mod machine;
 mod open;
 mod opened;

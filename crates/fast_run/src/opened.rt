@@ -7,8 +7,7 @@ ghost use Rattle.fast_run.specs.Gives.{Gives};
 ghost use Rattle.fast_run.specs.Job.{CanSweep};
 ghost use Rattle.fast_run.specs.SweepFiles.{machine_setup};
 
-use crate::image::read_image;
-use crate::machine::{ram_of, read_machine};
+use crate::loaded::timed_image;
 use crate::refusal::Refusal;
 use crate::setup::setup_for;
 use crate::sweep_files::SweepFiles;
@@ -17,20 +16,19 @@ use mono_model::Setup;
 use report_text::Status;
 use std::alloc::Global;
 
-/// The setup of the run on a machine. The machine file is tested before the image, since it has the
-/// range of RAM.
+/// The setup of the run on a machine.
+#[tactic(auto, unfolding(crate::specs::SweepFiles::machine_setup))]
 pub fn setup_of(alloc: Global, files: &SweepFiles, machine: &[u8]) -> Result<Setup, Refusal>
     requires can { CanSweep files.now }
     ensures setup { Gives (machine_setup files.now machine.now) result }
     ensures sound { IfOk result (λ setup. is_setup setup ≡ true) }
     ensures line { IfErr result (λ status. status ≢ Memory → is_sweep_refusal status ≡ true) }
 {
-    let params = read_machine(alloc, machine)?;
-    let image = read_image(alloc, files.image.as_slice(), ram_of(&params))?;
+    let loaded = timed_image(alloc, machine, files.image.as_slice())?;
     let Ok(input) = copy_of(alloc, &files.input) else {
         return Err(Refusal::new(Status::Memory));
     };
-    Ok(setup_for(params, &files.limits, image, input))
+    Ok(setup_for(loaded.params, &files.limits, loaded.image, input))
 }
 
 /// The same bytes once more.

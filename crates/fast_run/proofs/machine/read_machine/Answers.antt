@@ -2,7 +2,7 @@ use Rattle.std.proofs.Common.{◌≡◌, ◌≢◌, true}
 use Rattle.std.proofs.lemmas.Result.{err_from_is_err_and}
 use Rattle.report_text.specs.declared.status.Status.TheVariants.{Memory}
 use Rattle.report_text.specs.SweepText.{is_sweep_refusal}
-use Rattle.fast_run.specs.Job.{machine_in}
+use Rattle.fast_run.specs.Stages.{machine_in}
 use Rattle.fast_run.specs.Refusal.{refused_machine}
 use Rattle.fast_run.proofs.Jobs.{gives-through}
 use Rattle.fast_run.proofs.Readings.{if-err-through}
