@@ -23,6 +23,9 @@ still_stands s a side hart others h = record {
   compare = h.compare;
 }
 
+pub still_room : (before hart : Hart) → hart ≡ record before { decoded = hart.decoded } → hart.room ≡ before.room
+still_room before hart others = ap (λ (x : Hart). x.room) others
+
 -- the next instruction retires at most once more than the hart had before
 pub still_bound : (limit : ℕ) (found : Found) (r : Result) (time : Option ℕ) (before hart : Hart) (d : Devices) → hart ≡ record before { decoded = hart.decoded } →
     (behind limit found r time (arch_of hart d)).csrs.retired ≤ before.csrs.retired + 1

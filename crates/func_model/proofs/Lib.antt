@@ -1,6 +1,7 @@
 pub mod Advance
 pub mod Bending
 pub mod Compared
+pub mod Computed
 pub mod Concluded
 pub mod Counts
 pub mod Effects

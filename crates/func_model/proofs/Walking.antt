@@ -1,24 +1,27 @@
 -- A walk that steps, goes back, commits, and obeys.
-use Rattle.std.proofs.Common.{◌≡◌, nat_le, ℕ, zero, suc, ◌+◌, ◌-◌, ◌≤◌, ◌<◌, Bool, true, false, List, [], ◌∷◌, ◌++◌, length, slice_get, Option, Some, None, IfSome, refl, ap, sym, ◌∙◌, subst, add-one, arith}
+use Rattle.std.proofs.Common.{◌≡◌, nat_le, ℕ, zero, suc, ◌+◌, ◌-◌, ◌≤◌, ◌<◌, Bool, true, false, if◌then◌else◌, List, [], ◌∷◌, ◌++◌, length, slice_get, Option, Some, None, IfSome, refl, ap, sym, ◌∙◌, subst, add-one, arith}
 use Rattle.std.proofs.lemmas.Grind.{common_steps}
 use Rattle.fsim_base.specs.declared.access.RamRange.{RamRange}
 use Rattle.rollback_cmds.specs.declared.order.Order.{Order}
+use Rattle.trace_entry.specs.declared.Entry.{Entry}
 use Rattle.undo_journal.specs.declared.past.Past.{Past}
 use Rattle.undo_journal.specs.Journal.{Log, newest}
 use Rattle.mono_model.specs.declared.setup.Setup.{Setup}
 use Rattle.mono_model.specs.Setup.{ram_range}
 use Rattle.mono_model.specs.Arch.{Arch, start}
-use Rattle.mono_model.specs.Sequence.{seq}
-use Rattle.mono_model.specs.Path.{path, time_of}
+use Rattle.mono_model.specs.Sequence.{seq, entry_at}
+use Rattle.mono_model.specs.Path.{path, entry, time_of}
 use Rattle.mono_model.specs.Split.{room}
+use Rattle.func_model.specs.declared.hart.Hart.{Hart}
 use Rattle.func_model.specs.declared.contents.Contents.{Contents}
 use Rattle.func_model.specs.declared.walk.Walk.{Walk}
 use Rattle.func_model.specs.Hart.{arch_of}
 use Rattle.func_model.specs.Undo.{undone, IsRestorable}
 use Rattle.func_model.specs.Contents.{ContentsStandFor, output_in, retired_in}
-use Rattle.func_model.specs.Walk.{IsStep, LeadsBack, IsOnPath, WalkStandsFor}
+use Rattle.func_model.specs.Walk.{IsStep, LeadsBack, IsOnPath, WalkStandsFor, IsProduced, noted_in}
 use Rattle.mono_model.proofs.Path.{path_next, goes_on_more}
 use Rattle.func_model.proofs.Path.{retired_within}
+use Rattle.func_model.proofs.Fetching.{still_stands, still_room}
 use Rattle.func_model.proofs.Leading.{leads_more}
 use Rattle.func_model.proofs.Outputs.{outputs_on, outputs_within}
 
@@ -169,6 +172,60 @@ unnoted_stands {D} s os old contents h running made above = record {
   where
     none : (position committed : ℕ) → position < committed → position - committed ≡ position + 1 - committed
     none position committed above = omega arith
+
+-- a walk behind an instruction that was executed, with what takes that back noted unless it is committed
+noted_on : {D : Type 0} (s : Setup) (os : List Order) (old : Walk D) (contents : Contents D) (past : Past) → WalkStandsFor s os old → old.is_stopped ≡ false → Stepping s os old contents →
+    past.number ≡ old.position → undone (ram_range s.params) past (seq s (time_of os old.position) (path s os old.position)) ≡ path s os old.position → IsRestorable past →
+    WalkStandsFor s os (noted_in past (record old { contents = contents }))
+noted_on {D} s os old contents past h running made number back restorable = at (nat_le old.committed old.position) refl
+  where
+    at : (below : Bool) → nat_le old.committed old.position ≡ below → WalkStandsFor s os (record old {
+      contents = contents;
+      journal = if below then record old.journal { steps = old.journal.steps ++ past ∷ [] } else old.journal;
+      position = old.position + 1;
+    })
+    at true is = noted_stands s os old contents (record old.journal { steps = old.journal.steps ++ past ∷ [] }) past h running made (grind (arith, common_steps)) refl number back restorable
+    at false is = unnoted_stands s os old contents h running made (grind (arith, common_steps))
+
+-- what a step makes of a walk and tells of it, by what its contents ensure at its time
+pub produced_on : {D : Type 0} (s : Setup) (os : List Order) (old : Walk D) (contents : Contents D) (time : Option ℕ) (told : Entry) (past : Past) (new : Walk D) → WalkStandsFor s os old →
+    old.is_stopped ≡ false → time ≡ time_of os old.position → ContentsStandFor s (seq s time (path s os old.position)) contents → contents.hart.room ≡ old.contents.hart.room →
+    told ≡ entry_at s time (path s os old.position) old.position old.epoch → past.number ≡ old.position →
+    undone (ram_range s.params) past (seq s time (path s os old.position)) ≡ path s os old.position → IsRestorable past → new ≡ noted_in past (record old { contents = contents }) →
+    IsProduced s os old new (Some told)
+unfolding entry
+produced_on {D} s os old contents time told past new h running time_is stands space told_is number back restorable new_is =
+    let a : Arch = path s os old.position in
+    let C : Option ℕ → Type 0 = λ t. ContentsStandFor {D = D} s (seq s t a) contents in
+    let U : Option ℕ → Type 0 = λ t. undone (ram_range s.params) past (seq s t a) ≡ a in
+    let W : Walk D → Type 0 = λ walk. WalkStandsFor s os walk in
+    let made : Stepping s os old contents = record { stands = subst C time_is stands; space = space } in
+    record {
+      entry_is = told_is ∙ ap (λ (t : Option ℕ). entry_at s t a old.position old.epoch) time_is ∙ ap (λ (e : ℕ). entry_at s (time_of os old.position) a old.position e) h.holds.epoch;
+      stands = subst W (sym new_is) (noted_on s os old contents past h running made number (subst U time_is back) restorable);
+    }
+
+-- a walk whose hart has fetched stands as before
+pub walk_still : {D : Type 0} (s : Setup) (os : List Order) (walk : Walk D) (contents : Contents D) (hart : Hart) → hart ≡ record walk.contents.hart { decoded = hart.decoded } →
+    contents ≡ record walk.contents { hart = hart } → WalkStandsFor s os walk → WalkStandsFor s os (record walk { contents = contents })
+walk_still {D} s os walk contents hart others is h =
+    let C : Contents D → Type 0 = λ x. ContentsStandFor s (path s os walk.position) x in
+    record {
+      holds = record {
+        contents = subst C (sym is) (still_stands s (path s os walk.position) walk.contents hart others h.holds.contents);
+        back = h.holds.back;
+        held = h.holds.held;
+        capacity = h.holds.capacity;
+        limit = h.holds.limit;
+        space = ap (λ (x : Contents D). x.hart.room) is ∙ still_room walk.contents.hart hart others ∙ h.holds.space;
+        given = h.holds.given;
+        epoch = h.holds.epoch;
+        within = h.holds.within;
+      };
+      done = h.done;
+      stopped = h.stopped;
+      on = h.on;
+    }
 
 -- a walk at the start of a run
 path_start : (s : Setup) → path s [] 0 ≡ start s

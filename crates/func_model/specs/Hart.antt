@@ -10,7 +10,7 @@ use Rattle.mono_model.specs.Found.{Found, refused, unknown, known, found_word}
 use Rattle.func_model.specs.declared.found.Fetched.{Fetched}
 use Rattle.func_model.specs.declared.found.Fetched.TheVariants as code
 use Rattle.func_model.specs.declared.hart.Hart.{Hart}
-use Rattle.phys_mem.specs.Ram.{ram_of, text_of}
+use Rattle.phys_mem.specs.Ram.{ram_of, text_of, exec_of}
 
 -- the code's answer of a fetch as what was found
 abbrev pub found_in : Fetched → Found
@@ -33,6 +33,10 @@ found_by is_text text addr =
     if addr % 4 == 0
     then (if has_text_by is_text addr then found_word (from_bytes 4 addr text) (decode_of (from_bytes 4 addr text)) else refused InstructionAccess)
     else refused InstructionMisaligned
+
+-- what fetch finds at the next address of a hart
+abbrev pub next_found : Hart → Found
+next_found hart = found_by (exec_of hart.memory) (text_of hart.memory) hart.pc
 
 -- a destination that exists
 abbrev pub IsDestination : Option ℕ → Type 0

@@ -1,5 +1,5 @@
 -- What an instruction does to the state, by the parts in which the code does it.
-use Rattle.std.specs.Prelude.{◌≡◌, ℕ, ◌%◌, Bool, false, if◌then◌else◌, Option, Some, None, List, nat_le, length}
+use Rattle.std.specs.Prelude.{◌≡◌, ℕ, ◌%◌, ◌&&◌, Bool, true, false, not, is_none, if◌then◌else◌, Option, Some, None, List, nat_le, length}
 use Rattle.fsim_base.specs.declared.access.Access.{Access}
 use Rattle.fsim_base.specs.declared.access.Access.TheVariants as access
 use Rattle.fsim_base.specs.declared.access.Width.{Width}
@@ -10,7 +10,8 @@ use Rattle.fsim_base.specs.Width.{width_bytes}
 use Rattle.fsim_base.specs.declared.cause.Cause.{Cause}
 use Rattle.fsim_base.specs.Number.{wrap_sum}
 use Rattle.rv_decode.specs.declared.insn.Insn.{Insn}
-use Rattle.rv_decode.specs.Class.{dest_of}
+use Rattle.rv_decode.specs.declared.insn.Insn.TheVariants as insn
+use Rattle.rv_decode.specs.Class.{dest_of, sources_of}
 use Rattle.machine_csr.specs.declared.csrs.Csrs.{Csrs}
 use Rattle.machine_csr.specs.declared.csrs.CsrWrite.{CsrWrite}
 use Rattle.machine_csr.specs.Csr.{csr_written}
@@ -18,6 +19,7 @@ use Rattle.machine_csr.specs.Trap.{trap_left, return_address}
 use Rattle.rv_exec.specs.declared.outcome.Outcome.{Outcome}
 use Rattle.rv_exec.specs.declared.outcome.Reach.{Reach}
 use Rattle.rv_exec.specs.declared.outcome.Reach.TheVariants as reach
+use Rattle.rv_exec.specs.Eval.{eval_of}
 use Rattle.rv_exec.specs.Load.{loaded_value}
 use Rattle.device_bus.specs.declared.undo.Note.{Note}
 use Rattle.device_bus.specs.declared.undo.Note.TheVariants as note
@@ -150,6 +152,23 @@ result_of range found time a =
 -- the state behind it, unless the output has no room for its byte
 abbrev pub behind : ℕ → Found → Result → Option ℕ → Arch → Arch
 behind limit found r time a = if is_full limit a.output (note_of r a) then a else effect found r time a.pc a
+
+-- an instruction that may reach memory, or is about control and status registers
+abbrev pub reaches_out : Insn → Bool
+reaches_out (insn.Load kind rd rs1 imm) = true
+reaches_out (insn.Store kind rs1 rs2 imm) = true
+reaches_out insn.Mret = true
+reaches_out (insn.Csr kind rd rs1 csr) = true
+reaches_out other = false
+
+-- the outcome of an instruction at an address, with the values of the registers
+abbrev pub outcome_at : Insn → ℕ → (ℕ → ℕ) → Outcome
+outcome_at i addr regs = eval_of i addr (register_value regs (sources_of i).0) (register_value regs (sources_of i).1)
+
+-- the same where the instruction changes at most a register and the next address, and doesn't trap
+abbrev pub plain_outcome : Insn → ℕ → (ℕ → ℕ) → Option Outcome
+plain_outcome i addr regs =
+    if not (reaches_out i) && is_none (outcome_at i addr regs).cause then Some (outcome_at i addr regs) else None
 
 -- what is told of an instruction that reached neither memory nor a device
 abbrev pub plain_with : Change → Performed

@@ -1,5 +1,6 @@
 -- What a run alone that remembers its last steps stands for: a setup, and a number of steps.
-use Rattle.std.specs.Prelude.{◌≡◌, ℕ, ◌+◌, ◌^◌, ◌<◌, ◌≤◌, ◌↔◌, Bool, false, suc, if◌then◌else◌, List, [], ◌∷◌, length, Option, IfNone, IfSome}
+use Rattle.std.specs.Prelude.{◌≡◌, ℕ, ◌+◌, ◌-◌, ◌^◌, max, ◌<◌, ◌≤◌, ◌↔◌, Bool, false, suc, if◌then◌else◌, List, [], ◌∷◌, ◌++◌, length, Option, IfNone, IfSome}
+use Rattle.circular_buffer.specs.Buffer.{buffer, keep_last}
 use Rattle.mono_model.specs.declared.final_state.End.{End}
 use Rattle.mono_model.specs.declared.final_state.End.TheVariants.{Running}
 use Rattle.mono_model.specs.declared.setup.Setup.{Setup}
@@ -39,6 +40,13 @@ pub record TrailStandsFor {D : Type 0} (s : Setup) (trail : Trail D) : Type 0 wh
   pub cycles : trail.cycles ≡ s.cycles
   pub space : trail.contents.hart.room ≡ s.output + 1
   pub bounded : s.cycles < 2 ^ 63
+
+-- with one more step remembered, as many as there is room for
+abbrev pub remembered : {D : Type 0} → PastStep → Trail D → Trail D
+remembered past trail = record trail {
+  steps = buffer (keep_last trail.steps.capacity (trail.steps.items ++ past ∷ [])) trail.steps.capacity;
+  floor = max trail.floor (trail.at - trail.steps.capacity);
+}
 
 -- there is a setup for which it stands
 pub record IsOnTrail {D : Type 0} (trail : Trail D) : Type 0 where

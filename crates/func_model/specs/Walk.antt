@@ -1,5 +1,5 @@
 -- What a functional side stands for: a setup, the orders obeyed, and a position on their path.
-use Rattle.std.specs.Prelude.{◌≡◌, ◌⊎◌, ◌≤◌, ◌<◌, ℕ, zero, suc, ◌+◌, ◌-◌, ◌^◌, ◌==◌, ◌||◌, if◌then◌else◌, Bool, true, false, IfSome, List, [], ◌∷◌, length, filter, nat_le, Option, Some, None}
+use Rattle.std.specs.Prelude.{◌≡◌, ◌⊎◌, ◌≤◌, ◌<◌, ℕ, zero, suc, ◌+◌, ◌-◌, ◌^◌, ◌==◌, ◌||◌, if◌then◌else◌, Bool, true, false, IfSome, List, [], ◌∷◌, ◌++◌, length, filter, nat_le, Option, Some, None}
 use Rattle.fsim_base.specs.declared.access.RamRange.{RamRange}
 use Rattle.rollback_cmds.specs.declared.order.Order.{Order}
 use Rattle.rollback_cmds.specs.declared.order.Order.TheVariants.{Set, Commit, Interrupt, Time, Stop, Sync}
@@ -133,6 +133,13 @@ pub record IsForward {D : Type 0} (old new : Walk D) : Type 0 where
 -- nothing is produced: the side is stopped, or its journal is full
 abbrev pub IsAtRest : {D : Type 0} → Walk D → Type 0
 IsAtRest walk = (walk.is_stopped ≡ true) ⊎ (length walk.journal.steps ≡ walk.journal.room)
+
+-- a walk behind an instruction that was executed, with what takes that back, unless it is committed
+abbrev pub noted_in : {D : Type 0} → Past → Walk D → Walk D
+noted_in past walk = record walk {
+  journal = if nat_le walk.committed walk.position then record walk.journal { steps = walk.journal.steps ++ past ∷ [] } else walk.journal;
+  position = walk.position + 1;
+}
 
 -- the entry of the path at the position, if one was produced
 pub record IsProduced {D : Type 0} (s : Setup) (os : List Order) (old new : Walk D) (result : Option Entry) : Type 0 where

@@ -1,5 +1,6 @@
 ghost use Rattle.std.specs.Prelude.{◌≡◌, ◌<◌, ◌≤◌, ◌+◌, ◌-◌, ◌^◌, Some, IfOk, is_none, length};
-ghost use Rattle.std.specs.Prelude.{◌&&◌, map, true, is_some, if◌then◌else◌};
+ghost use Rattle.std.specs.Prelude.{ℕ, Option, IfSome, IfNone, ◌&&◌, map, true, is_some};
+ghost use Rattle.std.specs.Prelude.{if◌then◌else◌};
 ghost use Rattle.mono_model.specs.Result.{is_time_load, is_time_read};
 ghost use Rattle.func_model.specs.Hart.{found_in};
 ghost use Rattle.mono_model.specs.Arch.{compare_of};
@@ -97,8 +98,7 @@ impl<D: Device> Contents<D> {
     ghost use Rattle.func_model.specs.Undo.{undone, IsRestorable};
     ghost use Rattle.func_model.specs.History.{resumed, step_undone, step_seq};
     ghost use Rattle.func_model.specs.History.{instruction_in, IsMade};
-    ghost use Rattle.func_model.specs.Hart.{FetchedFits, found_by};
-    ghost use Rattle.phys_mem.specs.Ram.{exec_of, text_of};
+    ghost use Rattle.func_model.specs.Hart.{FetchedFits, next_found};
 
     /// Executes the next instruction with a time, and says how it leaves the run.
     fn advance(&mut self, time: u64, limit: u32) -> Stepped
@@ -276,38 +276,70 @@ impl<D: Device> Contents<D> {
         Ok(Contents { hart, bus, cmp })
     }
 
-    /// Executes the next instruction, with its number, epoch and time or none: what is told of it,
-    /// and what takes it back.
-    pub fn step(&mut self, number: u64, epoch: u64, time: Option<u64>) -> (Entry, Past)
+    /// Executes what was fetched at the next address, with its number and epoch, where that changes
+    /// at most a register and the next address: what is told of it, and what takes it back. None,
+    /// and nothing done, where it is anything else.
+    #[inline(always)]
+    pub fn compute(&mut self, fetched: Fetched, number: u64, epoch: u64) -> Option<(Entry, Past)>
+        requires found { found_in fetched ≡ next_found self.old.hart }
+        requires fits { FetchedFits fetched }
         requires count { retired_in self.old < 2 ^ 64 - 1 }
-        requires room { length (output_in self.old) < self.old.hart.room }
-        ensures stands { (s : Setup) (a : Arch) → ContentsStandFor s a self.old
-            → ContentsStandFor s (seq s time a) self.new }
-        ensures entry { (s : Setup) (a : Arch) → ContentsStandFor s a self.old
-            → result.0 ≡ entry_at s time a number epoch }
-        ensures back { (s : Setup) (a : Arch) → ContentsStandFor s a self.old
-            → undone (ram_range s.params) result.1 (seq s time a) ≡ a }
-        ensures number { result.1.number ≡ number }
-        ensures restorable { IsRestorable result.1 }
+        ensures none { IfNone result (self.new ≡ self.old) }
+        ensures stands { IfSome result (λ told. (s : Setup) (time : Option ℕ) (a : Arch)
+            → ContentsStandFor s a self.old → ContentsStandFor s (seq s time a) self.new) }
+        ensures entry { IfSome result (λ told. (s : Setup) (time : Option ℕ) (a : Arch)
+            → ContentsStandFor s a self.old → told.0 ≡ entry_at s time a number epoch) }
+        ensures back { IfSome result (λ told. (s : Setup) (time : Option ℕ) (a : Arch)
+            → ContentsStandFor s a self.old
+            → undone (ram_range s.params) told.1 (seq s time a) ≡ a) }
+        ensures number { IfSome result (λ told. told.1.number ≡ number) }
+        ensures restorable { IfSome result (λ told. IsRestorable told.1) }
         ensures room { self.new.hart.room ≡ self.old.hart.room }
     {
-        let fetched = self.hart.fetch();
-        self.carry_out(fetched, number, epoch, time)
+        let Fetched::Known(word, insn) = fetched else {
+            return None;
+        };
+        let outcome = self.hart.computed(insn)?;
+        let addr = self.hart.pc;
+        let destination = insn.dest();
+        let reg = self.hart.before(destination);
+        self.hart.finish(destination, outcome.value, outcome.next);
+        let entry = Entry {
+            number,
+            epoch,
+            addr,
+            word,
+            access: Access::Nothing,
+            next: outcome.next,
+            cause: None,
+            class: insn.class(),
+            unserved: false,
+            out: None,
+            halt: None,
+            irq_on: takes_interrupts(&self.hart.csrs),
+            cmp: self.cmp,
+        };
+        let past = Past {
+            number,
+            addr,
+            reg,
+            change: Change::Nothing,
+            out: false,
+        };
+        Some((entry, past))
     }
 
     /// Executes what was fetched at the next address, with its number, epoch and time or none: what
     /// is told of it, and what takes it back.
     #[inline(always)]
-    fn carry_out(
+    pub fn carry_out(
         &mut self,
         fetched: Fetched,
         number: u64,
         epoch: u64,
         time: Option<u64>,
     ) -> (Entry, Past)
-        requires found { found_in fetched
-            ≡ found_by (exec_of self.old.hart.memory) (text_of self.old.hart.memory)
-            self.old.hart.pc }
+        requires found { found_in fetched ≡ next_found self.old.hart }
         requires fits { FetchedFits fetched }
         requires count { retired_in self.old < 2 ^ 64 - 1 }
         requires room { length (output_in self.old) < self.old.hart.room }

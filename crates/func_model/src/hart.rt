@@ -4,7 +4,7 @@ ghost use Rattle.mono_model.specs.Arch.{compare_of};
 ghost use Rattle.mono_model.specs.Found.{is_csr_insn, is_mret_insn};
 ghost use Rattle.mono_model.specs.Result.{attempted, csr_value};
 ghost use Rattle.mono_model.specs.Sequence.{byte_in};
-ghost use Rattle.func_model.specs.Steps.{plain_with};
+ghost use Rattle.func_model.specs.Steps.{plain_with, reaches_out};
 ghost use Rattle.func_model.specs.Undo.{csr_back, flags_before, trap_before};
 ghost use Rattle.machine_csr.specs.Csr.{csr_written};
 
@@ -74,6 +74,16 @@ fn is_mret(insn: Insn) -> bool
     ensures mret { result ≡ is_mret_insn insn }
 {
     matches!(insn, Insn::Mret)
+}
+
+/// Whether the instruction may reach memory, or is about control and status registers.
+fn reaches_out(insn: Insn) -> bool
+    ensures out { result ≡ reaches_out insn }
+{
+    matches!(
+        insn,
+        Insn::Load { .. } | Insn::Store { .. } | Insn::Csr { .. } | Insn::Mret
+    )
 }
 
 /// The timer's place on the bus, and the numbers that are the halves of its mtimecmp.
@@ -203,7 +213,7 @@ impl Hart {
     ghost use Rattle.func_model.specs.Steps.{failed_with, finished, read_devices, load_made};
     ghost use Rattle.func_model.specs.Steps.{stepped_by, concluded, store_made, outcome_made};
     ghost use Rattle.func_model.specs.Steps.{outcome_result, AlignedBy, csr_made, mret_made};
-    ghost use Rattle.func_model.specs.Steps.{behind, result_of, Told};
+    ghost use Rattle.func_model.specs.Steps.{behind, result_of, plain_outcome, Told};
     ghost use Rattle.func_model.specs.Hart.{found_in, FetchedFits, found_by, IsDestination};
     ghost use Rattle.func_model.specs.Hart.{arch_of};
     ghost use Rattle.func_model.specs.Undo.{undone, TakesBack, IsRestorable, IsRestorableChange};
@@ -292,7 +302,7 @@ impl Hart {
 
     /// Retires an instruction: writes its register, if any, and goes on at an address.
     #[tactic(auto, unfolding(crate::specs::Hart::arch_of))]
-    fn finish(&mut self, destination: Option<u8>, value: u32, next: u32)
+    pub fn finish(&mut self, destination: Option<u8>, value: u32, next: u32)
         requires exists { IsDestination destination }
         requires count { self.old.csrs.retired < 2 ^ 64 - 1 }
         ensures arch { (d : Devices)
@@ -374,7 +384,9 @@ impl Hart {
         requires aligned { access.addr % width_bytes access.width ≡ 0 }
         ensures told { (limit : ℕ)
             → Told limit (loaded_at access.next access.addr access.width access.signed
-            (seen_in time (arch_of self.old bus.old)) (spot_of (range_of self.old.memory) access.addr access.width)) (arch_of self.old bus.old) result }
+            (seen_in time (arch_of self.old bus.old))
+            (spot_of (range_of self.old.memory) access.addr access.width))
+            (arch_of self.old bus.old) result }
         ensures arch { arch_of self.new bus.new
             ≡ load_made (range_of self.old.memory) destination access.next access.addr access.width
             access.signed time (arch_of self.old bus.old) }
@@ -442,7 +454,8 @@ impl Hart {
         requires aligned { access.addr % width_bytes access.width ≡ 0 }
         requires limit { limit ≤ self.old.room }
         ensures told { Told limit (stored_at access.next access.addr access.width access.value
-            (spot_of (range_of self.old.memory) access.addr access.width)) (arch_of self.old bus.old) result }
+            (spot_of (range_of self.old.memory) access.addr access.width))
+            (arch_of self.old bus.old) result }
         ensures arch { arch_of self.new bus.new
             ≡ store_made (range_of self.old.memory) limit access.next access.addr access.width
             access.value (arch_of self.old bus.old) }
@@ -605,6 +618,24 @@ impl Hart {
         plain(Change::Csr(before))
     }
 
+    /// The outcome of an instruction that changes at most a register and the next address. None of
+    /// any other, and where it traps.
+    #[inline(always)]
+    pub fn computed(&self, insn: Insn) -> Option<Outcome>
+        ensures outcome { result
+            ≡ plain_outcome insn self.now.pc (λ r. slice_index self.now.regs r) }
+    {
+        if reaches_out(insn) {
+            return None;
+        }
+        let (first, second) = insn.sources();
+        let outcome = eval(insn, self.pc, self.operand(first), self.operand(second));
+        match outcome.cause {
+            None => Some(outcome),
+            Some(_) => None,
+        }
+    }
+
     /// Executes an instruction with a time or none and an output limit.
     #[tactic(auto, unfolding(crate::specs::Hart::arch_of))]
     #[inline(always)]
@@ -623,7 +654,8 @@ impl Hart {
             (arch_of self.old bus.old)) (arch_of self.old bus.old) result }
         ensures arch { arch_of self.new bus.new
             ≡ behind limit (known word insn)
-            (result_of (range_of self.old.memory) (known word insn) time (arch_of self.old bus.old)) time (arch_of self.old bus.old) }
+            (result_of (range_of self.old.memory) (known word insn) time
+            (arch_of self.old bus.old)) time (arch_of self.old bus.old) }
         ensures back { TakesBack (range_of self.old.memory) result (arch_of self.old bus.old)
             (arch_of self.new bus.new) }
         ensures range { range_of self.new.memory ≡ range_of self.old.memory }
@@ -661,7 +693,8 @@ impl Hart {
             (arch_of self.old bus.old)) (arch_of self.old bus.old) result }
         ensures arch { arch_of self.new bus.new
             ≡ behind limit (found_in fetched)
-            (result_of (range_of self.old.memory) (found_in fetched) time (arch_of self.old bus.old)) time (arch_of self.old bus.old) }
+            (result_of (range_of self.old.memory) (found_in fetched) time
+            (arch_of self.old bus.old)) time (arch_of self.old bus.old) }
         ensures back { TakesBack (range_of self.old.memory) result (arch_of self.old bus.old)
             (arch_of self.new bus.new) }
         ensures range { range_of self.new.memory ≡ range_of self.old.memory }

@@ -50,14 +50,15 @@ pub struct Trail<D: Device> {
 }
 
 impl<D: Device> Trail<D> {
-    ghost use Rattle.std.specs.Prelude.{max, ◌-◌, [], ◌∷◌, ◌++◌};
+    ghost use Rattle.std.specs.Prelude.{[]};
     ghost use Rattle.mono_model.specs.declared.setup.Setup.{Setup as RunSetup};
     ghost use Rattle.device_bus.specs.Bus.{device_order};
     ghost use Rattle.mono_model.specs.Setup.{is_setup};
     ghost use Rattle.mono_model.specs.Arch.{Arch, synced};
     ghost use Rattle.func_model.specs.Contents.{ContentsStandFor};
-    ghost use Rattle.circular_buffer.specs.Buffer.{buffer, keep_last};
+    ghost use Rattle.circular_buffer.specs.Buffer.{buffer};
     ghost use Rattle.func_model.specs.Trail.{TrailStandsFor, IsOnTrail, IsTold, IsBack, IsOpening};
+    ghost use Rattle.func_model.specs.Trail.{remembered};
 
     /// The trail at the start of a run, which remembers so many steps. All memory of the run is
     /// taken here.
@@ -133,12 +134,7 @@ impl<D: Device> Trail<D> {
     /// Remembers the step that was made last.
     #[inline(always)]
     fn note(&mut self, past: PastStep)
-        ensures noted { self.new
-            ≡ record self.old {
-              steps = buffer
-                  (keep_last self.old.steps.capacity (self.old.steps.items ++ past ∷ [])) self.old.steps.capacity;
-              floor = max self.old.floor (self.old.at - self.old.steps.capacity);
-            } }
+        ensures noted { self.new ≡ remembered past self.old }
     {
         self.floor = self
             .floor

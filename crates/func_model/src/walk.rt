@@ -1,13 +1,14 @@
 ghost use Rattle.std.specs.Prelude.{◌≡◌, ◌<◌, ◌≤◌, ◌+◌, ◌^◌, Option, Some, None, true, false, map};
-ghost use Rattle.std.specs.Prelude.{IfOk, length};
+ghost use Rattle.std.specs.Prelude.{IfOk, IfSome, length};
 
 use crate::contents::Contents;
+use crate::found::Fetched;
 use device_bus::Device;
 use fsim_base::NoMemory;
 use mono_model::Setup;
 use std::alloc::Global;
 use trace_entry::Entry;
-use undo_journal::Journal;
+use undo_journal::{Journal, Past};
 
 /// A walk along a path: what the machine holds at a position, and what leads back from there to
 /// what is committed.
@@ -39,7 +40,10 @@ impl<D: Device> Walk<D> {
     ghost use Rattle.mono_model.specs.Path.{path, entry};
     ghost use Rattle.func_model.specs.Walk.{IsOnPath, WalkStandsFor, IsOnSomePath, CanGoTo};
     ghost use Rattle.func_model.specs.Walk.{IsSameBut, IsStanding, IsFresh, IsMoved};
-    ghost use Rattle.func_model.specs.Walk.{bytes_before, given_at};
+    ghost use Rattle.func_model.specs.Walk.{bytes_before, given_at, IsForward, IsProduced};
+    ghost use Rattle.func_model.specs.Walk.{noted_in};
+    ghost use Rattle.func_model.specs.Hart.{found_in, FetchedFits, next_found};
+    ghost use Rattle.undo_journal.specs.Journal.{newest};
 
     /// The walk at the start of a run. All memory of the run is taken here.
     pub fn new(alloc: Global, setup: &Setup, devices: Vec<D>) -> Result<Walk<D>, NoMemory>
@@ -86,13 +90,52 @@ impl<D: Device> Walk<D> {
         ensures position { self.new.position ≡ self.old.position + 1 }
         ensures others { IsSameBut self.old self.new }
     {
+        let fetched = self.contents.hart.fetch();
+        let computed = self.contents.compute(fetched, self.position, self.epoch);
+        if let Some((entry, past)) = computed {
+            self.note(past);
+            return entry;
+        }
+        self.carry_out(fetched)
+    }
+
+    /// Executes what was fetched at the next address, whatever that is, and notes what takes it
+    /// back, unless it is committed. A call, so that the rest of a step moves no more than an
+    /// instruction needs that reaches nothing.
+    #[inline(never)]
+    fn carry_out(&mut self, fetched: Fetched) -> Entry
+        requires found { found_in fetched ≡ next_found self.old.contents.hart }
+        requires fits { FetchedFits fetched }
+        requires standing { IsStanding self.old }
+        requires running { self.old.is_stopped ≡ false }
+        requires room { self.old.position < self.old.committed + self.old.journal.room }
+        requires bounded { self.old.position < 2 ^ 63 }
+        ensures produced { (s : RunSetup) (os : List SpecOrder) → WalkStandsFor s os self.old
+            → IsProduced s os self.old self.new (Some result) }
+        ensures forward { IsForward self.old self.new }
+    {
         let time = self.time();
-        let (entry, past) = self.contents.step(self.position, self.epoch, time);
+        let (entry, past) = self
+            .contents
+            .carry_out(fetched, self.position, self.epoch, time);
+        self.note(past);
+        entry
+    }
+
+    /// Notes what takes the instruction back that was executed last, unless that is committed.
+    #[inline(always)]
+    fn note(&mut self, past: Past)
+        requires bounded { self.old.position < 2 ^ 63 }
+        requires room { self.old.committed ≤ self.old.position
+            → length self.old.journal.steps < self.old.journal.room }
+        requires above { self.old.committed ≤ self.old.position
+            → IfSome (newest self.old.journal.steps) (λ q. q.number < past.number) }
+        ensures noted { self.new ≡ noted_in past self.old }
+    {
         if self.position >= self.committed {
             self.journal.note(past);
         }
         self.position += 1;
-        entry
     }
 
     /// Takes instructions back until instruction `n` is the next one. What is committed isn't taken

@@ -1,54 +1,58 @@
-use Rattle.std.proofs.Common.{◌≡◌, ◌+◌, ℕ, List, Option, ap, sym, ◌∙◌, subst, arith}
+use Rattle.std.proofs.Common.{◌∙◌, List, Some, refl, arith}
 use Rattle.rollback_cmds.specs.declared.order.Order.{Order as SpecOrder}
 use Rattle.mono_model.specs.declared.setup.Setup.{Setup as RunSetup}
-use Rattle.mono_model.specs.Setup.{ram_range}
-use Rattle.mono_model.specs.Arch.{Arch}
-use Rattle.mono_model.specs.Path.{path, entry, time_of}
-use Rattle.mono_model.specs.Sequence.{seq, entry_at}
-use Rattle.func_model.specs.declared.walk.Walk.{Walk}
-use Rattle.func_model.specs.Contents.{ContentsStandFor}
-use Rattle.func_model.specs.Undo.{undone}
-use Rattle.func_model.specs.Walk.{WalkStandsFor}
-use Rattle.func_model.proofs.Walking.{Stepping, walk_retired, step_room, note_above, noted_stands, unnoted_stands}
+use Rattle.mono_model.specs.Path.{path, time_of}
+use Rattle.func_model.specs.Walk.{WalkStandsFor, IsProduced}
+use Rattle.func_model.proofs.Fetching.{still_stands, still_room}
+use Rattle.func_model.proofs.Walking.{walk_retired, walk_still, note_above, produced_on}
 use Rattle.func_model.proofs.walk.Walk.step.Given as given
 use Rattle.func_model.proofs.walk.Walk.step.Goals as goal
-use Rattle.func_model.proofs.walk.Walk.step.Goals.{then-self, else-self}
 
-pub step-requires-clause-count : goal.step-requires-clause-count
-step-requires-clause-count g c = omega (arith, walk_retired c.requires.standing.setup c.requires.standing.orders c.args.self.now c.requires.standing.stands.holds, c.requires.bounded)
-
-pub step-requires-clause-room : goal.step-requires-clause-room
-step-requires-clause-room g c = step_room c.requires.standing.setup c.requires.standing.orders c.args.self.now c.requires.standing.stands c.requires.running c.requires.room
+pub compute-computed-requires-clause-count : goal.compute-computed-requires-clause-count
+compute-computed-requires-clause-count g c =
+    let walk = c.args.self.now in
+    let still = walk_still c.requires.standing.setup c.requires.standing.orders walk (record walk.contents { hart = c.fetch-fetched.new.self }) c.fetch-fetched.new.self c.fetch-fetched.ensures.others refl
+    c.requires.standing.stands in
+    omega (arith, walk_retired c.requires.standing.setup c.requires.standing.orders (record walk { contents = record walk.contents { hart = c.fetch-fetched.new.self } }) still.holds, c.requires.bounded)
 
 pub note-requires-clause-above : goal.note-requires-clause-above
-note-requires-clause-above g c =
-    note_above c.requires.standing.setup c.requires.standing.orders c.args.self.now _ c.requires.standing.stands.holds c.if-self.true c.step.ensures.number
+note-requires-clause-above g c = λ below.
+    note_above c.requires.standing.setup c.requires.standing.orders c.args.self.now _ c.requires.standing.stands.holds below c.in-Some.ensures.number
 
--- the time that the instruction was given
-time_is : (g : given.Over) (c : goal.After-self-1 g) (s : RunSetup) (os : List SpecOrder) → WalkStandsFor s os c.args.self.now → c.time-time.result ≡ time_of os c.args.self.now.position
-time_is g c s os h = c.time-time.ensures.time ∙ h.holds.given c.args.self.now.position
+-- where it changed at most a register and the next address
+computed : (g : given.Over) (c : goal.After-note g) (s : RunSetup) (os : List SpecOrder) → WalkStandsFor s os c.args.self.now → IsProduced s os c.args.self.now c.note.new.self (Some c.in-Some.entry)
+computed g c s os h =
+    let walk = c.args.self.now in
+    let a = path s os walk.position in
+    let time = time_of os walk.position in
+    let still = still_stands s a walk.contents c.fetch-fetched.new.self c.fetch-fetched.ensures.others h.holds.contents in
+    produced_on s os walk c.compute-computed.new.self time c.in-Some.entry c.in-Some.past c.note.new.self h c.requires.running refl
+    (c.in-Some.ensures.stands s time a still) (c.in-Some.ensures.room ∙ still_room walk.contents.hart c.fetch-fetched.new.self c.fetch-fetched.ensures.others)
+    (c.in-Some.ensures.entry s time a still) c.in-Some.ensures.number (c.in-Some.ensures.back s time a still) c.in-Some.ensures.restorable c.note.ensures.noted
 
-pub returns-clause-entry : goal.returns-clause-entry
-unfolding entry
-returns-clause-entry g c = λ s os h.
-    let a : Arch = path s os c.args.self.now.position in
-    c.step.ensures.entry s a h.holds.contents
-    ∙ ap (λ (t : Option ℕ). entry_at s t a c.args.self.now.position c.args.self.now.epoch) (time_is g c s os h)
-    ∙ ap (λ (e : ℕ). entry_at s (time_of os c.args.self.now.position) a c.args.self.now.position e) h.holds.epoch
+pub returns-in-Some-clause-stands : goal.returns-in-Some-clause-stands
+returns-in-Some-clause-stands g c = λ s os h. (computed g c s os h).stands
+
+pub returns-in-Some-clause-entry : goal.returns-in-Some-clause-entry
+returns-in-Some-clause-entry g c = λ s os h. (computed g c s os h).entry_is
+
+-- where it is carried out
+pub carry_out-requires-clause-standing : goal.carry_out-requires-clause-standing
+carry_out-requires-clause-standing g c = record {
+  setup = c.requires.standing.setup;
+  orders = c.requires.standing.orders;
+  stands = walk_still c.requires.standing.setup c.requires.standing.orders c.args.self.now c.compute-computed.new.self c.fetch-fetched.new.self c.fetch-fetched.ensures.others
+      c.in_default.ensures.none c.requires.standing.stands;
+}
+
+carried : (g : given.Over) (c : goal.After-carry_out g) (s : RunSetup) (os : List SpecOrder) → WalkStandsFor s os c.args.self.now →
+    IsProduced s os (record c.args.self.now { contents = c.compute-computed.new.self }) c.carry_out.new.self (Some c.carry_out.result)
+carried g c s os h =
+    c.carry_out.ensures.produced s os
+    (walk_still s os c.args.self.now c.compute-computed.new.self c.fetch-fetched.new.self c.fetch-fetched.ensures.others c.in_default.ensures.none h)
 
 pub returns-clause-stands : goal.returns-clause-stands
-returns-clause-stands g c = λ s os h.
-    let a : Arch = path s os c.args.self.now.position in
-    let P : Option ℕ → Type 0 = λ t. ContentsStandFor s (seq s t a) c.step.new.self in
-    let U : Option ℕ → Type 0 = λ t. undone (ram_range s.params) c.step.result.1 (seq s t a) ≡ a in
-    let made : Stepping s os c.args.self.now c.step.new.self = record {
-      stands = subst P (time_is g c s os h) (c.step.ensures.stands s a h.holds.contents);
-      space = c.step.ensures.room;
-    } in
-    let back : U (time_of os c.args.self.now.position) = subst U (time_is g c s os h) (c.step.ensures.back s a h.holds.contents) in
-    elim c.if-self.branch [
-      | then-self w ↦ subst (λ (x : Walk g.row.D.Denot). WalkStandsFor s os (record x { position = x.position + 1 })) (sym w.self-is)
-          (noted_stands s os c.args.self.now c.step.new.self w.note.new.self c.step.result.1 h c.requires.running made w.if-self.true w.note.ensures.noted c.step.ensures.number back c.step.ensures.restorable)
-      | else-self w ↦ subst (λ (x : Walk g.row.D.Denot). WalkStandsFor s os (record x { position = x.position + 1 })) (sym w.self-is)
-          (unnoted_stands s os c.args.self.now c.step.new.self h c.requires.running made w.if-self.false)
-    ]
+returns-clause-stands g c = λ s os h. (carried g c s os h).stands
+
+pub returns-clause-entry : goal.returns-clause-entry
+returns-clause-entry g c = λ s os h. (carried g c s os h).entry_is
