@@ -13,7 +13,7 @@ use crate::refusal::Refusal;
 use crate::script::run_script;
 use crate::sweep::run_sweep;
 use device_bus::Device;
-use fast_threads::Session;
+use fast_threads::{Named, Session};
 use fsim_base::NoMemory;
 use fsim_ports::{Gate, Sink};
 use func_model::FuncSide;
@@ -22,6 +22,7 @@ use mono_model::Setup;
 use report_text::Status;
 use split_core::SplitCore;
 use std::alloc::Global;
+use std::marker::Brand;
 use std::sync::Wait;
 use std::thread::Threads;
 
@@ -82,21 +83,39 @@ pub fn first_set<D: Device>(devices: Vec<D>) -> Vec<D>
 }
 
 /// The run on the machine, on two threads.
-fn run_session<R: Threads + Wait + Sync, K: Sink, G: Gate + Sync, D: Device + Send>(
+fn run_session<R: Threads + Wait + Sync, S: Sink, G: Gate + Sync, D: Device + Send>(
     rt: &R,
     alloc: Global,
     setup: &Setup,
     devices: Vec<D>,
-    sink: &mut K,
+    sink: &mut S,
     gate: &G,
 ) -> Status
     requires sound { is_setup setup.now ≡ true }
     requires order { map D.kind devices.items ≡ device_order }
-    ensures count { K.faults sink.old ≤ K.faults sink.new }
+    ensures count { S.faults sink.old ≤ S.faults sink.new }
     ensures ends { Ends (Job.Run setup.now)
-        (writing_of K.written K.faults sink.old sink.new) result }
+        (writing_of S.written S.faults sink.old sink.new) result }
 {
-    let mut session = match Session::new(alloc, setup, devices) {
+    play_session::<Brand, R, S, G, D>(rt, alloc, setup, devices, sink, gate)
+}
+
+/// The same, with a name for the setup, which the types of the run have for proofs.
+fn play_session<
+    K: Named + Send,
+    R: Threads + Wait + Sync,
+    S: Sink,
+    G: Gate + Sync,
+    D: Device + Send,
+>(rt: &R, alloc: Global, setup: &Setup, devices: Vec<D>, sink: &mut S, gate: &G) -> Status
+    requires sound { is_setup setup.now ≡ true }
+    requires run { K.setup ≡ setup.now }
+    requires order { map D.kind devices.items ≡ device_order }
+    ensures count { S.faults sink.old ≤ S.faults sink.new }
+    ensures ends { Ends (Job.Run setup.now)
+        (writing_of S.written S.faults sink.old sink.new) result }
+{
+    let mut session = match Session::<D, K>::new(alloc, setup, devices) {
         Ok(session) => session,
         Err(NoMemory) => return Refusal::new(Status::Memory).tell(sink),
     };

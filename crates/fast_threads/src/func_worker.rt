@@ -1,7 +1,7 @@
 ghost use Rattle.std.specs.Prelude.{◌≡◌, true, Some, None, map, IfOk};
 
 use crate::lookahead::Lookahead;
-use crate::rounds::MOST_IDLE;
+use crate::rounds::{MOST_IDLE, rest};
 use device_bus::Device;
 use fsim_base::NoMemory;
 use fsim_ports::Gate;
@@ -10,21 +10,20 @@ use mono_model::Setup;
 use std::alloc::Global;
 use std::marker::Model;
 use std::sync::Wait;
-use std::thread;
 use trace_entry::Entry;
-use trace_ring::FuncEnd;
+use trace_ring::{FuncEnd, Named};
 
 /// The functional side at its end of the queues.
 #[derive(Drop)]
-pub struct FuncWorker<D: Device> {
-    end: FuncEnd,
+pub struct FuncWorker<D: Device, K: Named> {
+    end: FuncEnd<K>,
     side: FuncSide<D>,
     /// The entry that was computed and not pushed yet.
     computed: Option<Entry>,
     lookahead: Lookahead,
 }
 
-impl<D: Device> Model for FuncWorker<D> {
+impl<D: Device, K: Named> Model for FuncWorker<D, K> {
     ghost use Rattle.fast_threads.specs.Workers.{FuncWork, func_work, IsFuncAt};
 
     ghost Value = { FuncWork D };
@@ -34,7 +33,7 @@ impl<D: Device> Model for FuncWorker<D> {
     ghost invariant = { λ worker. IsFuncAt worker.end worker.side worker.computed };
 }
 
-impl<D: Device> FuncWorker<D> {
+impl<D: Device, K: Named> FuncWorker<D, K> {
     ghost use Rattle.device_bus.specs.Bus.{device_order};
     ghost use Rattle.mono_model.specs.Setup.{is_setup};
     ghost use Rattle.trace_ring.specs.Ends.{func_start};
@@ -47,9 +46,9 @@ impl<D: Device> FuncWorker<D> {
     pub fn new(
         alloc: Global,
         setup: &Setup,
-        end: FuncEnd,
+        end: FuncEnd<K>,
         devices: Vec<D>,
-    ) -> Result<FuncWorker<D>, NoMemory>
+    ) -> Result<FuncWorker<D, K>, NoMemory>
         requires sound { is_setup setup.now ≡ true }
         requires end { end ≡ func_start setup.now }
         requires order { map D.kind devices.items ≡ device_order }
@@ -74,11 +73,11 @@ impl<D: Device> FuncWorker<D> {
                 break;
             }
             gate.func_turn();
-            if self.turn(rt) {
+            if self.turn() {
                 idle = 0;
             } else {
                 idle += 1;
-                thread::yield_now();
+                rest(idle);
             }
         }
     }
@@ -107,27 +106,27 @@ impl<D: Device> FuncWorker<D> {
 
     /// A turn: the next order is obeyed, or else the next entry made and handed over. Says whether
     /// there was anything to do.
-    pub fn turn<R: Wait>(&mut self, rt: &R) -> bool
+    pub fn turn(&mut self) -> bool
         ensures setup { self.new.setup ≡ self.old.setup }
     {
-        if self.obey(rt) {
+        if self.obey() {
             return true;
         }
         if self.computed.is_none() {
             self.compute();
         }
         match self.computed {
-            Some(entry) => self.push(rt, entry),
+            Some(entry) => self.push(entry),
             None => false,
         }
     }
 
     /// Obeys the next order, if there is one. Where it opens an epoch, the computed entry is of no
     /// use any more.
-    pub fn obey<R: Wait>(&mut self, rt: &R) -> bool
+    pub fn obey(&mut self) -> bool
         ensures setup { self.new.setup ≡ self.old.setup }
     {
-        let Some(order) = self.end.next(rt) else {
+        let Some(order) = self.end.next() else {
             return false;
         };
         let committed = self.side.committed();
@@ -156,11 +155,11 @@ impl<D: Device> FuncWorker<D> {
     }
 
     /// Hands over the computed entry, if the ring has room for it.
-    fn push<R: Wait>(&mut self, rt: &R, entry: Entry) -> bool
+    fn push(&mut self, entry: Entry) -> bool
         requires computed { self.old.computed ≡ Some entry }
         ensures setup { self.new.setup ≡ self.old.setup }
     {
-        let pushed = self.end.push(rt, entry).is_ok();
+        let pushed = self.end.push(entry).is_ok();
         if pushed {
             self.computed = None;
         }

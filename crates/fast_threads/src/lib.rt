@@ -9,6 +9,7 @@ mod session;
 mod time_worker;
 
 pub use session::Session;
+pub use trace_ring::Named;
 
 #[cfg(test)]
 mod tests;

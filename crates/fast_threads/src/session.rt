@@ -10,19 +10,19 @@ use std::alloc::Global;
 use std::marker::Model;
 use std::sync::Wait;
 use std::thread::{Threads, join_mut};
-use trace_ring::rings;
+use trace_ring::{Named, rings};
 
 /// A run of the two sides in two threads. Contracts see its setup, the functional side, and whether
 /// the run has ended.
 #[derive(Drop)]
-pub struct Session<D: Device> {
-    func: FuncWorker<D>,
-    time: TimeWorker,
+pub struct Session<D: Device, K: Named> {
+    func: FuncWorker<D, K>,
+    time: TimeWorker<K>,
     /// Whether the run is over: all orders were told, and the functional side has obeyed the last.
     ended: bool,
 }
 
-impl<D: Device> Model for Session<D> {
+impl<D: Device, K: Named> Model for Session<D, K> {
     ghost use Rattle.fast_threads.specs.Session.{SessionAt, session_at, IsRunning};
 
     ghost Value = { SessionAt D };
@@ -32,19 +32,20 @@ impl<D: Device> Model for Session<D> {
     ghost invariant = { λ session. IsRunning session.func session.time session.ended };
 }
 
-impl<D: Device> Session<D> {
+impl<D: Device, K: Named> Session<D, K> {
     ghost use Rattle.device_bus.specs.Bus.{device_order};
     ghost use Rattle.mono_model.specs.Setup.{is_setup};
     ghost use Rattle.mono_model.specs.Cycle.{final, mono};
 
     /// The two sides at the start of a run, with nothing under way. All memory of the run is taken
     /// here; a refusal drops what it was given.
-    pub fn new(alloc: Global, setup: &Setup, devices: Vec<D>) -> Result<Session<D>, NoMemory>
+    pub fn new(alloc: Global, setup: &Setup, devices: Vec<D>) -> Result<Session<D, K>, NoMemory>
         requires sound { is_setup setup.now ≡ true }
+        requires run { K.setup ≡ setup.now }
         requires order { map D.kind devices.items ≡ device_order }
         ensures setup { IfOk result (λ session. session.setup ≡ setup.now) }
     {
-        let (func_end, time_end) = rings(alloc, setup)?;
+        let (func_end, time_end) = rings::<K>(alloc, setup)?;
         let func = FuncWorker::new(alloc, setup, func_end, devices)?;
         let time = TimeWorker::new(alloc, setup, time_end)?;
         Ok(Session {
@@ -81,7 +82,7 @@ impl<D: Device> Session<D> {
     }
 }
 
-impl<D: Device + Send> Session<D> {
+impl<D: Device + Send, K: Named + Send> Session<D, K> {
     ghost use Rattle.fast_threads.specs.Session.{HoldsEnd};
 
     /// Runs the two sides in two threads to the end of the run. In a round each side works until it

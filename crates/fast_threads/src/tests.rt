@@ -19,14 +19,16 @@ macro_rules! devices {
 mod gates;
 mod rows;
 
-use crate::Session;
 use crate::func_worker::FuncWorker;
 use crate::time_worker::TimeWorker;
+use crate::{Named, Session};
 use device_bus::{Console, Device, Finisher, Timer, in_order};
 use fsim_ports::{Gate, QuietGate};
 use gates::{MeetingGate, SpinningGate};
+use mono_model::Setup;
 use rows::{COUNTDOWN, DRIVER, Row, SMALLEST_PASS, final_of, setup};
 use std::alloc::Global;
+use std::marker::Brand;
 use std::process::Abort;
 use std::sync::Wait;
 use std::test::Fail;
@@ -44,7 +46,20 @@ fn compare_run<R: Threads + Wait + Abort + Sync, D: Device + Send, G: Gate + Syn
     requires order { map D.kind devices.items ≡ device_order }
 {
     let setup = setup(rt, alloc, row)?;
-    let mut session = Session::new(alloc, &setup, devices)?;
+    compare_session::<Brand, R, D, G>(rt, alloc, &setup, devices, row, gate)
+}
+
+fn compare_session<
+    K: Named + Send,
+    R: Threads + Wait + Abort + Sync,
+    D: Device + Send,
+    G: Gate + Sync,
+>(rt: &R, alloc: Global, setup: &Setup, devices: Vec<D>, row: &Row, gate: &G) -> Result<(), Fail>
+    requires sound { is_setup setup.now ≡ true }
+    requires run { K.setup ≡ setup.now }
+    requires order { map D.kind devices.items ≡ device_order }
+{
+    let mut session = Session::<D, K>::new(alloc, setup, devices)?;
     session.run(rt, gate);
     assert_eq!(rt; session.result(), final_of(row), "{}", row.name);
     assert_eq!(rt; session.output(), row.output, "{}", row.name);
@@ -80,7 +95,7 @@ fn each_side_has_a_turn_before_the_other_has_its_second(rt: HostRuntime) -> Resu
 
 /// Both sides in turn on one thread: whenever the timing side finds no entry, the functional side
 /// pushes one, which the next turn takes. Gives how many there were before the first order.
-fn count_entries<R: Wait + Abort, D: Device>(
+fn count_entries<R: Abort, D: Device>(
     rt: &R,
     alloc: Global,
     devices: Vec<D>,
@@ -89,17 +104,30 @@ fn count_entries<R: Wait + Abort, D: Device>(
     requires order { map D.kind devices.items ≡ device_order }
 {
     let setup = setup(rt, alloc, row)?;
-    let (func_end, time_end) = rings(alloc, &setup)?;
-    let mut func = FuncWorker::new(alloc, &setup, func_end, devices)?;
-    let mut time = TimeWorker::new(alloc, &setup, time_end)?;
+    count_in_run::<Brand, R, D>(rt, alloc, &setup, devices)
+}
+
+fn count_in_run<K: Named, R: Abort, D: Device>(
+    rt: &R,
+    alloc: Global,
+    setup: &Setup,
+    devices: Vec<D>,
+) -> Result<u32, Fail>
+    requires sound { is_setup setup.now ≡ true }
+    requires run { K.setup ≡ setup.now }
+    requires order { map D.kind devices.items ≡ device_order }
+{
+    let (func_end, time_end) = rings::<K>(alloc, setup)?;
+    let mut func = FuncWorker::new(alloc, setup, func_end, devices)?;
+    let mut time = TimeWorker::new(alloc, setup, time_end)?;
     let mut entries = 0u32;
     for _ in 0..100u32 {
-        if func.obey(rt) {
+        if func.obey() {
             return Ok(entries);
         }
-        if !time.turn(rt) {
-            assert!(rt; func.turn(rt));
-            assert!(rt; time.turn(rt));
+        if !time.turn() {
+            assert!(rt; func.turn());
+            assert!(rt; time.turn());
             entries = entries.saturating_add(1);
         }
     }

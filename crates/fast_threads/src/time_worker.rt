@@ -1,6 +1,6 @@
 ghost use Rattle.std.specs.Prelude.{◌≡◌, true, Some, None, IfOk};
 
-use crate::rounds::MOST_IDLE;
+use crate::rounds::{MOST_IDLE, rest};
 use fsim_base::NoMemory;
 use fsim_ports::Gate;
 use mono_model::{End, Setup, Stats};
@@ -8,14 +8,13 @@ use rollback_cmds::Order;
 use std::alloc::Global;
 use std::marker::Model;
 use std::sync::Wait;
-use std::thread;
 use time_model::{TimeSide, Turn};
-use trace_ring::TimeEnd;
+use trace_ring::{Named, TimeEnd};
 
 /// The timing side at its end of the queues.
 #[derive(Drop)]
-pub struct TimeWorker {
-    end: TimeEnd,
+pub struct TimeWorker<K: Named> {
+    end: TimeEnd<K>,
     side: TimeSide,
     /// The order that was told and not sent yet.
     hand: Option<Order>,
@@ -23,7 +22,7 @@ pub struct TimeWorker {
     is_halted: bool,
 }
 
-impl Model for TimeWorker {
+impl<K: Named> Model for TimeWorker<K> {
     ghost use Rattle.fast_threads.specs.Workers.{TimeWork, time_work, IsTimeAt};
 
     ghost Value = { TimeWork };
@@ -33,7 +32,7 @@ impl Model for TimeWorker {
     ghost invariant = { λ worker. IsTimeAt worker.end worker.side worker.hand worker.is_halted };
 }
 
-impl TimeWorker {
+impl<K: Named> TimeWorker<K> {
     ghost use Rattle.mono_model.specs.Setup.{is_setup};
     ghost use Rattle.mono_model.specs.Cycle.{mono};
     ghost use Rattle.mono_model.specs.Machine.{stats_of};
@@ -42,7 +41,7 @@ impl TimeWorker {
 
     /// The timing side at the start of a run, with its end of the queues. All memory of the side is
     /// taken here; a refusal drops what it was given.
-    pub fn new(alloc: Global, setup: &Setup, end: TimeEnd) -> Result<TimeWorker, NoMemory>
+    pub fn new(alloc: Global, setup: &Setup, end: TimeEnd<K>) -> Result<TimeWorker<K>, NoMemory>
         requires sound { is_setup setup.now ≡ true }
         requires end { end ≡ time_start setup.now }
         ensures setup { IfOk result (λ worker. worker.setup ≡ setup.now) }
@@ -66,11 +65,11 @@ impl TimeWorker {
                 break;
             }
             gate.time_turn();
-            if self.turn(rt) {
+            if self.turn() {
                 idle = 0;
             } else {
                 idle += 1;
-                thread::yield_now();
+                rest(idle);
             }
         }
     }
@@ -100,25 +99,25 @@ impl TimeWorker {
 
     /// A turn: the order in hand is sent, or else the entry taken that the side needs, or a step
     /// made. Says whether there was anything to do.
-    pub fn turn<R: Wait>(&mut self, rt: &R) -> bool
+    pub fn turn(&mut self) -> bool
         ensures setup { self.new.setup ≡ self.old.setup }
     {
         if let Some(order) = self.hand {
-            return self.send(rt, order);
+            return self.send(order);
         }
         if self.side.wants() {
-            return self.take(rt);
+            return self.take();
         }
         self.step();
         true
     }
 
     /// Sends the order in hand, if the queue has room for it.
-    fn send<R: Wait>(&mut self, rt: &R, order: Order) -> bool
+    fn send(&mut self, order: Order) -> bool
         requires hand { self.old.hand ≡ Some order }
         ensures setup { self.new.setup ≡ self.old.setup }
     {
-        let sent = self.end.push(rt, order).is_ok();
+        let sent = self.end.push(order).is_ok();
         if sent {
             self.hand = None;
         }
@@ -127,11 +126,11 @@ impl TimeWorker {
 
     /// Takes the next entry, if there is one. It is let go where its number isn't the wanted one,
     /// or it is of another epoch.
-    fn take<R: Wait>(&mut self, rt: &R) -> bool
+    fn take(&mut self) -> bool
         requires wants { wants_in self.old.side ≡ true }
         ensures setup { self.new.setup ≡ self.old.setup }
     {
-        let Some(entry) = self.end.next(rt) else {
+        let Some(entry) = self.end.next() else {
             return false;
         };
         if entry.number == self.side.next_number() {

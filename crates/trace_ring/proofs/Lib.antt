@@ -1,4 +1,3 @@
-mod Two
-pub mod RingSteps
-pub mod OrderSteps
+mod Pushing
+mod Waiting
 pub mod Trials

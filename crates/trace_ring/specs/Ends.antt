@@ -1,10 +1,10 @@
 -- What each end of the two queues knows.
-use Rattle.std.specs.Prelude.{◌≡◌, ℕ, ◌+◌, Option, None, Some}
+use Rattle.std.specs.Prelude.{◌≡◌, ℕ, ◌+◌, ◌-◌, Option, None, Some, List, [], ◌++◌, length, take}
+use Rattle.rtrb.specs.Fifo.{Allowed}
 use Rattle.trace_entry.specs.declared.Entry.{Entry}
+use Rattle.rollback_cmds.specs.declared.order.Order.{Order}
 use Rattle.mono_model.specs.declared.setup.Setup.{Setup}
-use Rattle.trace_ring.specs.declared.role.Role.TheVariants.{Pushes, Takes}
-use Rattle.trace_ring.specs.declared.ring.RingView.{RingView}
-use Rattle.trace_ring.specs.declared.orders.OrderView.{OrderView}
+use Rattle.trace_ring.specs.Ring.{last_of, MayFollow}
 
 -- the functional end
 pub record FuncAt : Type 0 where
@@ -47,35 +47,32 @@ time_pushed e = record e { pushed = e.pushed + 1 }
 abbrev pub time_taken : TimeAt → Entry → TimeAt
 time_taken e x = record e { taken = e.taken + 1; last = Some (x.epoch, x.number) }
 
--- what an end's two passes know, as it stands to callers
-abbrev pub func_at : RingView → OrderView → FuncAt
-func_at entries orders =
+-- an end that has pushed these and taken those, as it stands to callers
+abbrev pub func_at : Setup → List Entry → List Order → FuncAt
+func_at setup pushed taken =
     record {
-      setup = entries.setup;
-      pushed = entries.count;
-      last = entries.last;
-      taken = orders.count;
+      setup = setup;
+      pushed = length pushed;
+      last = last_of pushed;
+      taken = length taken;
     }
 
-abbrev pub time_at : RingView → OrderView → TimeAt
-time_at entries orders =
+abbrev pub time_at : Setup → List Order → List Entry → TimeAt
+time_at setup pushed taken =
     record {
-      setup = entries.setup;
-      pushed = orders.count;
-      taken = entries.count;
-      last = entries.last;
+      setup = setup;
+      pushed = length pushed;
+      taken = length taken;
+      last = last_of taken;
     }
 
--- the passes are those of a functional end, and the ring has the room that the setup says
-pub record IsFuncEnd (entries : RingView) (orders : OrderView) (room : ℕ) : Type 0 where
-  pub pushes_entries : entries.role ≡ Pushes
-  pub takes_orders : orders.role ≡ Takes
-  pub same_run : orders.setup ≡ entries.setup
-  pub room_is : room ≡ entries.setup.ring
+-- of the entries that came out of the ring, those before the waiting ones
+abbrev pub handed : List Entry → List Entry → List Entry
+handed received waiting = take (length received - length waiting) received
 
--- the passes are those of a timing end, and the order queue has room for 64
-pub record IsTimeEnd (entries : RingView) (orders : OrderView) (room : ℕ) : Type 0 where
-  pub takes_entries : entries.role ≡ Takes
-  pub pushes_orders : orders.role ≡ Pushes
-  pub same_run : orders.setup ≡ entries.setup
+-- of a timing end: the last entries that came out of the ring wait to be handed out, all of them
+-- came by the rule, and the order queue has room for 64
+pub record IsTimeEnd (setup : Setup) (received waiting : List Entry) (room : ℕ) : Type 0 where
+  pub waits : received ≡ handed received waiting ++ waiting
+  pub allowed : Allowed (MayFollow setup) [] received
   pub room_is : room ≡ 64

@@ -1,5 +1,5 @@
 pub mod Ring
 pub mod Orders
 pub mod Ends
-pub mod Passes
+pub mod NoRun
 pub mod Trial

@@ -12,7 +12,7 @@ use Rattle.rollback_cmds.specs.declared.order.Order.TheVariants.{Set}
 use Rattle.mono_model.specs.declared.params.Params.{Params}
 use Rattle.mono_model.specs.declared.setup.Setup.{Setup}
 use Rattle.mono_model.specs.Plain.{plain_params}
-use Rattle.trace_ring.specs.Passes.{no_setup}
+use Rattle.trace_ring.specs.NoRun.{no_setup}
 
 abbrev pub trial_params : Params
 trial_params = record plain_params {

@@ -6,15 +6,15 @@
 //! that (`specs/Ring.antt`, `specs/Orders.antt`).
 #![tactic(auto)]
 
+mod batch;
 mod ends;
 mod func_end;
-mod orders;
-mod ring;
-mod role;
+mod rules;
 mod time_end;
 
 pub use ends::rings;
 pub use func_end::FuncEnd;
+pub use rules::Named;
 pub use time_end::TimeEnd;
 
 #[cfg(test)]

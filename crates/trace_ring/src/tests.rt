@@ -14,7 +14,7 @@ use std::sync::Wait;
 use std::test::Fail;
 use std::thread;
 use trace_entry::Entry;
-use trial::{next_word, refused_fetch, setup};
+use trial::{Trial, next_word, refused_fetch, setup};
 
 /// How many entries go from one thread to another.
 const ENTRIES: u64 = 5000;
@@ -23,7 +23,7 @@ const ENTRIES: u64 = 5000;
 const ORDERS: u32 = 72;
 
 /// Pushes an entry, and says whether it had room.
-fn push<R: Wait + Abort>(rt: &R, end: &mut FuncEnd, epoch: u64, number: u64, addr: u32) -> bool
+fn push<R: Abort>(rt: &R, end: &mut FuncEnd<Trial>, epoch: u64, number: u64, addr: u32) -> bool
     requires run { end.old.setup ≡ trial }
     requires named { IsNamed trial (refused_fetch epoch number addr) }
     requires follows { Follows trial end.old.last epoch number }
@@ -32,7 +32,7 @@ fn push<R: Wait + Abort>(rt: &R, end: &mut FuncEnd, epoch: u64, number: u64, add
         (end.new.last ≡ end.old.last) }
 {
     let entry = refused_fetch(epoch, number, addr);
-    match end.push(rt, entry) {
+    match end.push(entry) {
         Ok(()) => true,
         Err(back) => {
             assert_eq!(rt; back, entry);
@@ -42,9 +42,9 @@ fn push<R: Wait + Abort>(rt: &R, end: &mut FuncEnd, epoch: u64, number: u64, add
 }
 
 /// Pushes an entry that has room, or else has none.
-fn expect_push<R: Wait + Abort>(
+fn expect_push<R: Abort>(
     rt: &R,
-    end: &mut FuncEnd,
+    end: &mut FuncEnd<Trial>,
     epoch: u64,
     number: u64,
     addr: u32,
@@ -64,7 +64,7 @@ fn expect_push<R: Wait + Abort>(
 /// Four entries of two epochs fill the ring; the fifth, of a later epoch, has room once the first
 /// is taken.
 #[tactic(auto, using(crate::proofs::Trials::entry_named, crate::proofs::Trials::first_of_one, crate::proofs::Trials::second_of_one, crate::proofs::Trials::first_of_three, crate::proofs::Trials::begins))]
-fn fill<R: Wait + Abort>(rt: &R, func: &mut FuncEnd, time: &mut TimeEnd)
+fn fill<R: Abort>(rt: &R, func: &mut FuncEnd<Trial>, time: &mut TimeEnd<Trial>)
     requires run { func.old.setup ≡ trial }
     requires last { func.old.last ≡ None }
 {
@@ -73,7 +73,7 @@ fn fill<R: Wait + Abort>(rt: &R, func: &mut FuncEnd, time: &mut TimeEnd)
     expect_push(rt, func, 1, 1, 4, true);
     expect_push(rt, func, 1, 2, 0, true);
     expect_push(rt, func, 3, 3, 12, false);
-    assert_eq!(rt; time.next(rt), Some(refused_fetch(0, 0, 0)));
+    assert_eq!(rt; time.next(), Some(refused_fetch(0, 0, 0)));
     expect_push(rt, func, 3, 3, 12, true);
 }
 
@@ -81,39 +81,39 @@ fn fill<R: Wait + Abort>(rt: &R, func: &mut FuncEnd, time: &mut TimeEnd)
 fn full_ring_hands_an_entry_back(rt: HostRuntime) -> Result<(), Fail> {
     let setup = setup(rt.alloc());
     assert!(rt; setup.sound());
-    let (mut func, mut time) = rings(rt.alloc(), &setup)?;
-    assert_eq!(rt; time.next(&rt), None);
+    let (mut func, mut time) = rings::<Trial>(rt.alloc(), &setup)?;
+    assert_eq!(rt; time.next(), None);
     fill(&rt, &mut func, &mut time);
     for (epoch, number, addr) in [(0, 1, 0), (1, 1, 4), (1, 2, 0), (3, 3, 12)] {
-        assert_eq!(rt; time.next(&rt), Some(refused_fetch(epoch, number, addr)));
+        assert_eq!(rt; time.next(), Some(refused_fetch(epoch, number, addr)));
     }
-    assert_eq!(rt; time.next(&rt), None);
+    assert_eq!(rt; time.next(), None);
     Ok(())
 }
 
 /// Pushes the order in a place, and says whether it had room.
 #[tactic(auto, using(crate::proofs::Trials::order_named))]
-fn push_order<R: Wait>(rt: &R, end: &mut TimeEnd, place: u32) -> bool
+fn push_order(end: &mut TimeEnd<Trial>, place: u32) -> bool
     requires run { end.old.setup ≡ trial }
     requires place { (end.old.pushed ≡ place) × (place < 72) }
     ensures run { end.new.setup ≡ trial }
     ensures pushed { MatchBool result (end.new.pushed ≡ place + 1) (end.new.pushed ≡ place) }
 {
-    match end.push(rt, next_word(place)) {
+    match end.push(next_word(place)) {
         Ok(()) => true,
         Err(_) => false,
     }
 }
 
 /// Pushes the orders in the places from `place` on until one is handed back, and gives its place.
-fn push_orders<R: Wait + Abort>(rt: &R, end: &mut TimeEnd, first: u32) -> u32
+fn push_orders(end: &mut TimeEnd<Trial>, first: u32) -> u32
     requires run { end.old.setup ≡ trial }
     requires place { (end.old.pushed ≡ first) × (first ≤ 72) }
     ensures run { end.new.setup ≡ trial }
     ensures pushed { (end.new.pushed ≡ result) × (result ≤ 72) }
 {
     for place in first..ORDERS {
-        if !push_order(rt, end, place) {
+        if !push_order(end, place) {
             return place;
         }
     }
@@ -124,22 +124,22 @@ fn push_orders<R: Wait + Abort>(rt: &R, end: &mut TimeEnd, first: u32) -> u32
 fn full_order_queue_hands_an_order_back(rt: HostRuntime) -> Result<(), Fail> {
     let setup = setup(rt.alloc());
     assert!(rt; setup.sound());
-    let (mut func, mut time) = rings(rt.alloc(), &setup)?;
-    assert_eq!(rt; func.next(&rt), None);
-    let refused = push_orders(&rt, &mut time, 0);
+    let (mut func, mut time) = rings::<Trial>(rt.alloc(), &setup)?;
+    assert_eq!(rt; func.next(), None);
+    let refused = push_orders(&mut time, 0);
     assert_eq!(rt; refused, 64);
-    assert_eq!(rt; func.next(&rt), Some(next_word(0)));
-    assert_eq!(rt; push_orders(&rt, &mut time, refused), 65);
+    assert_eq!(rt; func.next(), Some(next_word(0)));
+    assert_eq!(rt; push_orders(&mut time, refused), 65);
     for place in 1..65 {
-        assert_eq!(rt; func.next(&rt), Some(next_word(place)));
+        assert_eq!(rt; func.next(), Some(next_word(place)));
     }
-    assert_eq!(rt; func.next(&rt), None);
+    assert_eq!(rt; func.next(), None);
     Ok(())
 }
 
 /// Pushes all entries, waiting for room.
 #[tactic(auto, using(crate::proofs::Trials::entry_named))]
-fn push_all<R: Wait + Abort>(rt: &R, mut end: FuncEnd)
+fn push_all<R: Wait + Abort>(rt: &R, mut end: FuncEnd<Trial>)
     requires run { end.setup ≡ trial }
     requires last { end.last ≡ None }
 {
@@ -157,13 +157,13 @@ fn push_all<R: Wait + Abort>(rt: &R, mut end: FuncEnd)
 }
 
 /// Takes all entries, waiting for each.
-fn take_all<R: Wait + Abort>(rt: &R, mut end: TimeEnd) {
+fn take_all<R: Wait + Abort>(rt: &R, mut end: TimeEnd<Trial>) {
     let mut number = 0;
     for _ in rt.forever() {
         if number >= ENTRIES {
             break;
         }
-        match end.next(rt) {
+        match end.next() {
             Some(entry) => {
                 assert_eq!(rt; entry, refused_fetch(0, number, 0));
                 number += 1;
@@ -177,7 +177,7 @@ fn take_all<R: Wait + Abort>(rt: &R, mut end: TimeEnd) {
 fn two_threads_hand_over_entries(rt: HostRuntime) -> Result<(), Fail> {
     let setup = setup(rt.alloc());
     assert!(rt; setup.sound());
-    let (func, time) = rings(rt.alloc(), &setup)?;
+    let (func, time) = rings::<Trial>(rt.alloc(), &setup)?;
     thread::join(
         &rt,
         move ||

@@ -1,14 +1,17 @@
-use Rattle.std.proofs.Common.{sym, subst}
-use Rattle.trace_ring.specs.Ends.{FuncAt}
-use Rattle.trace_ring.specs.Passes.{seen}
-use Rattle.trace_ring.specs.Ring.{IsNamed, Follows}
-use Rattle.trace_ring.proofs.RingSteps.{pushes, push_learns}
+use Rattle.std.proofs.Common.{rules, ◌≡◌, ◌∙◌, ◌++◌, ◌∷◌, [], ap}
+use Rattle.rtrb.specs.Ring.{sent, received}
+use Rattle.trace_ring.specs.Ends.{func_at, func_pushed, FuncAt}
+use Rattle.trace_ring.proofs.Pushing.{func_pushes}
 use Rattle.trace_ring.proofs.func_end.FuncEnd.push.Goals as goal
+use Rattle.trace_ring.proofs.func_end.FuncEnd.push.Goals.{in-Ok, in-Err-Full}
 
-pub push_as-requires-clause-rule : goal.push_as-requires-clause-rule
-push_as-requires-clause-rule g c =
-    let v = seen c.self.inside.entries_in in
+pub returns-clause-pushed : goal.returns-clause-pushed
+returns-clause-pushed g c =
+    let old = c.self.inside in
     let x = c.args.entry in
-    let named : IsNamed v.setup x = subst (λ (e : FuncAt). IsNamed e.setup x) (sym c.self.view_is) c.requires.named in
-    let follows : Follows v.setup v.last x.epoch x.number = subst (λ (e : FuncAt). Follows e.setup e.last x.epoch x.number) (sym c.self.view_is) c.requires.follows in
-    (pushes _ _ _ _ c.self.invariant.2.pushes_entries named follows, push_learns _ _ c.self.invariant.2.pushes_entries)
+    let step : func_at g.K.Named.setup (sent old.entries ++ x ∷ []) (received old.orders) ≡ func_pushed c.args.self.now x =
+    func_pushes g.K.Named.setup (sent old.entries) x (received old.orders) ∙ ap (λ (e : FuncAt). func_pushed e x) c.self.view_is in
+    elim c.match-push.branch [
+      | in-Ok w ↦ search rules
+      | in-Err-Full w ↦ search rules
+    ]

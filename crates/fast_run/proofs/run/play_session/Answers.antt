@@ -8,7 +8,7 @@ use Rattle.mono_model.proofs.Sound.{setup_facts}
 use Rattle.fast_run.specs.Outcome.{status_for}
 use Rattle.fast_run.proofs.Answers.{running-end}
 use Rattle.fast_run.proofs.Ending.{IsAt, at-end, at-text, not_running}
-use Rattle.fast_run.proofs.run.run_session.Goals as goal
+use Rattle.fast_run.proofs.run.play_session.Goals as goal
 
 pub returns-clause-ends : goal.returns-clause-ends
 returns-clause-ends g c =
