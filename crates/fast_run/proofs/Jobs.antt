@@ -1,32 +1,14 @@
--- From the stages of a job to the job, or to its first refusal.
-use Rattle.std.proofs.Common.{◌≡◌, ◌≢◌, ◌≤◌, ◌+◌, ℕ, List, [], ◌∷◌, ◌++◌, length, map, Option, Some, None, Result, Ok, Err, ap, sym, ◌∙◌, subst, arith}
+-- What the console reads of a job's files, and what is left where a stage was refused.
+use Rattle.std.proofs.Common.{◌≡◌, ◌≢◌, ◌≤◌, ◌+◌, ℕ, List, [], ◌∷◌, ◌++◌, length, map, Option, Some, None, Result, Err, ap, sym, ◌∙◌, subst, arith}
 use Rattle.std.proofs.lemmas.List.{length-map}
-use Rattle.elf_image.specs.declared.image.Image.{Image as LoadedImage}
-use Rattle.mono_model.specs.declared.params.Params.{Params}
-use Rattle.mono_model.specs.declared.setup.Setup.{Setup}
 use Rattle.report_text.specs.declared.status.Status.{Status}
 use Rattle.report_text.specs.declared.status.Status.TheVariants.{Memory}
 use Rattle.fast_cli.specs.declared.line.Options.{Options}
-use Rattle.fast_run.specs.declared.job.Job.{Job}
-use Rattle.fast_run.specs.declared.job.Job.TheVariants.{Run}
 use Rattle.fast_run.specs.declared.files.NamedFile.{NamedFile}
 use Rattle.fast_run.specs.Files.{input_of, input_under}
 use Rattle.fast_run.specs.Gives.{Gives}
-use Rattle.machine_file.specs.File.{params_of}
-use Rattle.gen_image.specs.Soak.{soak_image}
-use Rattle.gen_image.specs.Machine.{soak_machine}
-use Rattle.fast_run.specs.Job.{bytes_at, default_options, setup_for, soak_setup}
+use Rattle.fast_run.specs.Job.{bytes_at}
 use Rattle.fast_run.specs.Reading.{AreWithin}
-
--- the soak program of a seed on its machine
-abbrev soak-run : Setup → Result Job Status
-soak-run setup = Ok (Run setup)
-
-pub soak-made : (seed : ℕ) (params : Params) (options : Options) (image : LoadedImage) (input : List ℕ) → params ≡ params_of soak_machine → options ≡ default_options →
-    image ≡ soak_image seed 16384 → input ≡ [] → soak-run (soak_setup seed) ≡ soak-run (setup_for params options image input)
-unfolding soak_setup
-soak-made seed params options image input machine defaults program none =
-    λ j. soak-run (setup_for (sym machine j) (sym defaults j) (sym program j) (sym none j))
 
 -- what the console reads, behind the other files, is within its limit
 none-within : (name : Option (List ℕ)) (contents : List (List ℕ)) → AreWithin (input_under name) contents → length (bytes_at contents 0) ≤ 16777216

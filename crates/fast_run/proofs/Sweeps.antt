@@ -1,5 +1,5 @@
 -- From what a sweep has of its machines, in their order, to its lines.
-use Rattle.std.proofs.Common.{◌≡◌, ◌≢◌, ◌≤◌, ◌<◌, ◌+◌, ◌-◌, ℕ, zero, suc, List, [], ◌∷◌, ◌++◌, length, map, take, drop, get_or, Option, Some, None, Result, Ok, Err, All, refl, ap, sym, ◌∙◌, subst, append_assoc, arith, nat_lt, if◌then◌else◌, true, false}
+use Rattle.std.proofs.Common.{◌≡◌, ◌≤◌, ◌<◌, ◌+◌, ◌-◌, ℕ, zero, suc, List, [], ◌∷◌, ◌++◌, length, map, take, drop, get_or, Option, Some, None, Ok, Err, All, refl, ap, sym, ◌∙◌, subst, append_assoc, arith, nat_lt, if◌then◌else◌, true, false}
 use Rattle.std.proofs.lemmas.List.{append-nil, take-map, take_all}
 use Rattle.std.proofs.lemmas.List.Elements.{All-append}
 use Rattle.std.proofs.lemmas.List.{map-append}
@@ -7,21 +7,18 @@ use Rattle.std.specs.Option.{option_to_list}
 use Rattle.device_bus.specs.declared.kind.DeviceKind.{DeviceKind}
 use Rattle.device_bus.specs.declared.kind.DeviceKind.TheVariants.{Console, Timer, Finisher}
 use Rattle.device_bus.specs.Bus.{AreSets, device_order, sets_order}
-use Rattle.elf_image.specs.declared.image.Image.{Image}
-use Rattle.mono_model.specs.declared.params.Params.{Params}
 use Rattle.mono_model.specs.declared.setup.Setup.{Setup}
 use Rattle.mono_model.specs.declared.final_state.Final.{Final}
 use Rattle.mono_model.specs.Report.{joined}
-use Rattle.mono_model.specs.Setup.{is_setup, ram_range}
+use Rattle.mono_model.specs.Setup.{is_setup}
 use Rattle.sweep_runs.specs.declared.job.Job.{Job}
 use Rattle.sweep_runs.specs.Sweep.{last_of}
 use Rattle.report_text.specs.SweepText.{is_sweep_refusal}
 use Rattle.report_text.specs.declared.status.Status.{Status}
-use Rattle.report_text.specs.declared.status.Status.TheVariants.{Memory, Sets}
+use Rattle.report_text.specs.declared.status.Status.TheVariants.{Sets}
 use Rattle.fast_cli.specs.declared.line.Options.{Options}
 use Rattle.fast_run.specs.declared.sweep_files.NamedMachine.{NamedMachine}
 use Rattle.fast_run.specs.declared.sweep_files.SweepFiles.{SweepFiles}
-use Rattle.fast_run.specs.Gives.{◌>>=◌}
 use Rattle.fast_run.specs.Stages.{bytes_at}
 use Rattle.fast_run.specs.SweepFiles.{AreTold, HasLine, HasSets, finals_behind, limits_of, machine_setup, machine_told, named_machines, next_line, run_told, sweep_files, sweep_lines, swept, told_line, told_lines}
 

@@ -193,6 +193,7 @@ fn back_job(
 const SOAK_BLOCKS: u32 = 16_384;
 
 /// The run of the soak program of a seed on its machine. It is made here, and no file is read.
+#[tactic(auto, unfolding(crate::specs::Job::soak_setup))]
 fn soak_job(alloc: Global, seed: u64) -> Result<Job, Refusal>
     ensures job { Gives (Ok (AnyJob.Run (soak_setup seed))) result }
     ensures can { IfOk result (λ job. CanBegin job) }
