@@ -100,9 +100,7 @@ impl<D: Device> Walk<D> {
     }
 
     /// Executes what was fetched at the next address, whatever that is, and notes what takes it
-    /// back, unless it is committed. A call, so that the rest of a step moves no more than an
-    /// instruction needs that reaches nothing.
-    #[inline(never)]
+    /// back, unless it is committed.
     fn carry_out(&mut self, fetched: Fetched) -> Entry
         requires found { found_in fetched ≡ next_found self.old.contents.hart }
         requires fits { FetchedFits fetched }

@@ -89,8 +89,7 @@ impl Mask {
         self.next_high(from.max(64), upto)
     }
 
-    /// The same behind the first word. It stays a call, so that callers inline the first alone.
-    #[inline(never)]
+    /// The same behind the first word.
     fn next_high(&self, from: u32, upto: u32) -> Option<u32>
         requires behind { 64 ≤ from }
         requires few { upto ≤ 256 }
