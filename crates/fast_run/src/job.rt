@@ -155,7 +155,7 @@ fn inorder_job(alloc: Global, options: &Options, contents: Vec<Bytes>) -> Result
     Ok(Job::Inorder(inorder_setup(planned.setup), planned.plan))
 }
 
-/// The setup with a window for the four stages of the in-order machine.
+/// The setup with a window for the four stages behind Fetch of the in-order machine.
 fn inorder_setup(setup: Setup) -> Setup
     requires sound { is_setup setup ≡ true }
     ensures setup { result ≡ inorder_setup setup }

@@ -139,6 +139,7 @@ pub fn answer_words<R: Threads + Wait + Sync, F: Files, K: Sink>(
         devices.push(Box::new(alloc, Timer::new())?)?;
         devices.push(Box::new(alloc, Finisher::new())?)?;
     }
+    // They are in order. The test tells the condition of the call below.
     if devices.len() != 3 * SETS || !sets_in_order(devices.as_slice()) {
         return Err(AllocError);
     }

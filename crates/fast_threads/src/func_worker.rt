@@ -141,7 +141,8 @@ impl<D: Device, K: Named> FuncWorker<D, K> {
         true
     }
 
-    /// Computes the next entry, if the side may run ahead and isn't at rest.
+    /// Computes the next entry, if the side may run ahead and isn't at rest. Where it may not run
+    /// ahead, there is nothing else to do: it may go further from now on.
     fn compute(&mut self)
         requires none { self.old.computed ≡ None }
         ensures setup { self.new.setup ≡ self.old.setup }

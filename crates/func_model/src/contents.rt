@@ -79,7 +79,8 @@ fn compare_behind<D: Device>(bus: &Bus<D>, change: Change, before: u64) -> u64
 pub struct Contents<D: Device> {
     pub hart: Hart,
     pub bus: Bus<D>,
-    /// mtimecmp, in cycles. The devices are asked for it only where one of them was accessed.
+    /// mtimecmp, in cycles, as each entry tells it: asked of the devices anew only where one of
+    /// them was accessed.
     pub cmp: u64,
 }
 

@@ -77,7 +77,8 @@ impl<D: Device> FuncSide<D> {
     ghost use Rattle.func_model.specs.Side.{arch_in, word_in};
 
     /// The functional side at the start of a run. It takes all memory of the run here: RAM, the
-    /// journal, the output, and what the devices keep; a refusal drops what it was given.
+    /// journal, the output, the decoded words, and what the devices keep; a refusal drops what it
+    /// was given.
     pub fn new(alloc: Global, setup: &Setup, devices: Vec<D>) -> Result<FuncSide<D>, NoMemory>
         requires sound { is_setup setup.now ≡ true }
         requires order { map D.kind devices.items ≡ device_order }
@@ -89,8 +90,8 @@ impl<D: Device> FuncSide<D> {
     }
 
     /// A run alone, at its start, that can go back over so many steps. It takes all memory of the
-    /// run here: RAM, what leads back, the output, and what the devices keep; a refusal drops what
-    /// it was given.
+    /// run here: RAM, what leads back, the output, the decoded words, and what the devices keep; a
+    /// refusal drops what it was given.
     pub fn history(
         alloc: Global,
         setup: &Setup,

@@ -49,7 +49,7 @@ fn plain_devices(rt: &impl Abort, alloc: Global) -> Result<Vec<Box<dyn Device + 
     devices_of(rt, alloc, Box::new(alloc, Console::new(alloc)?)?)
 }
 
-/// The journal of a machine with a trace and a reorder buffer of one place each has room for 4
+/// The journal of a machine with a ring and a reorder buffer of one place each has room for 4
 /// steps.
 fn fill_journal<D: Device>(rt: &impl Abort, alloc: Global, devices: Vec<D>) -> Result<(), Fail>
     requires order { map D.kind devices.items ≡ device_order }

@@ -52,6 +52,8 @@ impl<D: Device> Walk<D> {
         ensures stands { IfOk result (λ walk. WalkStandsFor setup.now [] walk) }
         ensures opening { IfOk result IsFresh }
     {
+        // Ahead of what is committed are the window, the entry held for the next try, the ring, and
+        // the entry computed last.
         let ahead = setup.params.core_window + setup.ring + 2;
         let journal = Journal::with_room(alloc, ahead)?;
         let contents = Contents::new(alloc, setup, ahead, devices)?;

@@ -25,8 +25,8 @@ pub record StandsOn {D T : Type 0} (timed : Timed T) (s : Setup) (x : At) (state
   -- the timing side, at its place and with the entry that it holds
   pub time : timed.stands s x.steps state.time
   pub held : timed.held state.time ≡ x.split.held
-  -- what is under way between them, in lists with room for the entries of the trace and for 64
-  -- orders
+  -- what is under way between them, in lists with room for as many entries as the ring has and
+  -- for 64 orders
   pub computed : state.computed ≡ x.split.computed
   pub hand : state.hand ≡ x.split.hand
   pub entries : state.entries ≡ buffer x.split.entries s.ring

@@ -108,8 +108,9 @@ impl<D: Device, T: Timing> SplitState<D, T> {
     }
 
     /// Hands the timing side the next entry as it is computed, if it wants one: as where it goes
-    /// through the list of entries, with none before it. The steps that it makes with it are as in
-    /// a turn.
+    /// through the list of entries, with none before it. The order that the steps with it tell is
+    /// obeyed at once. Behind a turn that wants an entry neither early answer is given: the tests
+    /// are there for the conditions of the calls.
     fn hand_over(&mut self) -> Turn
         requires standing { IsStandingOn T.timed self.old }
         requires clear { IsClear self.old }

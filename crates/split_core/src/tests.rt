@@ -54,7 +54,7 @@ fn params() -> Params {
     }
 }
 
-/// Eight cycles of the program, with a trace of two entries.
+/// Eight cycles of the program, with a ring of two entries.
 fn short_run(rt: &impl Abort, alloc: Global) -> Result<Setup, Fail>
     ensures sound { IfOk result (λ setup. is_setup setup ≡ true) }
 {

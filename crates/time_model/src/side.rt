@@ -107,7 +107,8 @@ impl TimeSide {
     }
 
     /// Takes the entry that arrives next, where one is needed, and makes the try that needs it: a
-    /// [`TimeSide::take`], and steps behind it. The result is what the last step did.
+    /// [`TimeSide::take`], and steps behind it. The result is what the last step did: where the
+    /// entry was dropped, [`Turn::Want`].
     pub fn feed(&mut self, entry: &Entry) -> Turn
         requires wants { wants_in self.old ≡ true }
         requires right { IsRight entry.now self.old }

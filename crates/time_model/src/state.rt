@@ -298,6 +298,7 @@ impl TimeState {
         ensures made { IsRun Steps (holding entry.now self.old) self.new result }
         ensures standing { IsStanding self.new }
     {
+        // An entry is wanted before a try alone, so this is one.
         let At::Trying(allowed) = self.at else {
             return Turn::Want;
         };

@@ -28,7 +28,8 @@ pub struct TimingCore {
     pub(crate) to_commit: u64,
     /// The cycle from which on fetch goes on after a miss.
     pub(crate) resume: u64,
-    /// The miss of the instruction to fetch next was waited for.
+    /// The miss of the instruction to fetch next was counted: at `resume` it is fetched without a
+    /// further access.
     pub(crate) paid: bool,
     pub(crate) counts: Counts,
     /// How many instructions retired.
