@@ -5,6 +5,10 @@ const FIRST: u64 = 4;
 /// Up to here the allowance doubles; from here on it grows one by one.
 const KNEE: u64 = 64;
 
+/// The most that may be under way. It has to be more than a window holds, 256 slots, since all of
+/// these may wait for the commit of the oldest.
+const MOST: u64 = 512;
+
 /// How far the functional side runs ahead of what it knows to be committed.
 ///
 /// Entries that were made before an order which opens an epoch were made for nothing: they are
@@ -45,10 +49,11 @@ impl Lookahead {
 
     /// More entries may be made, since some are of use, or the side has nothing else to do.
     pub fn widen(&mut self) {
-        self.allowed = if self.allowed < KNEE {
+        let allowed = if self.allowed < KNEE {
             self.allowed * 2
         } else {
             self.allowed.saturating_add(1)
         };
+        self.allowed = allowed.min(MOST);
     }
 }
