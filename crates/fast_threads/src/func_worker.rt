@@ -147,11 +147,13 @@ impl<D: Device, K: Named> FuncWorker<D, K> {
         requires none { self.old.computed ≡ None }
         ensures setup { self.new.setup ≡ self.old.setup }
     {
-        if self.lookahead.may_run_ahead() {
-            self.lookahead.note_entry();
-            self.computed = self.side.produce();
-        } else {
+        if !self.lookahead.may_run_ahead() {
             self.lookahead.widen();
+            return;
+        }
+        self.computed = self.side.produce();
+        if self.computed.is_some() {
+            self.lookahead.note_entry();
         }
     }
 

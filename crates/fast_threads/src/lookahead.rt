@@ -16,7 +16,7 @@ const MOST: u64 = 512;
 /// longer none comes.
 #[derive(Clone, Copy, Debug)]
 pub struct Lookahead {
-    /// How many entries were asked for since the last opening, less those known to be committed.
+    /// How many entries were made since the last opening, less those known to be committed.
     ahead: u64,
     /// How many may be.
     allowed: u64,
@@ -36,7 +36,7 @@ impl Lookahead {
         self.ahead < self.allowed
     }
 
-    /// One more entry is asked for. A side at rest makes none, which counts all the same.
+    /// One more entry was made.
     pub fn note_entry(&mut self) {
         self.ahead = self.ahead.saturating_add(1);
     }
