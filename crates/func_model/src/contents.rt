@@ -6,12 +6,12 @@ ghost use Rattle.func_model.specs.Hart.{found_in};
 ghost use Rattle.mono_model.specs.Arch.{compare_of};
 ghost use Rattle.func_model.specs.Undo.{ended_in, is_device};
 
-use crate::decoded::DecodedWords;
 use crate::found::Fetched;
 use crate::hart::{Hart, compare, trap_before};
 use crate::performed::{Interrupted, Made, PastStep, Stepped};
 use device_bus::{Bus, Device};
 use fsim_base::{Access, Halt, NoMemory, RamRange, Width};
+use known_words::KnownWords;
 use machine_csr::Csrs;
 use mono_model::{End, Final, Setup, Stats, end_of};
 use phys_mem::Ram;
@@ -271,7 +271,7 @@ impl<D: Device> Contents<D> {
             memory,
             output,
             room,
-            decoded: DecodedWords::new(alloc)?,
+            decoded: KnownWords::new(alloc)?,
         };
         let cmp = compare(&bus);
         Ok(Contents { hart, bus, cmp })

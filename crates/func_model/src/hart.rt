@@ -8,11 +8,12 @@ ghost use Rattle.func_model.specs.Steps.{plain_with, reaches_out};
 ghost use Rattle.func_model.specs.Undo.{csr_back, flags_before, trap_before};
 ghost use Rattle.machine_csr.specs.Csr.{csr_written};
 
-use crate::decoded::DecodedWords;
+use crate::decoded::Decoding;
 use crate::found::Fetched;
 use crate::performed::{Performed, Stepped};
 use device_bus::{Bus, Device, Note};
 use fsim_base::{Access, Cause, Spot, Width, wrap_add};
+use known_words::KnownWords;
 use machine_csr::address::{MCAUSE, MEPC, MSCRATCH, MTVAL, MTVEC};
 use machine_csr::{CsrWrite, Csrs, reads_time};
 use phys_mem::Ram;
@@ -32,7 +33,7 @@ pub struct Hart {
     /// How many of them have room.
     pub room: u32,
     /// Words that need not be decoded again: no part of the state that the hart is in.
-    pub decoded: DecodedWords,
+    pub decoded: KnownWords<Decoding>,
     ghost holds: { room ≤ vec_capacity output },
 }
 
@@ -237,7 +238,7 @@ impl Hart {
         let Some(word) = self.memory.text(self.pc) else {
             return Fetched::Refused(Cause::InstructionAccess);
         };
-        match self.decoded.decode(self.pc, word) {
+        match self.decoded.told(self.pc, word).insn {
             None => Fetched::Unknown(word),
             Some(insn) => Fetched::Known(word, insn),
         }

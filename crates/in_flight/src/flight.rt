@@ -1,9 +1,9 @@
 use crate::cutting::cut_stations;
-use crate::known::KnownRegisters;
 use crate::queueing::{finish_store, pop_oldest, put_store};
 use crate::reading::{divisions_in, slot_at};
-use crate::registers::registers_of;
+use crate::registers::Registers;
 use fsim_base::NoMemory;
+use known_words::{KnownWords, OfWord};
 use load_store_queue::StoreQueue;
 use reorder_buffer::{Slot, SlotState, Window};
 use reservation_stations::Stations;
@@ -21,7 +21,7 @@ pub struct InFlight {
     /// How many divisions execute.
     dividing: u32,
     /// Words whose registers need not be read again: no part of what is in flight.
-    known: KnownRegisters,
+    known: KnownWords<Registers>,
 }
 
 impl Model for InFlight {
@@ -60,7 +60,7 @@ impl InFlight {
         let window = Window::new(alloc, capacity)?;
         let stations = Stations::new(alloc, capacity)?;
         let stores = StoreQueue::new(alloc, capacity)?;
-        let known = KnownRegisters::new(alloc)?;
+        let known = KnownWords::new(alloc)?;
         Ok(InFlight {
             window,
             stations,
@@ -128,7 +128,7 @@ impl InFlight {
         prove!(self.window.len() < 256);
         let index = self.window.append(slot);
         put_store(&mut self.stores, &slot);
-        let registers = self.known.registers_of(slot.addr, slot.word);
+        let registers = self.known.told(slot.addr, slot.word);
         self.stations
             .enter(index, registers.sources, registers.destination);
     }
@@ -202,8 +202,8 @@ impl InFlight {
             IfSome (slice_get self.now.slots other) (λ writer.
             result ≡ reads_from (found_in slot) (destination_in (found_in writer)))) }
     {
-        let reader = registers_of(self.window.slot(place).word);
-        let writer = registers_of(self.window.slot(other).word);
+        let reader = Registers::of_word(self.window.slot(place).word);
+        let writer = Registers::of_word(self.window.slot(other).word);
         match writer.destination {
             Some(register) => {
                 reader.sources.0 == Some(register) || reader.sources.1 == Some(register)

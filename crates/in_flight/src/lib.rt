@@ -4,7 +4,6 @@
 
 mod cutting;
 mod flight;
-mod known;
 mod queueing;
 mod reading;
 mod registers;

@@ -1,7 +1,6 @@
 //! The registers of an instruction.
-ghost use Rattle.std.specs.Prelude.{◌≡◌};
-ghost use Rattle.in_flight.specs.Registers.{registers_of as registers_in_word};
 
+use known_words::OfWord;
 use rv_decode::decode;
 
 /// The registers of an instruction, by number.
@@ -13,18 +12,22 @@ pub struct Registers {
     pub destination: Option<u8>,
 }
 
-/// The registers of the instruction that a word spells; a word that spells none has none.
-pub fn registers_of(word: u32) -> Registers
-    ensures registers { result ≡ registers_in_word word }
-{
-    match decode(word) {
-        Some(insn) => Registers {
-            sources: insn.sources(),
-            destination: insn.dest(),
-        },
-        None => Registers {
-            sources: (None, None),
-            destination: None,
-        },
+/// Those of the instruction that the word spells; a word that spells none has none.
+impl OfWord for Registers {
+    ghost use Rattle.in_flight.specs.Registers.{registers_of};
+
+    ghost of = { registers_of };
+
+    fn of_word(word: u32) -> Registers {
+        match decode(word) {
+            Some(insn) => Registers {
+                sources: insn.sources(),
+                destination: insn.dest(),
+            },
+            None => Registers {
+                sources: (None, None),
+                destination: None,
+            },
+        }
     }
 }

@@ -39,7 +39,7 @@ invariant_of-self c =
     in
     let keeps =
     appended_keeps window c.self.inside.stations c.self.inside.stores c.put_store.new.stores c.self.inside.dividing c.append-index.result
-    c.registers_of-registers.result slot c.self.invariant c.requires.waiting c.append-index.ensures.index
-    c.registers_of-registers.ensures.registers queued
+    c.told-registers.result slot c.self.invariant c.requires.waiting c.append-index.ensures.index
+    c.told-registers.ensures.told queued
     in
     rw (c.append-index.ensures.appended, c.enter.ensures.entered) keeps
