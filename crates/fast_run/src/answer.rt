@@ -7,6 +7,7 @@ ghost use Rattle.fast_run.specs.Call.{reading_of, writing_of};
 ghost use Rattle.fast_run.specs.Job.{is_still};
 ghost use Rattle.fast_run.specs.Settled.{IsComplete, IsSettled};
 
+use crate::job::Job;
 use crate::open::open;
 use crate::refusal::Refusal;
 use crate::run::{first_set, run, run_in_threads};
@@ -119,7 +120,9 @@ fn answer<F: Files, K: Sink, D: Device>(
         (writing_of K.written K.faults sink.old sink.new) result }
 {
     match open(alloc, line, devices.len() / 3, files) {
-        Ok(job) => run(alloc, &job, first_set(devices), sink),
+        Ok(Job::Single(job)) => run(alloc, &job, first_set(devices), sink),
+        // The line isn't a sweep's, whose runs have threads of their own.
+        Ok(Job::Sweep(_)) => unreachable!(),
         Err(refusal) => refusal.tell(sink),
     }
 }
