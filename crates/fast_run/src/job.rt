@@ -11,13 +11,13 @@ ghost use Rattle.fast_run.specs.Job.{CanBegin, CanStart, sets_for, soak_setup};
 ghost use Rattle.fast_run.specs.Reading.{AreWithin};
 
 use crate::image::read_image;
-use crate::loaded::timed_image;
 use crate::machine::ram_of;
 use crate::plan::Plan;
 use crate::refusal::Refusal;
 use crate::script::read_script;
 use crate::setup::setup_for;
 use crate::sweep_files::{SweepFiles, sweep_files};
+use crate::timed_image::timed_image;
 use back_debug::Script;
 use fast_cli::{Line, Options};
 use fsim_base::Bytes;
