@@ -9,7 +9,7 @@ ghost use Rattle.fast_run.specs.Settled.{IsComplete, IsSettled};
 
 use crate::job::Job;
 use crate::open::open;
-use crate::refusal::Refusal;
+use crate::refusal::{Refusal, tell_want_of_memory};
 use crate::run::{first_set, run, run_in_threads};
 use device_bus::Device;
 use fast_cli::{Line, UsageFault, read_words};
@@ -53,7 +53,7 @@ pub fn fast_main<R: Threads + Wait + Sync, F: Files, K: Sink, G: Gate + Sync>(
     let line = match read_words(alloc, words) {
         Ok(line) => line,
         Err(UsageFault::Words) => return Refusal::new(Status::Usage).tell(sink),
-        Err(UsageFault::Memory) => return Refusal::new(Status::Memory).tell(sink),
+        Err(UsageFault::Memory) => return tell_want_of_memory(sink),
     };
     if is_still(&line) {
         fast_still(alloc, &line, files, sink, devices)

@@ -9,7 +9,7 @@ ghost use Rattle.fast_run.specs.Call.{writing_of};
 
 use crate::finish::finish_timed;
 use crate::plan::Plan;
-use crate::refusal::Refusal;
+use crate::refusal::tell_want_of_memory;
 use device_bus::Device;
 use fsim_base::NoMemory;
 use fsim_ports::Sink;
@@ -34,7 +34,7 @@ pub fn run_inorder<K: Sink, D: Device>(
 {
     let mut core = match InorderCore::new(alloc, setup, devices) {
         Ok(core) => core,
-        Err(NoMemory) => return Refusal::new(Status::Memory).tell(sink),
+        Err(NoMemory) => return tell_want_of_memory(sink),
     };
     core.play(plan.events());
     core.to_end();

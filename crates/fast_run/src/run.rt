@@ -9,7 +9,7 @@ use crate::finish::{finish_alone, finish_timed};
 use crate::inorder::run_inorder;
 use crate::job::{Job, SingleJob};
 use crate::plan::Plan;
-use crate::refusal::Refusal;
+use crate::refusal::tell_want_of_memory;
 use crate::script::run_script;
 use crate::sweep::run_sweep;
 use device_bus::Device;
@@ -120,7 +120,7 @@ fn play_session<
 {
     let mut session = match Session::<D, K>::new(alloc, setup, devices) {
         Ok(session) => session,
-        Err(NoMemory) => return Refusal::new(Status::Memory).tell(sink),
+        Err(NoMemory) => return tell_want_of_memory(sink),
     };
     session.run(rt, gate);
     // The law that the machine has ended then.
@@ -144,7 +144,7 @@ fn run_alone<K: Sink, D: Device>(
 {
     let mut side = match FuncSide::new(alloc, setup, devices) {
         Ok(side) => side,
-        Err(NoMemory) => return Refusal::new(Status::Memory).tell(sink),
+        Err(NoMemory) => return tell_want_of_memory(sink),
     };
     let last = side.alone(setup.cycles);
     finish_alone(&last, side.output(), sink)
@@ -165,7 +165,7 @@ fn run_to_end<K: Sink, D: Device>(
 {
     let mut core = match SplitCore::new(alloc, setup, devices) {
         Ok(core) => core,
-        Err(NoMemory) => return Refusal::new(Status::Memory).tell(sink),
+        Err(NoMemory) => return tell_want_of_memory(sink),
     };
     core.to_end();
     let last = core.committed();
@@ -188,7 +188,7 @@ fn run_plan<K: Sink, D: Device>(
 {
     let mut core = match SplitCore::new(alloc, setup, devices) {
         Ok(core) => core,
-        Err(NoMemory) => return Refusal::new(Status::Memory).tell(sink),
+        Err(NoMemory) => return tell_want_of_memory(sink),
     };
     core.play(plan.events());
     core.to_boundary();

@@ -9,7 +9,7 @@ ghost use Rattle.fast_run.specs.Call.{writing_of};
 ghost use Rattle.fast_run.specs.Gives.{Gives};
 ghost use Rattle.fast_run.specs.Job.{script_in};
 
-use crate::refusal::Refusal;
+use crate::refusal::{Refusal, tell_want_of_memory};
 use back_debug::{Debugger, Script, play};
 use device_bus::Device;
 use fsim_base::NoMemory;
@@ -43,7 +43,7 @@ pub fn run_script<K: Sink, D: Device>(
 {
     let mut debugger = match Debugger::new(alloc, setup, devices, history) {
         Ok(debugger) => debugger,
-        Err(NoMemory) => return Refusal::new(Status::Memory).tell(sink),
+        Err(NoMemory) => return tell_want_of_memory(sink),
     };
     match play(&mut debugger, script, sink) {
         Ok(()) => Status::Shown,

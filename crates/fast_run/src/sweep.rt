@@ -14,7 +14,7 @@ ghost use Rattle.fast_run.specs.SweepFiles.{AreTold, HasLine, HasSets, finals_be
 ghost use Rattle.fast_run.specs.SweepFiles.{told_lines};
 
 use crate::grow::{append, push};
-use crate::refusal::Refusal;
+use crate::refusal::{Refusal, tell_want_of_memory};
 use crate::sweep_files::{NamedMachine, SweepFiles};
 use crate::sweep_setup::setup_of;
 use device_bus::Device;
@@ -63,7 +63,7 @@ pub fn run_sweep<R: Threads + Sync, K: Sink, D: Device + Send>(
 {
     let told = match tell_all(rt, alloc, files, devices) {
         Ok(told) => told,
-        Err(NoMemory) => return Refusal::new(Status::Memory).tell(sink),
+        Err(NoMemory) => return tell_want_of_memory(sink),
     };
     let machines = files.machines.as_slice();
     match put_lines(
