@@ -69,7 +69,7 @@ fn is_still(line: &Line) -> bool
     match line {
         Line::Func { .. } | Line::Sched { .. } | Line::Back { .. } | Line::Inorder { .. } => true,
         Line::Run { threads, .. } => *threads == 1,
-        _ => false,
+        Line::Soak { .. } | Line::Sweep { .. } => false,
     }
 }
 
