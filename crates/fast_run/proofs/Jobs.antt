@@ -1,13 +1,19 @@
 -- What the console reads of a job's files, and what is left where a stage was refused.
-use Rattle.std.proofs.Common.{◌≡◌, ◌≢◌, ◌≤◌, ◌+◌, ℕ, List, [], ◌∷◌, ◌++◌, length, map, Option, Some, None, Result, Err, ap, sym, ◌∙◌, subst, arith}
+use Rattle.std.proofs.Common.{◌≡◌, ◌≢◌, ◌≤◌, ◌+◌, ℕ, true, List, [], ◌∷◌, ◌++◌, length, map, Option, Some, None, Result, Ok, Err, ap, sym, ◌∙◌, subst, arith}
 use Rattle.std.proofs.lemmas.List.{length-map}
 use Rattle.report_text.specs.declared.status.Status.{Status}
 use Rattle.report_text.specs.declared.status.Status.TheVariants.{Memory}
+use Rattle.fast_cli.specs.declared.line.Line.{Line}
+use Rattle.fast_cli.specs.declared.line.Line.TheVariants as line
 use Rattle.fast_cli.specs.declared.line.Options.{Options}
 use Rattle.fast_run.specs.declared.files.NamedFile.{NamedFile}
 use Rattle.fast_run.specs.Files.{input_of, input_under}
 use Rattle.fast_run.specs.Gives.{Gives}
-use Rattle.fast_run.specs.Job.{bytes_at}
+use Rattle.fast_run.specs.declared.job.Job.TheVariants.{Sweep}
+use Rattle.fast_run.specs.declared.job.SingleJob.{SingleJob}
+use Rattle.fast_run.specs.declared.job.SingleJob.TheVariants.{Run}
+use Rattle.fast_run.specs.declared.sweep_files.SweepFiles.{SweepFiles}
+use Rattle.fast_run.specs.Job.{back_job, bytes_at, func_job, inorder_job, is_still, job_of, run_job, sched_job, single_job, soak_setup}
 use Rattle.fast_run.specs.Reading.{AreWithin}
 
 -- what the console reads, behind the other files, is within its limit
@@ -34,3 +40,17 @@ input-behind_machines image machines named options contents within =
 pub gives-through : {B : Type 0} (wanted result : Result B Status) (status : Status) → (y : Status) × (result ≡ Err y) × (y ≡ status) → (status ≢ Memory → wanted ≡ Err status) →
     Gives wanted result
 gives-through wanted result status left refused = subst (Gives wanted) (sym (left.1 ∙ ap Err left.2)) refused
+
+-- a line that is played on one thread asks for one run
+never-sweep : {P : Type 0} (wanted : Result SingleJob Status) (files : SweepFiles) → single_job wanted ≡ Ok (Sweep files) → P
+never-sweep (Ok job) files same = cc
+never-sweep (Err status) files same = cc
+
+pub still-single : {P : Type 0} (asked : Line) (sets : ℕ) (contents : List (List ℕ)) (files : SweepFiles) → is_still asked ≡ true → job_of asked sets contents ≡ Ok (Sweep files) → P
+still-single (line.Func image options) sets contents files still same = never-sweep (func_job options contents) files same
+still-single (line.Run image machine threads options) sets contents files still same = never-sweep (run_job options contents) files same
+still-single (line.Sched image machine plan options) sets contents files still same = never-sweep (sched_job options contents) files same
+still-single (line.Soak seed) sets contents files still same = never-sweep (Ok (Run (soak_setup seed))) files same
+still-single (line.Back image script history options) sets contents files still same = never-sweep (back_job history options contents) files same
+still-single (line.Inorder image machine plan options) sets contents files still same = never-sweep (inorder_job options contents) files same
+still-single (line.Sweep image machines options) sets contents files still same = cc

@@ -15,7 +15,9 @@ use Rattle.gen_image.specs.Soak.{soak_image}
 use Rattle.gen_image.specs.Machine.{soak_machine}
 use Rattle.inorder_model.specs.Standing.{IsInorder}
 use Rattle.fast_run.specs.declared.job.Job.{Job}
-use Rattle.fast_run.specs.declared.job.Job.TheVariants.{Back, Func, Inorder, Run, Sched, Sweep}
+use Rattle.fast_run.specs.declared.job.Job.TheVariants.{Single, Sweep}
+use Rattle.fast_run.specs.declared.job.SingleJob.{SingleJob}
+use Rattle.fast_run.specs.declared.job.SingleJob.TheVariants.{Back, Func, Inorder, Run, Sched}
 use Rattle.fast_run.specs.declared.job.PlannedRun.{PlannedRun}
 use Rattle.fast_run.specs.declared.sweep_files.SweepFiles.{SweepFiles}
 use Rattle.fast_run.specs.Gives.{◌>>=◌}
@@ -24,13 +26,13 @@ unfoldable pub use Rattle.fast_run.specs.Stages.{image_in, timed_image, plan_in,
 use Rattle.fast_run.specs.SweepFiles.{swept}
 
 -- the plain machine runs an image without a machine file
-unfoldable pub func_job : Options → List (List ℕ) → Result Job Status
+unfoldable pub func_job : Options → List (List ℕ) → Result SingleJob Status
 func_job options contents = do
   image ← image_in (ram_range plain_params) (bytes_at contents 0)
   Ok (Func (setup_for plain_params options image (bytes_at contents 1)))
 
 -- the run on the machine of a machine file
-unfoldable pub run_job : Options → List (List ℕ) → Result Job Status
+unfoldable pub run_job : Options → List (List ℕ) → Result SingleJob Status
 run_job options contents = do
   loaded ← timed_image (bytes_at contents 1) (bytes_at contents 0)
   Ok (Run (setup_for loaded.params options loaded.image (bytes_at contents 2)))
@@ -45,7 +47,7 @@ planned_run options contents = do
     plan = events;
   })
 
-unfoldable pub sched_job : Options → List (List ℕ) → Result Job Status
+unfoldable pub sched_job : Options → List (List ℕ) → Result SingleJob Status
 sched_job options contents = do
   planned ← planned_run options contents
   Ok (Sched planned.setup planned.plan)
@@ -58,13 +60,13 @@ inorder_params params = record params { core_window = 4 }
 abbrev pub inorder_setup : Setup → Setup
 inorder_setup s = record s { params = inorder_params s.params }
 
-unfoldable pub inorder_job : Options → List (List ℕ) → Result Job Status
+unfoldable pub inorder_job : Options → List (List ℕ) → Result SingleJob Status
 inorder_job options contents = do
   planned ← planned_run options contents
   Ok (Inorder (inorder_setup planned.setup) planned.plan)
 
 -- a script over the run of the plain machine is tested behind the image
-unfoldable pub back_job : ℕ → Options → List (List ℕ) → Result Job Status
+unfoldable pub back_job : ℕ → Options → List (List ℕ) → Result SingleJob Status
 back_job history options contents = do
   image ← image_in (ram_range plain_params) (bytes_at contents 0)
   commands ← script_in (bytes_at contents 1)
@@ -79,15 +81,22 @@ unfoldable pub soak_setup : ℕ → Setup
 soak_setup seed =
     setup_for (params_of soak_machine) default_options (soak_image seed 16384) []
 
+-- the job that is one run
+abbrev pub single_job : Result SingleJob Status → Result Job Status
+single_job wanted = do
+  job ← wanted
+  Ok (Single job)
+
 -- the job of a line with the bytes of its files and this many sets of devices, or the first refusal
 abbrev pub job_of : Line → ℕ → List (List ℕ) → Result Job Status
-job_of (line.Func image options) sets contents = func_job options contents
-job_of (line.Run image machine threads options) sets contents = run_job options contents
-job_of (line.Sched image machine plan options) sets contents = sched_job options contents
-job_of (line.Soak seed) sets contents = Ok (Run (soak_setup seed))
+job_of (line.Func image options) sets contents = single_job (func_job options contents)
+job_of (line.Run image machine threads options) sets contents = single_job (run_job options contents)
+job_of (line.Sched image machine plan options) sets contents = single_job (sched_job options contents)
+job_of (line.Soak seed) sets contents = single_job (Ok (Run (soak_setup seed)))
 job_of (line.Back image script history options) sets contents =
-    back_job history options contents
-job_of (line.Inorder image machine plan options) sets contents = inorder_job options contents
+    single_job (back_job history options contents)
+job_of (line.Inorder image machine plan options) sets contents =
+    single_job (inorder_job options contents)
 job_of (line.Sweep image machines options) sets contents = do
   files ← swept machines options sets contents
   Ok (Sweep files)
@@ -108,29 +117,20 @@ pub record CanSweep (files : SweepFiles) : Type 0 where
   pub limits : HasRanges files.limits
   pub input : length files.input ≤ 16777216
 
--- the job can be begun: a run has a sound setup
-abbrev pub CanBegin : Job → Type 0
-CanBegin (Func s) = is_setup s ≡ true
-CanBegin (Run s) = is_setup s ≡ true
-CanBegin (Sched s plan) = is_setup s ≡ true
-CanBegin (Inorder s plan) = IsInorder s
-CanBegin (Back s history script) = is_setup s ≡ true
-CanBegin (Sweep files) = CanSweep files
+-- the run can be begun: its setup is sound
+abbrev pub CanStart : SingleJob → Type 0
+CanStart (Func s) = is_setup s ≡ true
+CanStart (Run s) = is_setup s ≡ true
+CanStart (Sched s plan) = is_setup s ≡ true
+CanStart (Inorder s plan) = IsInorder s
+CanStart (Back s history script) = is_setup s ≡ true
 
--- the job is a single run
-abbrev pub is_single : Job → Bool
-is_single (Func s) = true
-is_single (Run s) = true
-is_single (Sched s plan) = true
-is_single (Inorder s plan) = true
-is_single (Back s history script) = true
-is_single (Sweep files) = false
+-- the job can be begun
+abbrev pub CanBegin : Job → Type 0
+CanBegin (Single job) = CanStart job
+CanBegin (Sweep files) = CanSweep files
 
 -- how many sets of devices a job takes
 abbrev pub sets_for : Job → ℕ
-sets_for (Func s) = 1
-sets_for (Run s) = 1
-sets_for (Sched s plan) = 1
-sets_for (Inorder s plan) = 1
-sets_for (Back s history script) = 1
+sets_for (Single job) = 1
 sets_for (Sweep files) = length files.machines

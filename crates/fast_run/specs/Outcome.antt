@@ -16,7 +16,8 @@ use Rattle.report_text.specs.declared.status.Status.TheVariants.{Running, Shown}
 use Rattle.report_text.specs.FuncText.{func_text}
 use Rattle.back_debug.specs.Session.{session_text, start_position}
 use Rattle.fast_run.specs.declared.job.Job.{Job}
-use Rattle.fast_run.specs.declared.job.Job.TheVariants.{Back, Func, Inorder, Run, Sched, Sweep}
+use Rattle.fast_run.specs.declared.job.Job.TheVariants.{Single, Sweep}
+use Rattle.fast_run.specs.declared.job.SingleJob.TheVariants.{Back, Func, Inorder, Run, Sched}
 use Rattle.fast_run.specs.SweepFiles.{sweep_lines}
 
 -- the answer to an end
@@ -40,21 +41,21 @@ planned_cycle s plan = reach s (map event_in plan)
 -- ended, and it stands still from its end on; the cycle that `sched`'s plan leads to may come before.
 -- A debugger and a sweep tell the ends of their runs in their lines.
 abbrev pub job_status : Job → Status
-job_status (Func s) = status_for (whole_run s).end
-job_status (Run s) = status_for (mono s s.cycles).end
-job_status (Sched s plan) = status_for (mono s (planned_cycle s plan)).end
-job_status (Inorder s plan) = status_for (lane s s.cycles).machine.end
-job_status (Back s history script) = Shown
+job_status (Single (Func s)) = status_for (whole_run s).end
+job_status (Single (Run s)) = status_for (mono s s.cycles).end
+job_status (Single (Sched s plan)) = status_for (mono s (planned_cycle s plan)).end
+job_status (Single (Inorder s plan)) = status_for (lane s s.cycles).machine.end
+job_status (Single (Back s history script)) = Shown
 job_status (Sweep files) = Shown
 
 -- what is written of it: the output of its run and the report, what the commands of a script show,
 -- or the lines of a sweep
 abbrev pub job_text : Job → List ℕ
-job_text (Func s) = func_text s
-job_text (Run s) = text s s.cycles
-job_text (Sched s plan) = text s (planned_cycle s plan)
-job_text (Inorder s plan) = lane_text s s.cycles
-job_text (Back s history script) = session_text history s script start_position
+job_text (Single (Func s)) = func_text s
+job_text (Single (Run s)) = text s s.cycles
+job_text (Single (Sched s plan)) = text s (planned_cycle s plan)
+job_text (Single (Inorder s plan)) = lane_text s s.cycles
+job_text (Single (Back s history script)) = session_text history s script start_position
 job_text (Sweep files) = sweep_lines files
 
 pub record Outcome : Type 0 where
@@ -66,11 +67,11 @@ outcome job = record { status = job_status job; text = job_text job }
 
 -- the plan of `sched`, and nothing else, may lead to a cycle at which the run goes on
 abbrev pub may_go_on : Job → Bool
-may_go_on (Func s) = false
-may_go_on (Run s) = false
-may_go_on (Sched s plan) = true
-may_go_on (Inorder s plan) = false
-may_go_on (Back s history script) = false
+may_go_on (Single (Func s)) = false
+may_go_on (Single (Run s)) = false
+may_go_on (Single (Sched s plan)) = true
+may_go_on (Single (Inorder s plan)) = false
+may_go_on (Single (Back s history script)) = false
 may_go_on (Sweep files) = false
 
 abbrev pub MayEnd : Job → Type 0

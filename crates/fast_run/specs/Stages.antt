@@ -14,7 +14,7 @@ use Rattle.report_text.specs.declared.status.Status.{Status}
 use Rattle.report_text.specs.declared.status.Status.TheVariants.{Image, Machine, BadPlan}
 use Rattle.report_text.specs.declared.status.Status.TheVariants.{BadScript}
 use Rattle.fast_cli.specs.declared.line.Options.{Options}
-use Rattle.fast_run.specs.declared.loaded.Loaded.{Loaded}
+use Rattle.fast_run.specs.declared.timed_image.Loaded.{Loaded}
 use Rattle.fast_run.specs.Gives.{◌>>=◌, unless}
 use Rattle.fast_run.specs.Plan.{plan_events, first_bad}
 

@@ -7,8 +7,9 @@ ghost use Rattle.fast_run.specs.Call.{reading_of, writing_of};
 ghost use Rattle.fast_run.specs.Job.{is_still};
 ghost use Rattle.fast_run.specs.Settled.{IsComplete, IsSettled};
 
+use crate::job::Job;
 use crate::open::open;
-use crate::refusal::Refusal;
+use crate::refusal::{Refusal, tell_want_of_memory};
 use crate::run::{first_set, run, run_in_threads};
 use device_bus::Device;
 use fast_cli::{Line, UsageFault, read_words};
@@ -52,7 +53,7 @@ pub fn fast_main<R: Threads + Wait + Sync, F: Files, K: Sink, G: Gate + Sync>(
     let line = match read_words(alloc, words) {
         Ok(line) => line,
         Err(UsageFault::Words) => return Refusal::new(Status::Usage).tell(sink),
-        Err(UsageFault::Memory) => return Refusal::new(Status::Memory).tell(sink),
+        Err(UsageFault::Memory) => return tell_want_of_memory(sink),
     };
     if is_still(&line) {
         fast_still(alloc, &line, files, sink, devices)
@@ -68,7 +69,7 @@ fn is_still(line: &Line) -> bool
     match line {
         Line::Func { .. } | Line::Sched { .. } | Line::Back { .. } | Line::Inorder { .. } => true,
         Line::Run { threads, .. } => *threads == 1,
-        _ => false,
+        Line::Soak { .. } | Line::Sweep { .. } => false,
     }
 }
 
@@ -119,7 +120,9 @@ fn answer<F: Files, K: Sink, D: Device>(
         (writing_of K.written K.faults sink.old sink.new) result }
 {
     match open(alloc, line, devices.len() / 3, files) {
-        Ok(job) => run(alloc, &job, first_set(devices), sink),
+        Ok(Job::Single(job)) => run(alloc, &job, first_set(devices), sink),
+        // The line isn't a sweep's, whose runs have threads of their own.
+        Ok(Job::Sweep(_)) => unreachable!(),
         Err(refusal) => refusal.tell(sink),
     }
 }

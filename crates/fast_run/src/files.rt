@@ -18,22 +18,14 @@ pub struct NamedFile {
 pub fn files_of(alloc: Global, line: &Line) -> Result<Vec<NamedFile>, NoMemory>
     ensures files { IfOk result (λ files. files.items ≡ files_of line.now) }
 {
-    let mut files = Vec::new(alloc);
     match line {
-        Line::Func { image, options } => {
-            push(alloc, Role::Image, image, &mut files)?;
-            push_input(alloc, options, &mut files)?;
-        }
+        Line::Func { image, options } => files_of_run(alloc, image, &[], options),
         Line::Run {
             image,
             machine,
             options,
             ..
-        } => {
-            push(alloc, Role::Image, image, &mut files)?;
-            push(alloc, Role::Machine, machine, &mut files)?;
-            push_input(alloc, options, &mut files)?;
-        }
+        } => files_of_run(alloc, image, &[(Role::Machine, machine)], options),
         Line::Sched {
             image,
             machine,
@@ -45,33 +37,71 @@ pub fn files_of(alloc: Global, line: &Line) -> Result<Vec<NamedFile>, NoMemory>
             machine,
             plan,
             options,
-        } => {
-            push(alloc, Role::Image, image, &mut files)?;
-            push(alloc, Role::Machine, machine, &mut files)?;
-            push(alloc, Role::Plan, plan, &mut files)?;
-            push_input(alloc, options, &mut files)?;
-        }
+        } => files_of_plan(alloc, image, machine, plan, options),
         Line::Back {
             image,
             script,
             options,
             ..
-        } => {
-            push(alloc, Role::Image, image, &mut files)?;
-            push(alloc, Role::Script, script, &mut files)?;
-            push_input(alloc, options, &mut files)?;
-        }
+        } => files_of_run(alloc, image, &[(Role::Script, script)], options),
         Line::Sweep {
             image,
             machines,
             options,
-        } => {
-            push(alloc, Role::Image, image, &mut files)?;
-            push_machines(alloc, machines.as_slice(), &mut files)?;
-            push_input(alloc, options, &mut files)?;
-        }
-        Line::Soak { .. } => {}
+        } => files_of_sweep(alloc, image, machines.as_slice(), options),
+        Line::Soak { .. } => Ok(Vec::new(alloc)),
     }
+}
+
+/// The files of a run: an image, those of the rows, and what the console reads.
+fn files_of_run(
+    alloc: Global,
+    image: &Text,
+    rows: &[(Role, &Text)],
+    options: &Options,
+) -> Result<Vec<NamedFile>, NoMemory>
+    ensures files { IfOk result (λ files. files.items ≡ file role.Image image.now
+        ∷ map (λ row. file row.0 row.1.now) rows.now ++ input_of options.now) }
+{
+    let mut files = Vec::new(alloc);
+    push(alloc, Role::Image, image, &mut files)?;
+    for row in rows {
+        push(alloc, row.0, row.1, &mut files)?;
+    }
+    push_input(alloc, options, &mut files)?;
+    Ok(files)
+}
+
+/// The files of a run on a machine that a plan is for.
+fn files_of_plan(
+    alloc: Global,
+    image: &Text,
+    machine: &Text,
+    plan: &Text,
+    options: &Options,
+) -> Result<Vec<NamedFile>, NoMemory>
+    ensures files { IfOk result (λ files. files.items ≡ file role.Image image.now
+        ∷ file role.Machine machine.now ∷ file role.Plan plan.now ∷ input_of options.now) }
+{
+    let rows = [(Role::Machine, machine), (Role::Plan, plan)];
+    files_of_run(alloc, image, &rows, options)
+}
+
+/// The files of a sweep: an image, the machine files, and what the console reads.
+fn files_of_sweep(
+    alloc: Global,
+    image: &Text,
+    machines: &[Text],
+    options: &Options,
+) -> Result<Vec<NamedFile>, NoMemory>
+    ensures files { IfOk result (λ files. files.items
+        ≡ file role.Image image.now ∷ map (file role.Machine) machines.now
+        ++ input_of options.now) }
+{
+    let mut files = Vec::new(alloc);
+    push(alloc, Role::Image, image, &mut files)?;
+    push_machines(alloc, machines, &mut files)?;
+    push_input(alloc, options, &mut files)?;
     Ok(files)
 }
 

@@ -3,12 +3,13 @@ ghost use Rattle.std.specs.Prelude.{◌≡◌, ◌≤◌, map};
 ghost use Rattle.device_bus.specs.Bus.{device_order};
 ghost use Rattle.inorder_model.specs.Standing.{IsInorder};
 ghost use Rattle.fast_run.specs.declared.job.Job.{Job as AnyJob};
+ghost use Rattle.fast_run.specs.declared.job.SingleJob.{SingleJob as AnyRun};
 ghost use Rattle.fast_run.specs.Answer.{Ends};
 ghost use Rattle.fast_run.specs.Call.{writing_of};
 
 use crate::finish::finish_timed;
 use crate::plan::Plan;
-use crate::refusal::Refusal;
+use crate::refusal::tell_want_of_memory;
 use device_bus::Device;
 use fsim_base::NoMemory;
 use fsim_ports::Sink;
@@ -28,12 +29,12 @@ pub fn run_inorder<K: Sink, D: Device>(
     requires sound { IsInorder setup.now }
     requires order { map D.kind devices.items ≡ device_order }
     ensures count { K.faults sink.old ≤ K.faults sink.new }
-    ensures ends { Ends (AnyJob.Inorder setup.now plan.now)
+    ensures ends { Ends (AnyJob.Single (AnyRun.Inorder setup.now plan.now))
         (writing_of K.written K.faults sink.old sink.new) result }
 {
     let mut core = match InorderCore::new(alloc, setup, devices) {
         Ok(core) => core,
-        Err(NoMemory) => return Refusal::new(Status::Memory).tell(sink),
+        Err(NoMemory) => return tell_want_of_memory(sink),
     };
     core.play(plan.events());
     core.to_end();

@@ -5,14 +5,13 @@
 mod answer;
 mod files;
 mod finish;
+mod grow;
 mod image;
 mod inorder;
 mod job;
 mod load;
-mod loaded;
 mod machine;
 mod open;
-mod opened;
 mod plan;
 mod program;
 mod read;
@@ -22,8 +21,10 @@ mod script;
 mod setup;
 mod sweep;
 mod sweep_files;
+mod sweep_setup;
 #[cfg(test)]
 mod tests;
+mod timed_image;
 
 use std::process::ExitCode;
 

@@ -1,8 +1,8 @@
-ghost use Rattle.std.specs.Prelude.{◌≡◌, ◌≤◌, true, Ok, IfOk, IfErr};
+ghost use Rattle.std.specs.Prelude.{◌≡◌, ◌≤◌, Ok, IfOk, IfErr};
 ghost use Rattle.fast_cli.specs.Ranges.{IsInRange};
 ghost use Rattle.fast_run.specs.Answer.{Asks, Closes};
 ghost use Rattle.fast_run.specs.Call.{reading_of};
-ghost use Rattle.fast_run.specs.Job.{CanBegin, is_single, is_still, sets_for};
+ghost use Rattle.fast_run.specs.Job.{CanBegin, sets_for};
 
 use crate::files::files_of;
 use crate::job::{Job, job_of};
@@ -27,7 +27,6 @@ pub fn open<F: Files>(
     ensures asks { IfOk result (λ job. Asks line.now sets (F.told files.old) (Ok job)) }
     ensures can { IfOk result (λ job. CanBegin job) }
     ensures room { IfOk result (λ job. sets_for job ≤ sets) }
-    ensures alone { IfOk result (λ job. is_still line.now ≡ true → is_single job ≡ true) }
     ensures closes { IfErr result
         (Closes line.now sets (reading_of F.told F.faults files.old files.new)) }
 {

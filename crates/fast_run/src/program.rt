@@ -8,7 +8,7 @@ ghost use Rattle.fast_run.specs.Call.{reading_of, writing_of};
 ghost use Rattle.fast_run.specs.Program.{IsNoText, line_in, status_of_error};
 
 use crate::answer::fast_main;
-use crate::refusal::Refusal;
+use crate::refusal::{Refusal, tell_want_of_memory};
 use device_bus::{Console, Device, Finisher, Timer, sets_in_order};
 use fsim_ports::{Files, HostFiles, HostSink, QuietGate, Sink};
 use report_text::Status;
@@ -65,7 +65,7 @@ fn answer_arguments<R: Threads + Wait + Sync, F: Files, K: Sink>(
     };
     match answer_texts(rt, alloc, words_of(arguments.as_slice()), files, sink) {
         Ok(status) => status,
-        Err(AllocError) => Refusal::new(Status::Memory).tell(sink),
+        Err(AllocError) => tell_want_of_memory(sink),
     }
 }
 

@@ -1,5 +1,7 @@
-ghost use Rattle.std.specs.Prelude.{◌≡◌};
+ghost use Rattle.std.specs.Prelude.{◌≡◌, ◌≤◌};
+ghost use Rattle.report_text.specs.FaultText.{fault_text};
 ghost use Rattle.report_text.specs.declared.status.Status.TheVariants.{Memory as NoMemoryLeft};
+ghost use Rattle.fast_run.specs.Call.{WroteTo, writing_of};
 
 use back_debug::ScriptFault;
 use elf_image::ImageFault;
@@ -72,6 +74,16 @@ impl Refusal {
         let _ = fault_line(&status, sink);
         status
     }
+}
+
+/// Writes the line of want of memory, and gives this answer, whether or not the sink took the line.
+pub fn tell_want_of_memory<K: Sink>(sink: &mut K) -> Status
+    ensures same { result ≡ NoMemoryLeft }
+    ensures count { K.faults sink.old ≤ K.faults sink.new }
+    ensures line { WroteTo (writing_of K.written K.faults sink.old sink.new)
+        (fault_text NoMemoryLeft) }
+{
+    Refusal::new(Status::Memory).tell(sink)
 }
 
 impl From<NoMemory> for Refusal {

@@ -3,13 +3,13 @@ ghost use Rattle.device_bus.specs.Bus.{AreSets, device_order};
 ghost use Rattle.mono_model.specs.Setup.{is_setup};
 ghost use Rattle.fast_run.specs.Answer.{Ends};
 ghost use Rattle.fast_run.specs.Call.{writing_of};
-ghost use Rattle.fast_run.specs.Job.{CanBegin, is_single, sets_for};
+ghost use Rattle.fast_run.specs.Job.{CanBegin, CanStart, sets_for};
 
 use crate::finish::{finish_alone, finish_timed};
 use crate::inorder::run_inorder;
-use crate::job::Job;
+use crate::job::{Job, SingleJob};
 use crate::plan::Plan;
-use crate::refusal::Refusal;
+use crate::refusal::tell_want_of_memory;
 use crate::script::run_script;
 use crate::sweep::run_sweep;
 use device_bus::Device;
@@ -26,24 +26,27 @@ use std::marker::Brand;
 use std::sync::Wait;
 use std::thread::Threads;
 
-/// Does a job that is a single run, on one thread, writes its output and report, and gives the
-/// answer.
-pub fn run<K: Sink, D: Device>(alloc: Global, job: &Job, devices: Vec<D>, sink: &mut K) -> Status
-    requires can { CanBegin job.now }
-    requires alone { is_single job.now ≡ true }
+/// Does one run on one thread, writes its output and report, and gives the answer.
+pub fn run<K: Sink, D: Device>(
+    alloc: Global,
+    job: &SingleJob,
+    devices: Vec<D>,
+    sink: &mut K,
+) -> Status
+    requires can { CanStart job.now }
     requires order { map D.kind devices.items ≡ device_order }
     ensures count { K.faults sink.old ≤ K.faults sink.new }
-    ensures ends { Ends job.now (writing_of K.written K.faults sink.old sink.new) result }
+    ensures ends { Ends (Job.Single job.now)
+        (writing_of K.written K.faults sink.old sink.new) result }
 {
     match job {
-        Job::Func(setup) => run_alone(alloc, setup, devices, sink),
-        Job::Run(setup) => run_to_end(alloc, setup, devices, sink),
-        Job::Sched(setup, plan) => run_plan(alloc, setup, plan, devices, sink),
-        Job::Inorder(setup, plan) => run_inorder(alloc, setup, plan, devices, sink),
-        Job::Back(setup, history, script) => {
+        SingleJob::Func(setup) => run_alone(alloc, setup, devices, sink),
+        SingleJob::Run(setup) => run_to_end(alloc, setup, devices, sink),
+        SingleJob::Sched(setup, plan) => run_plan(alloc, setup, plan, devices, sink),
+        SingleJob::Inorder(setup, plan) => run_inorder(alloc, setup, plan, devices, sink),
+        SingleJob::Back(setup, history, script) => {
             run_script(alloc, setup, *history, script, devices, sink)
         }
-        Job::Sweep(_) => unreachable!(),
     }
 }
 
@@ -64,10 +67,10 @@ pub fn run_in_threads<R: Threads + Wait + Sync, K: Sink, G: Gate + Sync, D: Devi
     ensures ends { Ends job.now (writing_of K.written K.faults sink.old sink.new) result }
 {
     match job {
-        Job::Run(setup) => run_session(rt, alloc, setup, first_set(devices), sink, gate),
-        Job::Func(_) | Job::Sched(_, _) | Job::Inorder(_, _) | Job::Back(_, _, _) => {
-            run(alloc, job, first_set(devices), sink)
+        Job::Single(SingleJob::Run(setup)) => {
+            run_session(rt, alloc, setup, first_set(devices), sink, gate)
         }
+        Job::Single(job) => run(alloc, job, first_set(devices), sink),
         Job::Sweep(files) => run_sweep(rt, alloc, files, devices, sink),
     }
 }
@@ -94,7 +97,7 @@ fn run_session<R: Threads + Wait + Sync, S: Sink, G: Gate + Sync, D: Device + Se
     requires sound { is_setup setup.now ≡ true }
     requires order { map D.kind devices.items ≡ device_order }
     ensures count { S.faults sink.old ≤ S.faults sink.new }
-    ensures ends { Ends (Job.Run setup.now)
+    ensures ends { Ends (Job.Single (SingleJob.Run setup.now))
         (writing_of S.written S.faults sink.old sink.new) result }
 {
     play_session::<Brand, R, S, G, D>(rt, alloc, setup, devices, sink, gate)
@@ -112,12 +115,12 @@ fn play_session<
     requires run { K.setup ≡ setup.now }
     requires order { map D.kind devices.items ≡ device_order }
     ensures count { S.faults sink.old ≤ S.faults sink.new }
-    ensures ends { Ends (Job.Run setup.now)
+    ensures ends { Ends (Job.Single (SingleJob.Run setup.now))
         (writing_of S.written S.faults sink.old sink.new) result }
 {
     let mut session = match Session::<D, K>::new(alloc, setup, devices) {
         Ok(session) => session,
-        Err(NoMemory) => return Refusal::new(Status::Memory).tell(sink),
+        Err(NoMemory) => return tell_want_of_memory(sink),
     };
     session.run(rt, gate);
     // The law that the machine has ended then.
@@ -136,12 +139,12 @@ fn run_alone<K: Sink, D: Device>(
     requires sound { is_setup setup.now ≡ true }
     requires order { map D.kind devices.items ≡ device_order }
     ensures count { K.faults sink.old ≤ K.faults sink.new }
-    ensures ends { Ends (Job.Func setup.now)
+    ensures ends { Ends (Job.Single (SingleJob.Func setup.now))
         (writing_of K.written K.faults sink.old sink.new) result }
 {
     let mut side = match FuncSide::new(alloc, setup, devices) {
         Ok(side) => side,
-        Err(NoMemory) => return Refusal::new(Status::Memory).tell(sink),
+        Err(NoMemory) => return tell_want_of_memory(sink),
     };
     let last = side.alone(setup.cycles);
     finish_alone(&last, side.output(), sink)
@@ -157,12 +160,12 @@ fn run_to_end<K: Sink, D: Device>(
     requires sound { is_setup setup.now ≡ true }
     requires order { map D.kind devices.items ≡ device_order }
     ensures count { K.faults sink.old ≤ K.faults sink.new }
-    ensures ends { Ends (Job.Run setup.now)
+    ensures ends { Ends (Job.Single (SingleJob.Run setup.now))
         (writing_of K.written K.faults sink.old sink.new) result }
 {
     let mut core = match SplitCore::new(alloc, setup, devices) {
         Ok(core) => core,
-        Err(NoMemory) => return Refusal::new(Status::Memory).tell(sink),
+        Err(NoMemory) => return tell_want_of_memory(sink),
     };
     core.to_end();
     let last = core.committed();
@@ -180,12 +183,12 @@ fn run_plan<K: Sink, D: Device>(
     requires sound { is_setup setup.now ≡ true }
     requires order { map D.kind devices.items ≡ device_order }
     ensures count { K.faults sink.old ≤ K.faults sink.new }
-    ensures ends { Ends (Job.Sched setup.now plan.now)
+    ensures ends { Ends (Job.Single (SingleJob.Sched setup.now plan.now))
         (writing_of K.written K.faults sink.old sink.new) result }
 {
     let mut core = match SplitCore::new(alloc, setup, devices) {
         Ok(core) => core,
-        Err(NoMemory) => return Refusal::new(Status::Memory).tell(sink),
+        Err(NoMemory) => return tell_want_of_memory(sink),
     };
     core.play(plan.events());
     core.to_boundary();

@@ -3,12 +3,13 @@ ghost use Rattle.std.specs.Prelude.{◌≡◌, ◌≤◌, true, map};
 ghost use Rattle.device_bus.specs.Bus.{device_order};
 ghost use Rattle.mono_model.specs.Setup.{is_setup};
 ghost use Rattle.fast_run.specs.declared.job.Job.{Job as AnyJob};
+ghost use Rattle.fast_run.specs.declared.job.SingleJob.{SingleJob as AnyRun};
 ghost use Rattle.fast_run.specs.Answer.{Ends};
 ghost use Rattle.fast_run.specs.Call.{writing_of};
 ghost use Rattle.fast_run.specs.Gives.{Gives};
 ghost use Rattle.fast_run.specs.Job.{script_in};
 
-use crate::refusal::Refusal;
+use crate::refusal::{Refusal, tell_want_of_memory};
 use back_debug::{Debugger, Script, play};
 use device_bus::Device;
 use fsim_base::NoMemory;
@@ -37,12 +38,12 @@ pub fn run_script<K: Sink, D: Device>(
     requires sound { is_setup setup.now ≡ true }
     requires order { map D.kind devices.items ≡ device_order }
     ensures count { K.faults sink.old ≤ K.faults sink.new }
-    ensures ends { Ends (AnyJob.Back setup.now history script.now)
+    ensures ends { Ends (AnyJob.Single (AnyRun.Back setup.now history script.now))
         (writing_of K.written K.faults sink.old sink.new) result }
 {
     let mut debugger = match Debugger::new(alloc, setup, devices, history) {
         Ok(debugger) => debugger,
-        Err(NoMemory) => return Refusal::new(Status::Memory).tell(sink),
+        Err(NoMemory) => return tell_want_of_memory(sink),
     };
     match play(&mut debugger, script, sink) {
         Ok(()) => Status::Shown,

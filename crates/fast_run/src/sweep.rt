@@ -1,5 +1,5 @@
 //! Runs an image on each of many machines, and writes a line of each.
-ghost use Rattle.std.specs.Prelude.{◌≡◌, ℕ, ◌+◌, ◌*◌, ◌≤◌, ◌/◌, ◌++◌, ◌∷◌, [], true, map, length};
+ghost use Rattle.std.specs.Prelude.{◌≡◌, ℕ, ◌+◌, ◌*◌, ◌≤◌, ◌/◌, ◌++◌, true, map, length};
 ghost use Rattle.std.specs.Prelude.{All, vec_len, IfOk, OnOk};
 ghost use Rattle.std.specs.Vec.Iter.{into_iter_items, into_iter_len};
 ghost use Rattle.fsim_ports.specs.Sink.{Puts};
@@ -13,9 +13,10 @@ ghost use Rattle.fast_run.specs.Job.{CanSweep};
 ghost use Rattle.fast_run.specs.SweepFiles.{AreTold, HasLine, HasSets, finals_behind, next_line};
 ghost use Rattle.fast_run.specs.SweepFiles.{told_lines};
 
-use crate::opened::setup_of;
-use crate::refusal::Refusal;
+use crate::grow::{append, push};
+use crate::refusal::{Refusal, tell_want_of_memory};
 use crate::sweep_files::{NamedMachine, SweepFiles};
+use crate::sweep_setup::setup_of;
 use device_bus::Device;
 use fsim_base::NoMemory;
 use fsim_ports::Sink;
@@ -62,7 +63,7 @@ pub fn run_sweep<R: Threads + Sync, K: Sink, D: Device + Send>(
 {
     let told = match tell_all(rt, alloc, files, devices) {
         Ok(told) => told,
-        Err(NoMemory) => return Refusal::new(Status::Memory).tell(sink),
+        Err(NoMemory) => return tell_want_of_memory(sink),
     };
     let machines = files.machines.as_slice();
     match put_lines(
@@ -126,16 +127,6 @@ fn run_batch<R: Threads + Sync, D: Device + Send>(
     append(&mut told.finals, &mut finals)
 }
 
-/// Moves the items of a list to the end of another.
-fn append<T: Drop>(list: &mut Vec<T>, more: &mut Vec<T>) -> Result<(), NoMemory>
-    ensures appended { OnOk result (list.new.items ≡ list.old.items ++ more.old.items) }
-{
-    match list.append(more) {
-        Ok(()) => Ok(()),
-        Err(_) => Err(NoMemory),
-    }
-}
-
 /// Opens machines, each that can run with the next set of devices.
 fn open_batch<D: Device>(
     alloc: Global,
@@ -175,16 +166,6 @@ fn open_batch<D: Device>(
         }
     }
     Ok(batch)
-}
-
-/// Adds to a list.
-pub fn push<T: Drop>(list: &mut Vec<T>, item: T) -> Result<(), NoMemory>
-    ensures pushed { OnOk result (list.new.items ≡ list.old.items ++ item ∷ []) }
-{
-    match list.push(item) {
-        Ok(()) => Ok(()),
-        Err(_) => Err(NoMemory),
-    }
 }
 
 /// Takes the next set of devices.

@@ -6,8 +6,8 @@ ghost use Rattle.fast_run.specs.Gives.{Gives};
 ghost use Rattle.fast_run.specs.Job.{CanSweep, bytes_at};
 ghost use Rattle.fast_run.specs.SweepFiles.{limits_of, named_machines, swept};
 
+use crate::grow::push;
 use crate::refusal::Refusal;
-use crate::sweep::push;
 use fast_cli::{Options, Texts};
 use fsim_base::{Bytes, NoMemory, Text};
 use report_text::Status;

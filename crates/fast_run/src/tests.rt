@@ -1,5 +1,5 @@
-// What no clause says: that calls succeed where memory is ample, and the texts as their readers see
-// them.
+//! What no clause says: that calls succeed where memory is ample, and the texts as their readers
+//! see them.
 mod counting;
 mod faults;
 mod gates;

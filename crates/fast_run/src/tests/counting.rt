@@ -1,5 +1,5 @@
-// A console that counts its calls: it shows that `sched` and `run` load ahead of what is committed,
-// and take it back.
+//! A console that counts its calls: it shows that `sched` and `run` load ahead of what is
+//! committed, and take it back.
 use super::programs::files_of_runs;
 use crate::answer::fast_main;
 use device_bus::{Console, DevUndo, Device, DeviceKind, Finisher, Note, Timer, sets_in_order};

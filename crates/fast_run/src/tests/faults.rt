@@ -1,4 +1,4 @@
-// What the files and the sink refuse.
+//! What the files and the sink refuse.
 use super::programs::files_of_runs;
 use super::{SMALLEST_PASS, answer, check, image_of, opens};
 use fsim_ports::{MemoryFiles, MemorySink};

@@ -1,5 +1,5 @@
-// A gate that holds each side until the other has had a turn: that the program runs the sides in
-// two threads.
+//! A gate that holds each side until the other has had a turn: that the program runs the sides in
+//! two threads.
 use super::programs::files_of_runs;
 use crate::answer::fast_main;
 use crossbeam_utils::CachePadded;

@@ -1,4 +1,4 @@
-// The programs of the runs, from 0x80000000 on, and the machine files.
+//! The programs of the runs, from 0x80000000 on, and the machine files.
 use super::{image_of, put_words};
 use fsim_ports::MemoryFiles;
 use std::alloc::Global;

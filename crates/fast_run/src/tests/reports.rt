@@ -1,5 +1,5 @@
-// Reports of `func`, `run`, `sched` and `inorder`. The values were worked out by hand, and by
-// another simulator.
+//! Reports of `func`, `run`, `sched` and `inorder`. The values were worked out by hand, and by
+//! another simulator.
 use super::answer;
 use super::programs::files_of_runs;
 use fsim_ports::{MemoryFiles, MemorySink};

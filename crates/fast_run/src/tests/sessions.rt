@@ -1,4 +1,4 @@
-// Sessions of a debugger, against values worked out by hand.
+//! Sessions of a debugger, against values worked out by hand.
 use super::check;
 use super::programs::files_of_runs;
 use std::test::Fail;

@@ -1,4 +1,4 @@
-// Lines of a sweep, against values worked out by hand from the machine's rules.
+//! Lines of a sweep, against values worked out by hand from the machine's rules.
 use super::check;
 use super::programs::files_of_runs;
 use crate::answer::fast_main;

@@ -1,4 +1,4 @@
-// The words of the command line, cut at each space.
+//! The words of the command line, cut at each space.
 use super::{SMALLEST_PASS, check, image_of};
 use crate::program::answer_words;
 use fsim_ports::{MemoryFiles, MemorySink};

@@ -1,17 +1,20 @@
-use Rattle.std.proofs.Common.{◌≡◌, ℕ, vec_len, ◌/◌, Some, ap, subst}
-use Rattle.fast_run.specs.Answer.{IsAnswer}
+use Rattle.std.proofs.Common.{◌≡◌, ℕ, vec_len, ◌/◌, Some, Ok, ap, sym, ◌∙◌, subst}
+use Rattle.fast_run.specs.declared.job.Job.{Job}
+use Rattle.fast_run.specs.Answer.{Ends, IsAnswer}
 use Rattle.fast_run.specs.Call.{reading_of, writing_of}
 use Rattle.fast_run.proofs.Answers.{answer-closed, answer-ran}
+use Rattle.fast_run.proofs.Jobs.{still-single}
 use Rattle.fast_run.proofs.answer.answer.Goals as goal
 
-pub returns-in-Ok-clause-answer : goal.returns-in-Ok-clause-answer
-returns-in-Ok-clause-answer g c =
+pub returns-in-Ok-Single-clause-answer : goal.returns-in-Ok-Single-clause-answer
+returns-in-Ok-Single-clause-answer g c =
     let line = c.args.line.now in
     let reading = reading_of g.F.Files.told g.F.Files.faults c.args.files.now c.open.new.files in
     let writing = writing_of g.K.Sink.written g.K.Sink.faults c.args.sink.now c.run.new.sink in
     let sets : c.len.result / 3 ≡ vec_len c.args.devices / 3 = ap (λ (n : ℕ). n / 3) c.len.ensures in
+    let ends : Ends c.in-Ok-Single.field-0 writing c.run.result = subst (λ (job : Job). Ends job writing c.run.result) (sym c.in-Ok-Single.field-0-is) c.run.ensures.ends in
     subst (λ (n : ℕ). IsAnswer (Some line) n reading writing c.run.result) sets
-    (answer-ran line (c.len.result / 3) reading writing c.in-Ok.job c.run.result c.in-Ok.ensures.asks c.run.ensures.ends)
+    (answer-ran line (c.len.result / 3) reading writing c.in-Ok-Single.field-0 c.run.result c.in-Ok-Single.ensures.asks ends)
 
 pub returns-in-Err-clause-answer : goal.returns-in-Err-clause-answer
 returns-in-Err-clause-answer g c =
@@ -21,3 +24,8 @@ returns-in-Err-clause-answer g c =
     let sets : c.len.result / 3 ≡ vec_len c.args.devices / 3 = ap (λ (n : ℕ). n / 3) c.len.ensures in
     subst (λ (n : ℕ). IsAnswer (Some line) n reading writing c.tell.result) sets
     (answer-closed line (c.len.result / 3) reading writing c.in-Err.refusal c.tell.result c.tell.ensures.same c.in-Err.ensures.closes c.tell.ensures.line)
+
+pub unreachable-requires : goal.unreachable-requires
+unreachable-requires g c =
+    let asks = c.in-Ok-Sweep.ensures.asks in
+    still-single c.args.line.now (c.len.result / 3) asks.contents c.in-Ok-Sweep.field-0-0 c.requires.still (asks.same ∙ ap Ok c.in-Ok-Sweep.field-0-is)

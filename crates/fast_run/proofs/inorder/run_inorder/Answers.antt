@@ -8,7 +8,8 @@ use Rattle.func_model.proofs.Walking.{stands_output}
 use Rattle.split_core.specs.declared.event.Event.{Event}
 use Rattle.split_core.specs.Events.{event_in}
 use Rattle.inorder_model.specs.Core.{LaneSplitStandsFor}
-use Rattle.fast_run.specs.declared.job.Job.TheVariants.{Inorder}
+use Rattle.fast_run.specs.declared.job.Job.TheVariants.{Single}
+use Rattle.fast_run.specs.declared.job.SingleJob.TheVariants.{Inorder}
 use Rattle.fast_run.specs.Outcome.{status_for}
 use Rattle.fast_run.proofs.Answers.{running-end}
 use Rattle.fast_run.proofs.Ending.{not_running}
@@ -32,7 +33,7 @@ returns-clause-ends g c =
       reported = c.committed-last.ensures.reported s ended.split sound ended.reached ended.stands ended.boundary;
     } in
     let at : IsLaneAt s s.cycles c.output.result.now c.committed-last.result = lane_at-limit s cycle c.output.result.now c.committed-last.result last there in
-    c.finish_timed.ensures.ends (Inorder s plan)
+    c.finish_timed.ensures.ends (Single (Inorder s plan))
     (λ on. absurd (not_running (lane s s.cycles).machine.end last.over (running-end (lane s s.cycles).machine.end on)))
     (ap status_for (lane-end s s.cycles c.output.result.now c.committed-last.result at))
     (lane-text s s.cycles c.output.result.now c.committed-last.result at)

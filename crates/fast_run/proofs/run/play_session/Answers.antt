@@ -3,7 +3,8 @@ use Rattle.mono_model.specs.declared.setup.Setup.{Setup}
 use Rattle.mono_model.specs.Final.{has_ended}
 use Rattle.mono_model.specs.Machine.{Machine}
 use Rattle.mono_model.specs.Cycle.{mono, final}
-use Rattle.fast_run.specs.declared.job.Job.TheVariants.{Run}
+use Rattle.fast_run.specs.declared.job.Job.TheVariants.{Single}
+use Rattle.fast_run.specs.declared.job.SingleJob.TheVariants.{Run}
 use Rattle.mono_model.proofs.Sound.{setup_facts}
 use Rattle.fast_run.specs.Outcome.{status_for}
 use Rattle.fast_run.proofs.Answers.{running-end}
@@ -21,7 +22,7 @@ returns-clause-ends g c =
     let once = c.run_ends_once.ensures.ends s (setup_facts s c.requires.sound).some_cycle in
     let ended : has_ended (mono s s.cycles).end ≡ true =
     ap (λ (m : Machine). has_ended m.end) (once.still s.cycles once.within) ∙ once.first.ended in
-    c.finish_timed.ensures.ends (Run s)
+    c.finish_timed.ensures.ends (Single (Run s))
     (λ on. absurd (not_running (mono s s.cycles).end ended (running-end (mono s s.cycles).end on)))
     (ap status_for (at-end s s.cycles c.output.result.now c.result-last.result at))
     (at-text s s.cycles c.output.result.now c.result-last.result at)

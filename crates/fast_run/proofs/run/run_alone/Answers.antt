@@ -1,7 +1,8 @@
 use Rattle.std.proofs.Common.{refl, ap, ◌∙◌, arith}
 use Rattle.mono_model.specs.Alone.{alone}
 use Rattle.func_model.proofs.Walking.{stands_output}
-use Rattle.fast_run.specs.declared.job.Job.TheVariants.{Func}
+use Rattle.fast_run.specs.declared.job.Job.TheVariants.{Single}
+use Rattle.fast_run.specs.declared.job.SingleJob.TheVariants.{Func}
 use Rattle.fast_run.specs.Outcome.{whole_run, status_for}
 use Rattle.fast_run.proofs.Answers.{running-end}
 use Rattle.mono_model.proofs.Sound.{setup_facts}
@@ -20,7 +21,7 @@ returns-clause-ends g c =
     let setup = c.args.setup.now in
     let opened = c.in-Ok.ensures.stands in
     let last = c.alone-last.ensures.reported setup refl opened in
-    c.finish_alone.ensures.ends (Func setup) (λ on. absurd (whole_run-ended setup (omega (arith, (setup_facts setup c.requires.sound).some_cycle)) (running-end (whole_run setup).end on)))
+    c.finish_alone.ensures.ends (Single (Func setup)) (λ on. absurd (whole_run-ended setup (omega (arith, (setup_facts setup c.requires.sound).some_cycle)) (running-end (whole_run setup).end on)))
     (ap status_for (whole_run-end setup c.alone-last.result last))
     (whole_run-text setup c.output.result.now c.alone-last.result
     (c.output.ensures.output ∙ stands_output setup (alone setup setup.cycles).arch _ (c.alone-last.ensures.contents setup refl opened)) last)

@@ -6,7 +6,8 @@ use Rattle.func_model.proofs.Walking.{stands_output}
 use Rattle.split_core.specs.declared.event.Event.{Event}
 use Rattle.split_core.specs.Events.{event_in}
 use Rattle.split_core.specs.Standing.{SplitStandsFor}
-use Rattle.fast_run.specs.declared.job.Job.TheVariants.{Sched}
+use Rattle.fast_run.specs.declared.job.Job.TheVariants.{Single}
+use Rattle.fast_run.specs.declared.job.SingleJob.TheVariants.{Sched}
 use Rattle.fast_run.specs.Outcome.{planned_cycle, status_for}
 use Rattle.fast_run.proofs.Ending.{IsAt, at-end, at-text, at_planned, planned-reached, boundary-reached, boundary-comes}
 use Rattle.fast_run.proofs.run.run_plan.Goals as goal
@@ -30,6 +31,6 @@ returns-clause-ends g c =
       reported = c.committed-last.ensures.reported s there sound there_reached stands boundary;
     } in
     let planned : IsAt s (planned_cycle s plan) c.output.result.now c.committed-last.result = at_planned s plan c.output.result.now c.committed-last.result at in
-    c.finish_timed.ensures.ends (Sched s plan) (λ on. refl)
+    c.finish_timed.ensures.ends (Single (Sched s plan)) (λ on. refl)
     (ap status_for (at-end s (planned_cycle s plan) c.output.result.now c.committed-last.result planned))
     (at-text s (planned_cycle s plan) c.output.result.now c.committed-last.result planned)

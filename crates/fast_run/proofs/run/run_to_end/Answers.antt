@@ -5,7 +5,8 @@ use Rattle.fast_run.specs.Outcome.{status_for}
 use Rattle.fast_run.proofs.Answers.{running-end}
 use Rattle.machine_laws.proofs.SplitReached.{start_reached}
 use Rattle.func_model.proofs.Walking.{stands_output}
-use Rattle.fast_run.specs.declared.job.Job.TheVariants.{Run}
+use Rattle.fast_run.specs.declared.job.Job.TheVariants.{Single}
+use Rattle.fast_run.specs.declared.job.SingleJob.TheVariants.{Run}
 use Rattle.fast_run.proofs.Ending.{IsAt, at-end, at-text, at_limit, has_ended-limit, not_running}
 use Rattle.fast_run.proofs.run.run_to_end.Goals as goal
 
@@ -20,7 +21,7 @@ returns-clause-ends g c =
       reported = c.committed-last.ensures.reported s ended.split sound ended.reached ended.stands ended.boundary;
     } in
     let limit : IsAt s s.cycles c.output.result.now c.committed-last.result = at_limit s ended.split c.output.result.now c.committed-last.result ended.reached ended.boundary ended.machine at in
-    c.finish_timed.ensures.ends (Run s)
+    c.finish_timed.ensures.ends (Single (Run s))
     (λ on. absurd (not_running (mono s s.cycles).end (has_ended-limit s ended.split sound ended.reached ended.boundary ended.place ended.machine) (running-end (mono s s.cycles).end on)))
     (ap status_for (at-end s s.cycles c.output.result.now c.committed-last.result limit))
     (at-text s s.cycles c.output.result.now c.committed-last.result limit)

@@ -7,10 +7,10 @@ ghost use Rattle.fast_run.specs.Gives.{Gives};
 ghost use Rattle.fast_run.specs.Job.{CanSweep};
 ghost use Rattle.fast_run.specs.SweepFiles.{machine_setup};
 
-use crate::loaded::timed_image;
 use crate::refusal::Refusal;
 use crate::setup::setup_for;
 use crate::sweep_files::SweepFiles;
+use crate::timed_image::timed_image;
 use fsim_base::{Bytes, NoMemory};
 use mono_model::Setup;
 use report_text::Status;
