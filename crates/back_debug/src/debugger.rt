@@ -2,7 +2,7 @@ ghost use Rattle.std.specs.Prelude.{◌≡◌, Option, true, map, IfOk};
 
 use device_bus::Device;
 use fsim_base::NoMemory;
-use func_model::{Arch, FuncSide, History};
+use func_model::{Arch, History};
 use mono_model::{End, Setup};
 use std::alloc::Global;
 use std::marker::Model;
@@ -72,7 +72,7 @@ impl<D: Device> Debugger<D> {
         ensures stands { IfOk result (λ debugger. TrailStandsFor setup.now debugger) }
         ensures opening { IfOk result (λ debugger. IsOpening history debugger) }
     {
-        let history = FuncSide::history(alloc, setup, devices, history)?;
+        let history = History::new(alloc, setup, devices, history)?;
         Ok(Debugger { history })
     }
 

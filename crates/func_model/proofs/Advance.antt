@@ -1,5 +1,5 @@
 -- One instruction of a run, put together from what the hart ensures.
-use Rattle.std.proofs.Common.{◌≡◌, ℕ, nat_le, ◌&&◌, Bool, true, false, Option, Some, None, is_none, refl, ap, sym, subst, ◌∙◌}
+use Rattle.std.proofs.Common.{◌≡◌, ℕ, ◌&&◌, Bool, true, false, Option, Some, None, is_none, refl, ap, sym, subst, ◌∙◌}
 use Rattle.fsim_base.specs.declared.access.RamRange.{RamRange}
 use Rattle.rv_exec.specs.Eval.{eval_of}
 use Rattle.elf_image.specs.declared.image.Image.{Image}
@@ -83,18 +83,12 @@ met_stepped s time limit range found b a stepped el er ea ef made =
     ∙ ap (λ (r : Result). stepped_by s.output a.output (note_of r a)) (result_same s time a)
 
 -- the timer interrupt
-pub pending_is : (b a : Arch) (time cmp : ℕ) (pending : Bool) → cmp ≡ compare_of b.devices → b ≡ a → pending ≡ timer_pending b.csrs time cmp → pending ≡ timer_pending a.csrs time (compare_of a.devices)
-pending_is b a time cmp pending compared arch is =
-    is ∙ ap (λ (c : ℕ). timer_pending b.csrs time c) compared ∙ ap (λ (x : Arch). timer_pending x.csrs time (compare_of x.devices)) arch
+pub pending_is : (b a : Arch) (time cmp : ℕ) (pending : Bool) → b ≡ a → cmp ≡ compare_of a.devices → pending ≡ timer_pending b.csrs time cmp → pending ≡ timer_pending a.csrs time (compare_of a.devices)
+pending_is b a time cmp pending arch compared is =
+    is ∙ ap (λ (x : Arch). timer_pending x.csrs time cmp) arch ∙ ap (λ (c : ℕ). timer_pending a.csrs time c) compared
 
 pub before_idle : (time : ℕ) (a : Arch) → timer_pending a.csrs time (compare_of a.devices) ≡ false → a ≡ before time a
 before_idle time a idle = rw idle refl
 
 pub before_trap : (time : ℕ) (a : Arch) → timer_pending a.csrs time (compare_of a.devices) ≡ true → trapped timer_interrupt 0 a.pc a ≡ before time a
 before_trap time a due = rw due refl
-
--- with interrupts off none is pending
-pub off_idle : (a b : Arch) (time : ℕ) (takes : Bool) → b ≡ a → takes ≡ (b.csrs.mie && b.csrs.mtie) → takes ≡ false → timer_pending a.csrs time (compare_of a.devices) ≡ false
-off_idle a b time takes same is off =
-    let none : (a.csrs.mie && a.csrs.mtie) ≡ false = sym (is ∙ ap (λ (x : Arch). x.csrs.mie && x.csrs.mtie) same) ∙ off in
-    ap (λ (t : Bool). t && nat_le (compare_of a.devices) time) none

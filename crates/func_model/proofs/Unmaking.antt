@@ -26,16 +26,6 @@ resumed_back number was a pc trap =
     (λ i. record (before number a) { pc = pc i; csrs = trap_back (trap i) (before number a).csrs })
     ∙ set_back (timer_pending a.csrs number (compare_of a.devices)) a
 
--- where none was taken, nothing was pending
-none_due : (is_due : Bool) → ◌≡◌ {A = ℕ} 0 (if is_due then 1 else 0) → is_due ≡ false
-none_due true none = cc
-none_due false none = refl
-
-pub idle_back : (number : ℕ) (a : Arch) (count : ℕ) → count ≡ 0 → count ≡ (if timer_pending a.csrs number (compare_of a.devices) then 1 else 0) → before number a ≡ a
-idle_back number a count zero is =
-    let due = none_due (timer_pending a.csrs number (compare_of a.devices)) (sym zero ∙ is) in
-    rw due refl
-
 -- the number of an instruction doesn't matter where it is taken back
 pub numberless : (range : RamRange) (past : Past) (sent : Option ℕ) (a : Arch) → past.out ≡ is_some sent →
     undone range (record { number = 0; addr = past.addr; out = is_some sent; reg = past.reg; change = past.change }) a ≡ undone range past a

@@ -133,11 +133,7 @@ impl<D: Device> Contents<D> {
         ensures output { output_in self.new ≡ output_in self.old }
         ensures room { self.new.hart.room ≡ self.old.hart.room }
     {
-        if !takes_interrupts(&self.hart.csrs) {
-            return 0;
-        }
-        let cmp = compare(&self.bus);
-        if !self.hart.csrs.timer_pending(time, cmp) {
+        if !self.hart.csrs.timer_pending(time, self.cmp) {
             return 0;
         }
         self.hart.trap(TIMER_INTERRUPT, 0);
@@ -154,17 +150,15 @@ impl<D: Device> Contents<D> {
         ensures output { output_in self.new ≡ output_in self.old }
         ensures room { self.new.hart.room ≡ self.old.hart.room }
     {
-        if !takes_interrupts(&self.hart.csrs) {
+        if !self.hart.csrs.timer_pending(time, self.cmp) {
             return None;
         }
         let before = Interrupted {
             pc: self.hart.pc,
             trap: trap_before(&self.hart.csrs),
         };
-        match self.interrupt(time) {
-            0 => None,
-            _ => Some(before),
-        }
+        self.hart.trap(TIMER_INTERRUPT, 0);
+        Some(before)
     }
 
     /// What is reported of a run that ended so after `made` steps.

@@ -219,7 +219,7 @@ impl Hart {
     ghost use Rattle.func_model.specs.Hart.{arch_of};
     ghost use Rattle.func_model.specs.Undo.{undone, TakesBack, IsRestorable, IsRestorableChange};
     ghost use Rattle.func_model.specs.Undo.{IsOfLoad, uncounted, devices_back, changed_back};
-    ghost use Rattle.func_model.specs.Undo.{register_before, trap_back, csr_back, flags_before};
+    ghost use Rattle.func_model.specs.Undo.{register_before, trap_back};
     ghost use Rattle.fsim_base.specs.declared.access.RamRange.{RamRange};
     ghost use Rattle.undo_journal.specs.declared.past.Change.TheVariants.{Csr};
 

@@ -34,8 +34,9 @@ impl<D: Device> History<D> {
     ghost use Rattle.func_model.specs.Side.{registers_at};
     ghost use Rattle.func_model.specs.Trail.{TrailStandsFor, IsOpening, IsTold, IsBack};
 
-    /// The run at its start, with room for so many steps to go back over. All its memory is taken
-    /// here.
+    /// The run at its start, with room for so many steps to go back over. It takes all its memory
+    /// here: RAM, what leads back, the output, the decoded words, and what the devices keep; a
+    /// refusal drops what it was given.
     pub fn new(
         alloc: Global,
         setup: &Setup,

@@ -7,7 +7,6 @@ ghost use Rattle.func_model.specs.Side.{registers_in, registers_at};
 
 use crate::contents::Contents;
 use crate::hart::compare;
-use crate::history::History;
 use crate::walk::Walk;
 use device_bus::Device;
 use fsim_base::{NoMemory, Width};
@@ -73,7 +72,6 @@ impl<D: Device> FuncSide<D> {
     ghost use Rattle.func_model.specs.Contents.{output_in};
     ghost use Rattle.func_model.specs.Walk.{WalkStandsFor, IsFresh, IsForward, IsAtRest};
     ghost use Rattle.func_model.specs.Walk.{IsProduced, IsObeyed, HasRoom};
-    ghost use Rattle.func_model.specs.Trail.{TrailStandsFor, IsOpening};
     ghost use Rattle.func_model.specs.Side.{arch_in, word_in};
 
     /// The functional side at the start of a run. It takes all memory of the run here: RAM, the
@@ -87,23 +85,6 @@ impl<D: Device> FuncSide<D> {
     {
         let walk = Walk::new(alloc, setup, devices)?;
         Ok(FuncSide { walk })
-    }
-
-    /// A run alone, at its start, that can go back over so many steps. It takes all memory of the
-    /// run here: RAM, what leads back, the output, the decoded words, and what the devices keep; a
-    /// refusal drops what it was given.
-    pub fn history(
-        alloc: Global,
-        setup: &Setup,
-        devices: Vec<D>,
-        steps: u32,
-    ) -> Result<History<D>, NoMemory>
-        requires sound { is_setup setup.now ≡ true }
-        requires order { map D.kind devices.items ≡ device_order }
-        ensures stands { IfOk result (λ history. TrailStandsFor setup.now history) }
-        ensures opening { IfOk result (λ history. IsOpening steps history) }
-    {
-        History::new(alloc, setup, devices, steps)
     }
 
     /// The next entry of its path, in its epoch, and goes on behind it. None exactly where the

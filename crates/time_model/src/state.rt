@@ -166,12 +166,12 @@ impl TimeState {
         ensures others { self.new
             ≡ record self.old { core = self.new.core; at = self.new.at; held = self.new.held } }
     {
-        let outcome = self.core.fetch(entry);
-        self.at = self.at_after_try(outcome.goes_on, allowed);
-        if !outcome.appended {
+        let tried = self.core.fetch(entry);
+        self.at = self.at_after_try(tried.goes_on, allowed);
+        if !tried.appended {
             self.held = Some(*entry);
         }
-        outcome.orders
+        tried.orders
     }
 
     /// Makes the turn that comes next. A try needs that its entry is held.

@@ -97,7 +97,7 @@ impl TimingCore {
             result ≡ (nat_le t.resume t.cycle && nat_lt (length t.slots) s.params.core_window) }
         ensures room { result ≡ true → length self.now.flight.slots < self.now.flight.capacity }
     {
-        self.resume <= self.cycle && self.has_room()
+        self.has_resumed() && self.has_room()
     }
 
     /// Whether the window has room.

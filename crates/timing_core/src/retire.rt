@@ -14,20 +14,26 @@ use reorder_buffer::Slot;
 use rv_decode::decode;
 use timer_irq::IrqView;
 
+/// The opcodes of branches and jumps. MRET is one of the words with that of SYSTEM.
+const BRANCH: u32 = 0x63;
+
+const JALR: u32 = 0x67;
+
+const JAL: u32 = 0x6f;
+
+const SYSTEM: u32 = 0x73;
+
 /// What a predictor may learn from the instruction of a word. A word that is none is plain. Only
 /// words with the opcodes of JALR, JAL and MRET are decoded for it.
 #[tactic(auto, using(crate::proofs::Opcodes::plain_flow))]
 fn flow_of(word: u32) -> Flow
     ensures flow { result ≡ flow_in (found_word word (decode_of word)) }
 {
-    let opcode = bits(word, 6, 0);
-    if opcode != 0x63 && opcode != 0x67 && opcode != 0x6f && opcode != 0x73 {
-        return Flow::Plain;
+    match bits(word, 6, 0) {
+        BRANCH => branch_flow(word),
+        JALR | JAL | SYSTEM => decoded_flow(word),
+        _ => Flow::Plain,
     }
-    if opcode == 0x63 {
-        return branch_flow(word);
-    }
-    decoded_flow(word)
 }
 
 /// The same of a word with the opcode of branches: two values of funct3 spell none.

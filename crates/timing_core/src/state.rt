@@ -117,14 +117,6 @@ impl TimingCore {
         &self.params
     }
 
-    /// How many bytes were sent.
-    pub fn output(&self) -> u64
-        ensures output { (s : RunSetup) (t : Timing) → CoreStandsFor s t self.now
-            → result ≡ t.output }
-    {
-        self.output
-    }
-
     /// How the run stands or ended.
     pub fn end(&self) -> End
         ensures end { (s : RunSetup) (t : Timing) → CoreStandsFor s t self.now → result ≡ t.end }

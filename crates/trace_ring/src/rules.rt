@@ -1,4 +1,3 @@
-use mono_model::Setup;
 use rollback_cmds::Order;
 use rtrb::Protocol;
 use std::marker::{Brand, PhantomData};

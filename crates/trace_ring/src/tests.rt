@@ -105,7 +105,7 @@ fn push_order(end: &mut TimeEnd<Trial>, place: u32) -> bool
     }
 }
 
-/// Pushes the orders in the places from `place` on until one is handed back, and gives its place.
+/// Pushes the orders in the places from `first` on until one is handed back, and gives its place.
 fn push_orders(end: &mut TimeEnd<Trial>, first: u32) -> u32
     requires run { end.old.setup ≡ trial }
     requires place { (end.old.pushed ≡ first) × (first ≤ 72) }

@@ -4,49 +4,29 @@ use Rattle.mono_model.specs.Arch.{Arch, compare_of, trapped}
 use Rattle.phys_mem.specs.Ram.{exec_of, range_of}
 use Rattle.func_model.specs.Hart.{arch_of}
 use Rattle.func_model.proofs.Compared.{compare_for}
-use Rattle.func_model.proofs.Advance.{pending_is, before_idle, before_trap, off_idle}
-use Rattle.mono_model.specs.declared.setup.Setup.{Setup}
-use Rattle.func_model.specs.Contents.{ContentsStandFor}
-use Rattle.func_model.proofs.contents.Contents.interrupt.Given as given
+use Rattle.func_model.proofs.Advance.{pending_is, before_idle, before_trap}
 use Rattle.func_model.proofs.contents.Contents.interrupt.Goals as goal
-
--- interrupts are off
-idle_off : (g : given.Over) (c : goal.Then-not-takes_interrupts g) (s : Setup) (a : Arch) → ContentsStandFor s a c.args.self.now → timer_pending a.csrs c.args.time (compare_of a.devices) ≡ false
-unfolding arch_of
-idle_off g c s a h =
-    off_idle a (arch_of c.args.self.now.hart c.args.self.now.bus) c.args.time c.takes_interrupts.result h.arch c.takes_interrupts.ensures.on c.if-not-takes_interrupts.true
-
-pub returns-then-not-takes_interrupts-clause-pending : goal.returns-then-not-takes_interrupts-clause-pending
-returns-then-not-takes_interrupts-clause-pending g c = λ s a h. ap (λ (b : Bool). if b then 1 else 0) (sym (idle_off g c s a h))
-
-pub returns-then-not-takes_interrupts-clause-stands : goal.returns-then-not-takes_interrupts-clause-stands
-returns-then-not-takes_interrupts-clause-stands g c = λ s a h. record {
-  arch = h.arch ∙ before_idle c.args.time a (idle_off g c s a h);
-  exec = h.exec;
-  range = h.range;
-  compare = compare_for c.args.self.now.cmp a _ (before_idle c.args.time a (idle_off g c s a h)) h.compare;
-}
 
 pub returns-then-not-timer_pending-clause-pending : goal.returns-then-not-timer_pending-clause-pending
 unfolding arch_of
 returns-then-not-timer_pending-clause-pending g c = λ s a h.
-    ap (λ (b : Bool). if b then 1 else 0) (sym c.if-not-timer_pending.true ∙ pending_is (arch_of c.args.self.now.hart c.args.self.now.bus) a c.args.time c.compare-cmp.result c.timer_pending.result c.compare-cmp.ensures.compare h.arch c.timer_pending.ensures.pending)
+    ap (λ (b : Bool). if b then 1 else 0) (sym c.if-not-timer_pending.true ∙ pending_is (arch_of c.args.self.now.hart c.args.self.now.bus) a c.args.time c.args.self.now.cmp c.timer_pending.result h.arch h.compare c.timer_pending.ensures.pending)
 
 pub returns-then-not-timer_pending-clause-stands : goal.returns-then-not-timer_pending-clause-stands
 unfolding arch_of
 returns-then-not-timer_pending-clause-stands g c = λ s a h.
-    let idle : timer_pending a.csrs c.args.time (compare_of a.devices) ≡ false = sym (pending_is (arch_of c.args.self.now.hart c.args.self.now.bus) a c.args.time c.compare-cmp.result c.timer_pending.result c.compare-cmp.ensures.compare h.arch c.timer_pending.ensures.pending) ∙ c.if-not-timer_pending.true in
+    let idle : timer_pending a.csrs c.args.time (compare_of a.devices) ≡ false = sym (pending_is (arch_of c.args.self.now.hart c.args.self.now.bus) a c.args.time c.args.self.now.cmp c.timer_pending.result h.arch h.compare c.timer_pending.ensures.pending) ∙ c.if-not-timer_pending.true in
     record { arch = h.arch ∙ before_idle c.args.time a idle; exec = h.exec; range = h.range; compare = compare_for c.args.self.now.cmp a _ (before_idle c.args.time a idle) h.compare }
 
 pub returns-clause-pending : goal.returns-clause-pending
 unfolding arch_of
 returns-clause-pending g c = λ s a h.
-    ap (λ (b : Bool). if b then 1 else 0) (sym c.if-not-timer_pending.false ∙ pending_is (arch_of c.args.self.now.hart c.args.self.now.bus) a c.args.time c.compare-cmp.result c.timer_pending.result c.compare-cmp.ensures.compare h.arch c.timer_pending.ensures.pending)
+    ap (λ (b : Bool). if b then 1 else 0) (sym c.if-not-timer_pending.false ∙ pending_is (arch_of c.args.self.now.hart c.args.self.now.bus) a c.args.time c.args.self.now.cmp c.timer_pending.result h.arch h.compare c.timer_pending.ensures.pending)
 
 pub returns-clause-stands : goal.returns-clause-stands
 unfolding arch_of trapped
 returns-clause-stands g c = λ s a h.
-    let due : timer_pending a.csrs c.args.time (compare_of a.devices) ≡ true = sym (pending_is (arch_of c.args.self.now.hart c.args.self.now.bus) a c.args.time c.compare-cmp.result c.timer_pending.result c.compare-cmp.ensures.compare h.arch c.timer_pending.ensures.pending) ∙ c.if-not-timer_pending.false in
+    let due : timer_pending a.csrs c.args.time (compare_of a.devices) ≡ true = sym (pending_is (arch_of c.args.self.now.hart c.args.self.now.bus) a c.args.time c.args.self.now.cmp c.timer_pending.result h.arch h.compare c.timer_pending.ensures.pending) ∙ c.if-not-timer_pending.false in
     record {
       arch = c.trap.ensures.arch c.args.self.now.bus ∙ ap (λ (x : Arch). trapped timer_interrupt 0 x.pc x) h.arch ∙ before_trap c.args.time a due;
       exec = ap exec_of c.trap.ensures.memory ∙ h.exec;

@@ -1,38 +1,55 @@
-use Rattle.std.proofs.Common.{◌≡◌, false, sym, ap, ◌∙◌}
-use Rattle.machine_csr.specs.Trap.{timer_pending}
-use Rattle.mono_model.specs.Arch.{Arch, compare_of}
+use Rattle.std.proofs.Common.{◌≡◌, true, false, sym, ap, ◌∙◌}
+use Rattle.machine_csr.specs.Trap.{timer_pending, timer_interrupt}
+use Rattle.mono_model.specs.Arch.{Arch, compare_of, trapped}
+use Rattle.phys_mem.specs.Ram.{exec_of, range_of}
 use Rattle.mono_model.specs.declared.setup.Setup.{Setup}
 use Rattle.func_model.specs.Hart.{arch_of}
 use Rattle.func_model.specs.Undo.{trap_before}
 use Rattle.func_model.specs.Contents.{ContentsStandFor}
 use Rattle.func_model.proofs.Compared.{compare_for}
-use Rattle.func_model.proofs.Advance.{before_idle, off_idle}
-use Rattle.func_model.proofs.Unmaking.{idle_back, resumed_back}
+use Rattle.func_model.proofs.Advance.{pending_is, before_idle, before_trap}
+use Rattle.func_model.proofs.Unmaking.{resumed_back}
 use Rattle.func_model.proofs.contents.Contents.take_interrupt.Given as given
 use Rattle.func_model.proofs.contents.Contents.take_interrupt.Goals as goal
 
--- interrupts are off
-idle_off : (g : given.Over) (c : goal.Then-not-takes_interrupts g) (s : Setup) (a : Arch) → ContentsStandFor s a c.args.self.now → timer_pending a.csrs c.args.time (compare_of a.devices) ≡ false
+-- none is pending
+idle : (g : given.Over) (c : goal.Then-not-timer_pending g) (s : Setup) (a : Arch) → ContentsStandFor s a c.args.self.now → timer_pending a.csrs c.args.time (compare_of a.devices) ≡ false
 unfolding arch_of
-idle_off g c s a h =
-    off_idle a (arch_of c.args.self.now.hart c.args.self.now.bus) c.args.time c.takes_interrupts.result h.arch c.takes_interrupts.ensures.on c.if-not-takes_interrupts.true
+idle g c s a h =
+    sym (pending_is (arch_of c.args.self.now.hart c.args.self.now.bus) a c.args.time c.args.self.now.cmp c.timer_pending.result h.arch h.compare c.timer_pending.ensures.pending) ∙ c.if-not-timer_pending.true
 
-pub returns-then-not-takes_interrupts-clause-stands : goal.returns-then-not-takes_interrupts-clause-stands
-returns-then-not-takes_interrupts-clause-stands g c = λ s a h. record {
-  arch = h.arch ∙ before_idle c.args.time a (idle_off g c s a h);
+pub returns-then-not-timer_pending-clause-stands : goal.returns-then-not-timer_pending-clause-stands
+returns-then-not-timer_pending-clause-stands g c = λ s a h. record {
+  arch = h.arch ∙ before_idle c.args.time a (idle g c s a h);
   exec = h.exec;
   range = h.range;
-  compare = compare_for c.args.self.now.cmp a _ (before_idle c.args.time a (idle_off g c s a h)) h.compare;
+  compare = compare_for c.args.self.now.cmp a _ (before_idle c.args.time a (idle g c s a h)) h.compare;
 }
 
-pub returns-then-not-takes_interrupts-clause-back : goal.returns-then-not-takes_interrupts-clause-back
-returns-then-not-takes_interrupts-clause-back g c = λ s a h. sym (before_idle c.args.time a (idle_off g c s a h))
+pub returns-then-not-timer_pending-clause-back : goal.returns-then-not-timer_pending-clause-back
+returns-then-not-timer_pending-clause-back g c = λ s a h. sym (before_idle c.args.time a (idle g c s a h))
 
-pub returns-in-0-clause-back : goal.returns-in-0-clause-back
-returns-in-0-clause-back g c = λ s a h. idle_back c.args.time a c.interrupt.result c.in-0.is (c.interrupt.ensures.pending s a h)
+pub returns-clause-stands : goal.returns-clause-stands
+unfolding arch_of trapped
+returns-clause-stands g c = λ s a h.
+    let due : timer_pending a.csrs c.args.time (compare_of a.devices) ≡ true = sym (pending_is (arch_of c.args.self.now.hart c.args.self.now.bus) a c.args.time c.args.self.now.cmp c.timer_pending.result h.arch h.compare c.timer_pending.ensures.pending) ∙ c.if-not-timer_pending.false in
+    record {
+      arch = c.trap.ensures.arch c.args.self.now.bus ∙ ap (λ (x : Arch). trapped timer_interrupt 0 x.pc x) h.arch ∙ before_trap c.args.time a due;
+      exec = ap exec_of c.trap.ensures.memory ∙ h.exec;
+      range = ap range_of c.trap.ensures.memory ∙ h.range;
+      compare = compare_for c.args.self.now.cmp (trapped timer_interrupt 0 a.pc a) _ (before_trap c.args.time a due) h.compare;
+    }
 
-pub returns-in_default-clause-back : goal.returns-in_default-clause-back
+pub returns-clause-back : goal.returns-clause-back
 unfolding arch_of
-returns-in_default-clause-back g c = λ s a h.
+returns-clause-back g c = λ s a h.
     resumed_back c.args.time (record { pc = c.args.self.now.hart.pc; trap = c.trap_before.result }) a
     (ap (λ (x : Arch). x.pc) h.arch) (c.trap_before.ensures.before ∙ ap (λ (x : Arch). trap_before x.csrs) h.arch)
+
+pub returns-clause-retired : goal.returns-clause-retired
+unfolding arch_of trapped
+returns-clause-retired g c = ap (λ (x : Arch). x.csrs.retired) (c.trap.ensures.arch c.args.self.now.bus)
+
+pub returns-clause-output : goal.returns-clause-output
+unfolding arch_of trapped
+returns-clause-output g c = ap (λ (x : Arch). x.output) (c.trap.ensures.arch c.args.self.now.bus)
