@@ -147,7 +147,9 @@ impl<K: Named> TimeWorker<K> {
         match self.side.step() {
             Turn::Ordered(order) => self.hand = Some(order),
             Turn::Halted => self.is_halted = true,
-            Turn::Moved | Turn::Want | Turn::CycleEnd => {}
+            Turn::Moved => {}
+            Turn::Want => {}
+            Turn::CycleEnd => {}
         }
     }
 }
