@@ -6,8 +6,6 @@
 mod debugger;
 mod script;
 mod session;
-#[cfg(test)]
-mod tests;
 
 pub use debugger::{Backed, Debugger, RunTo, Stepped};
 pub use script::{Command, Script, ScriptFault};

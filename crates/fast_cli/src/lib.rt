@@ -10,8 +10,6 @@ mod number;
 mod own;
 mod read;
 mod table;
-#[cfg(test)]
-mod tests;
 mod texts;
 mod values;
 

@@ -19,7 +19,7 @@ use Rattle.machine_laws.proofs.OrderSteps.{needed_is}
 use Rattle.machine_laws.proofs.Stopping.{halted_machine}
 use Rattle.time_model.specs.declared.state.TimeState.{TimeState}
 use Rattle.time_model.specs.declared.turn.Turn.{Turn}
-use Rattle.time_model.specs.declared.turn.Turn.TheVariants.{Moved, Ordered, Want, CycleEnd, Halted}
+use Rattle.time_model.specs.declared.turn.Turn.TheVariants.{Ordered, Want, Halted}
 use Rattle.time_model.specs.Turns.{turn_told, order_told}
 use Rattle.time_model.proofs.Turns.{told_turn}
 use Rattle.time_model.specs.Standing.{TimeSideStandsFor, IsStep, IsMade, IsRight, is_told_out, wants_in}

@@ -11,5 +11,3 @@ mod time_worker;
 pub use session::Session;
 pub use trace_ring::Named;
 
-#[cfg(test)]
-mod tests;

@@ -133,17 +133,15 @@ impl<D: Device> Contents<D> {
         ensures output { output_in self.new ≡ output_in self.old }
         ensures room { self.new.hart.room ≡ self.old.hart.room }
     {
-        if !self.hart.csrs.timer_pending(time, self.cmp) {
-            return 0;
-        }
-        self.hart.trap(TIMER_INTERRUPT, 0);
-        1
+        u64::from(self.take_interrupt(time).is_some())
     }
 
     /// Takes a pending timer interrupt, and gives what takes it back, where one was taken.
     fn take_interrupt(&mut self, time: u64) -> Option<Interrupted>
         ensures stands { (s : Setup) (a : Arch) → ContentsStandFor s a self.old
             → ContentsStandFor s (before time a) self.new }
+        ensures pending { (s : Setup) (a : Arch) → ContentsStandFor s a self.old
+            → is_some result ≡ timer_pending a.csrs time (compare_of a.devices) }
         ensures back { (s : Setup) (a : Arch) → ContentsStandFor s a self.old
             → resumed result (before time a) ≡ a }
         ensures retired { retired_in self.new ≡ retired_in self.old }

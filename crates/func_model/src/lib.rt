@@ -15,6 +15,3 @@ mod walk;
 
 pub use history::History;
 pub use side::{Arch, FuncSide};
-
-#[cfg(test)]
-mod tests;

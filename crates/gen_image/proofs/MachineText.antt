@@ -1,18 +1,17 @@
 -- The table that the machine's text writes, and its parameters.
-use Rattle.std.proofs.Common.{◌≡◌, ◌<◌, List, [], ◌∷◌, ℕ, zero, suc, true, nat_lt, codes, pos, refl, ap, ◌∙◌, lit<, arith}
+use Rattle.std.proofs.Common.{◌≡◌, ◌<◌, List, [], ◌∷◌, ℕ, zero, suc, true, nat_lt, codes, pos, refl, ◌∙◌, lit<, arith}
 use Rattle.std.specs.Prelude.{Some, None, slice_index}
 use Rattle.std.specs.List.{list_all}
-use Rattle.std.specs.Str.{IsAscii}
 use Rattle.std.proofs.lemmas.Bool.{and_parts}
 use Rattle.std.proofs.lemmas.Bool.Decides.{nat_tests}
 use Rattle.std.proofs.lemmas.Str.{IsUtf8-from_ascii}
 use lib.Count.{ones}
-use Rattle.toml.specs.Data.{Data, Members, no_members, member, integer, string, table}
+use Rattle.toml.specs.Data.{Members, no_members, member, integer, string, table}
 use Rattle.toml.specs.Parse.{parse_document}
 use Rattle.toml.proofs.OnLiterals.{toml_on_literals}
 use Rattle.machine_file.specs.Table.{first_rows, second_rows, rows, key_text}
 use Rattle.machine_file.proofs.Documents.{document-text}
-use Rattle.machine_file.specs.File.{document, machine_fault, file_fault, held, given, ram_base, number_fault, row_fault, params_by, value_at}
+use Rattle.machine_file.specs.File.{document, machine_fault, file_fault, held, given, ram_base, number_fault, row_fault}
 use Rattle.gen_image.specs.Machine.{soak_machine}
 
 unfoldable pub soak_table : Members

@@ -1,6 +1,6 @@
 -- The soak program: traps, timer interrupts, arithmetic, memory, loops and calls, as the draws of a
 -- seed order them.
-use Rattle.std.specs.Prelude.{ℕ, ◌+◌, ◌*◌, ◌%◌, true, List, [], ◌∷◌, get_or, length, map}
+use Rattle.std.specs.Prelude.{ℕ, ◌+◌, ◌%◌, true, List, [], ◌∷◌, get_or, length, map}
 use Rattle.elf_image.specs.declared.image.Image.{Image}
 use Rattle.elf_image.specs.Write.{words}
 use Rattle.fsim_base.specs.declared.access.RamRange.{RamRange}

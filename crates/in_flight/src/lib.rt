@@ -10,5 +10,3 @@ mod registers;
 
 pub use flight::InFlight;
 
-#[cfg(test)]
-mod tests;

@@ -12,6 +12,5 @@ pub mod Sides
 pub mod Trying
 pub mod Turns
 pub mod NextNumber
-pub mod Trials
 pub mod StepsOn
 pub mod LaneCore

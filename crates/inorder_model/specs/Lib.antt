@@ -4,7 +4,6 @@ pub mod Stages
 pub mod Standing
 pub mod Turning
 pub mod Running
-pub mod Trial
 pub mod LaneTimed
 pub mod LaneTimedLaws
 pub mod Core

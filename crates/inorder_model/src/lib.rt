@@ -14,5 +14,3 @@ mod timing;
 pub use side::InorderSide;
 pub use split::InorderCore;
 
-#[cfg(test)]
-mod tests;

@@ -1,6 +1,6 @@
 -- A file without keys.
-use Rattle.std.proofs.Common.{◌≡◌, List, ℕ, refl, inl, inr, true, false, cond}
-use Rattle.std.specs.Prelude.{Option, Some, None}
+use Rattle.std.proofs.Common.{◌≡◌, List, ℕ, refl, inl, inr}
+use Rattle.std.specs.Prelude.{Some, None}
 use Rattle.std.specs.Str.{is_utf8}
 use Rattle.std.proofs.lemmas.Bool.{cases_Bool}
 use lib.Count.{ones}

@@ -1,5 +1,5 @@
 -- The lines of a sweep: one of each machine file, behind its name.
-use Rattle.std.specs.Prelude.{ℕ, Bool, true, false, List, [], ◌++◌, codes, decimal}
+use Rattle.std.specs.Prelude.{ℕ, Bool, false, List, [], ◌++◌, codes, decimal}
 use Rattle.mono_model.specs.declared.final_state.Final.{Final}
 use Rattle.mono_model.specs.Report.{line, line_feed, status_text}
 use Rattle.report_text.specs.declared.status.Status.{Status}

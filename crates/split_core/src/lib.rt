@@ -15,5 +15,3 @@ pub use split::SplitCore;
 pub use state::SplitState;
 pub use timing::Timing;
 
-#[cfg(test)]
-mod tests;

@@ -7,5 +7,3 @@ mod runs;
 pub use job::Job;
 pub use runs::sweep;
 
-#[cfg(test)]
-mod tests;

@@ -6,7 +6,6 @@ pub mod Small
 pub mod Steps
 pub mod Sides
 pub mod Turns
-pub mod Trials
 pub mod NextNumber
 pub mod Running
 pub mod Feeding

@@ -2,6 +2,5 @@ pub mod At
 pub mod Turns
 pub mod Standing
 pub mod Turning
-pub mod Trial
 pub mod Running
 pub mod Feeding

@@ -10,5 +10,3 @@ mod turn;
 pub use side::{Taken, TimeSide};
 pub use turn::Turn;
 
-#[cfg(test)]
-mod tests;

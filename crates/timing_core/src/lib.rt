@@ -20,5 +20,3 @@ pub use orders::Orders;
 pub use state::TimingCore;
 pub use units::latency_of;
 
-#[cfg(test)]
-mod tests;

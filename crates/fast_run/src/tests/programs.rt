@@ -5,7 +5,7 @@ use std::alloc::Global;
 use std::test::Fail;
 
 /// Programs by the names of their files; most end in a pass by x6 and x7.
-const PROGRAMS: [(&str, &[u32]); 18] = [
+const PROGRAMS: [(&str, &[u32]); 19] = [
     // Four instructions, of which the last stores a pass.
     ("pass", &[0x001002b7, 0x00005337, 0x55530313, 0x0062a023]),
     // MULHSU, MUL, DIV and MULH at the ends of the range, and a branch over a word that is no
@@ -133,6 +133,14 @@ const PROGRAMS: [(&str, &[u32]); 18] = [
     ),
     // The smallest program with another word for the finisher.
     ("fail", &[0x001002b7, 0x00073337, 0x33330313, 0x0062a023]),
+    // A jump over a word, and behind it a byte for the console.
+    (
+        "jump",
+        &[
+            0x00700293, 0x0080006f, 0x00100313, 0x100003b7, 0x00538023, 0x00000013, 0x00000013,
+            0x00000013,
+        ],
+    ),
     // A word that is no instruction, with its handler at 0.
     ("zero", &[0x00000000]),
 ];
@@ -163,8 +171,9 @@ const UART: [u32; 21] = [
 ];
 
 /// Machine files by their names.
-const MACHINES: [(&str, &str); 12] = [
+const MACHINES: [(&str, &str); 13] = [
     ("plain", ""),
+    ("four", "core.window = 4\ncore.stations = 4\n"),
     ("eight", "core.window = 8"),
     (
         "targets",

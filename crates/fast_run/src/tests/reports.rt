@@ -35,7 +35,7 @@ const ZERO: [&str; 20] = [
 ];
 
 /// Words, the exit status, and all lines that don't stand at 0, cut by `; `.
-const REPORTS: [(&str, u8, &str); 59] = [
+const REPORTS: [(&str, u8, &str); 67] = [
     (
         "func pass",
         0,
@@ -489,6 +489,65 @@ const REPORTS: [(&str, u8, &str); 59] = [
         concat!(
             "status: limit; cycles: 31; exceptions: 10; fetched: 11; pc: 00000000; ",
             "mepc=00000000 mcause=00000001 mtval=00000000 mtimecmp=ffffffffffffffff",
+        ),
+    ),
+    // An instruction is fetched in one cycle, begins in the next, is done in the one behind that,
+    // and leaves in the fourth. The jump is done in cycle 3, and what was fetched behind it is
+    // dropped.
+    (
+        "run jump four --cycles 1",
+        2,
+        "status: limit; cycles: 1; fetched: 1; pc: 80000000",
+    ),
+    (
+        "run jump four --cycles 2",
+        2,
+        "status: limit; cycles: 2; fetched: 2; pc: 80000000",
+    ),
+    (
+        "run jump four --cycles 3",
+        2,
+        "status: limit; cycles: 3; fetched: 3; pc: 80000000",
+    ),
+    (
+        "run jump four --cycles 4",
+        2,
+        concat!(
+            "status: limit; cycles: 4; instructions: 1; fetched: 4; squashed: 1; mispredicted: 1; ",
+            "pc: 80000004; x4=00000000 x5=00000007 x6=00000000 x7=00000000",
+        ),
+    ),
+    (
+        "run jump four --cycles 5",
+        2,
+        concat!(
+            "status: limit; cycles: 5; instructions: 2; fetched: 5; squashed: 1; branches: 1; ",
+            "mispredicted: 1; pc: 8000000c; x4=00000000 x5=00000007 x6=00000000 x7=00000000",
+        ),
+    ),
+    (
+        "run jump four --cycles 6",
+        2,
+        concat!(
+            "status: limit; cycles: 6; instructions: 2; fetched: 6; squashed: 1; branches: 1; ",
+            "mispredicted: 1; pc: 8000000c; x4=00000000 x5=00000007 x6=00000000 x7=00000000",
+        ),
+    ),
+    (
+        "run jump four --cycles 7",
+        2,
+        concat!(
+            "status: limit; cycles: 7; instructions: 3; fetched: 7; squashed: 1; branches: 1; ",
+            "mispredicted: 1; pc: 80000010; x4=00000000 x5=00000007 x6=00000000 x7=10000000",
+        ),
+    ),
+    (
+        "run jump four --cycles 8",
+        2,
+        concat!(
+            "\u{7}; status: limit; cycles: 8; instructions: 4; fetched: 8; squashed: 1; ",
+            "branches: 1; mispredicted: 1; output: 1 bytes; pc: 80000014; ",
+            "x4=00000000 x5=00000007 x6=00000000 x7=10000000",
         ),
     ),
     (

@@ -1,6 +1,7 @@
 //! Sessions of a debugger, against values worked out by hand.
-use super::check;
 use super::programs::files_of_runs;
+use super::{SMALLEST_PASS, check, image_of};
+use fsim_ports::MemoryFiles;
 use std::test::Fail;
 
 /// What is shown of a program that has loaded a byte of its input.
@@ -22,7 +23,7 @@ const LOADED: &str = concat!(
 );
 
 /// Scripts, lines that play them, and the answers.
-const SESSIONS: [(&str, &str, u8, &str); 9] = [
+const SESSIONS: [(&str, &str, u8, &str); 10] = [
     // Behind the step back the same byte of the input is loaded again.
     (
         "s 4\nb 1\ns 1\nr\n",
@@ -43,10 +44,13 @@ const SESSIONS: [(&str, &str, u8, &str); 9] = [
         "4 80000014 moved\n2 80000008 oldest\n",
     ),
     (
-        "t 80000014\nx\n",
+        "t 80000000\r\n\nb 99\nt 80000010\nb 1\ns 7\nb 1099511627776\n",
         "back echo script --input in",
-        21,
-        "fast: bad script: 2\n",
+        5,
+        concat!(
+            "8 80000024 pass\n0 80000000 oldest\n3 80000010 reached\n2 80000008 moved\n",
+            "8 80000024 pass\n0 80000000 oldest\n",
+        ),
     ),
     (
         "t 80000004\nt 80000004\nb 1\n",
@@ -84,6 +88,40 @@ fn sessions_show_what_their_scripts_ask_for(rt: HostRuntime) -> Result<(), Fail>
         let mut files = files_of_runs(alloc)?;
         files.add("script", script.as_bytes())?;
         check(&rt, alloc, text, &mut files, number, shown)?;
+    }
+    Ok(())
+}
+
+/// Scripts, and the line of each that is no command.
+const REFUSED: [(&str, &str); 15] = [
+    ("t 80000014\nx\n", "fast: bad script: 2\n"),
+    ("s 0\n", "fast: bad script: 1\n"),
+    ("r\n\ns 1099511627777\nx", "fast: bad script: 3\n"),
+    ("b 000000000000000000001\n", "fast: bad script: 1\n"),
+    ("s  1\n", "fast: bad script: 1\n"),
+    ("s 1 \n", "fast: bad script: 1\n"),
+    (" s 1\n", "fast: bad script: 1\n"),
+    ("s +1\n", "fast: bad script: 1\n"),
+    ("s\n", "fast: bad script: 1\n"),
+    ("t 0x800000\n", "fast: bad script: 1\n"),
+    ("t 8000001\n", "fast: bad script: 1\n"),
+    ("r 1\n", "fast: bad script: 1\n"),
+    ("R\n", "fast: bad script: 1\n"),
+    ("r\r\nr\r", "fast: bad script: 2\n"),
+    (
+        "s 00000000000000000001\nt 8000FFff\nx",
+        "fast: bad script: 3\n",
+    ),
+];
+
+#[test]
+fn first_bad_line_of_a_script_is_told(rt: HostRuntime) -> Result<(), Fail> {
+    let alloc = rt.alloc();
+    for (script, told) in REFUSED {
+        let mut files = MemoryFiles::new(alloc);
+        files.add("pass", image_of(alloc, &SMALLEST_PASS)?.as_slice())?;
+        files.add("script", script.as_bytes())?;
+        check(&rt, alloc, "back pass script", &mut files, 21, told)?;
     }
     Ok(())
 }

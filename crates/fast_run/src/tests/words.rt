@@ -9,7 +9,7 @@ const USAGE: &str = concat!(
     "back IMAGE SCRIPT, inorder IMAGE MACHINE PLAN, sweep IMAGE MACHINES\n",
 );
 
-const REFUSED: [&str; 30] = [
+const REFUSED: [&str; 36] = [
     "",
     "--help",
     "walk a",
@@ -27,9 +27,14 @@ const REFUSED: [&str; 30] = [
     "run a m --ring 000000000000000000008",
     "run a m --ring=",
     "run a m --ring +8",
+    "run a m --ring -8",
+    "run a m --threads 0",
     "run a m --threads 3",
+    "run a m --threads 1 --threads=1",
     "sched a m p --threads 1",
     "soak 7 --threads 1",
+    "soak 7 --cycles 5",
+    "soak 18446744073709551616",
     "soak -1",
     "sweep a",
     "func a --ring 8",
@@ -38,12 +43,13 @@ const REFUSED: [&str; 30] = [
     "func a --output 16777217",
     "func a --input=",
     "func a --input -x",
+    "func a --cycles --",
     "func a --cycles -5",
     "--cycles 5 func a",
 ];
 
 /// Lines by the file that they lack.
-const LINES: [(&str, &str); 14] = [
+const LINES: [(&str, &str); 17] = [
     ("run n m", "fast: missing: image\n"),
     ("run a n", "fast: missing: machine\n"),
     ("run --ring=8 a n", "fast: missing: machine\n"),
@@ -55,6 +61,9 @@ const LINES: [(&str, &str); 14] = [
     ),
     ("run -- --ring -h", "fast: missing: image\n"),
     ("run - -", "fast: missing: image\n"),
+    ("run a n --threads=2", "fast: missing: machine\n"),
+    ("func a --input -", "fast: missing: input\n"),
+    ("func a --input=-x", "fast: missing: input\n"),
     ("sched a n p", "fast: missing: machine\n"),
     ("sched a m p --input i", "fast: missing: plan\n"),
     ("sched a m a --input i", "fast: missing: input\n"),

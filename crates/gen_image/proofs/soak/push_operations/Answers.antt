@@ -1,6 +1,6 @@
-use Rattle.std.proofs.Common.{ℕ, ◌+◌, ◌++◌, length, ap, ◌∙◌, arith}
+use Rattle.std.proofs.Common.{◌+◌, ◌++◌, length, ap, ◌∙◌, arith}
 use Rattle.elf_image.specs.Write.{words}
-use Rattle.gen_image.specs.Soak.{first_value, operation}
+use Rattle.gen_image.specs.Soak.{operation}
 use Rattle.gen_image.proofs.Parts.{each_none, each_more}
 use Rattle.gen_image.proofs.soak.push_operations.Goals as goal
 

@@ -1,7 +1,7 @@
-use Rattle.std.proofs.Common.{◌≡◌, ◌+◌, ◌*◌, ◌≤◌, length}
+use Rattle.std.proofs.Common.{◌≡◌, ◌+◌, ◌*◌, length}
 use Rattle.gen_image.specs.Draws.{each}
 use Rattle.gen_image.specs.Made.{Adds}
-use Rattle.gen_image.specs.Soak.{first_value, operation, block}
+use Rattle.gen_image.specs.Soak.{operation}
 use Rattle.gen_image.proofs.soak.push_operations.Given as goal
 
 -- the parts so far were added

@@ -1,4 +1,4 @@
-use Rattle.std.proofs.Common.{List, ℕ, ◌++◌, map, ap, ◌∙◌}
+use Rattle.std.proofs.Common.{◌++◌, map, ap, ◌∙◌}
 use Rattle.elf_image.specs.Write.{words}
 use Rattle.rv_decode.specs.Encode.{encode_of}
 use Rattle.gen_image.specs.Soak.{soak_code}

@@ -1,4 +1,4 @@
-use Rattle.std.proofs.Common.{◌≡◌, ◌∙◌}
+use Rattle.std.proofs.Common.{◌∙◌}
 use Rattle.machine_file.proofs.Documents.{document-text, document-refused}
 use Rattle.machine_file.proofs.reader.document.Goals as goal
 

@@ -1,4 +1,4 @@
-use Rattle.std.proofs.Common.{◌≡◌, ◌++◌, ℕ, List, sym, ◌∙◌, subst, codes}
+use Rattle.std.proofs.Common.{◌≡◌, ℕ, List, sym, ◌∙◌, subst, codes}
 use Rattle.fsim_ports.specs.Sink.{Puts}
 use Rattle.fsim_ports.proofs.Writing.{puts_second}
 use Rattle.mono_model.specs.Report.{line}

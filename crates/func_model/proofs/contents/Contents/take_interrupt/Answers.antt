@@ -18,6 +18,9 @@ unfolding arch_of
 idle g c s a h =
     sym (pending_is (arch_of c.args.self.now.hart c.args.self.now.bus) a c.args.time c.args.self.now.cmp c.timer_pending.result h.arch h.compare c.timer_pending.ensures.pending) ∙ c.if-not-timer_pending.true
 
+pub returns-then-not-timer_pending-clause-pending : goal.returns-then-not-timer_pending-clause-pending
+returns-then-not-timer_pending-clause-pending g c = λ s a h. sym (idle g c s a h)
+
 pub returns-then-not-timer_pending-clause-stands : goal.returns-then-not-timer_pending-clause-stands
 returns-then-not-timer_pending-clause-stands g c = λ s a h. record {
   arch = h.arch ∙ before_idle c.args.time a (idle g c s a h);
@@ -29,16 +32,23 @@ returns-then-not-timer_pending-clause-stands g c = λ s a h. record {
 pub returns-then-not-timer_pending-clause-back : goal.returns-then-not-timer_pending-clause-back
 returns-then-not-timer_pending-clause-back g c = λ s a h. sym (before_idle c.args.time a (idle g c s a h))
 
+-- one is pending
+due : (g : given.Over) (c : goal.After-trap g) (s : Setup) (a : Arch) → ContentsStandFor s a c.args.self.now → timer_pending a.csrs c.args.time (compare_of a.devices) ≡ true
+unfolding arch_of
+due g c s a h =
+    sym (pending_is (arch_of c.args.self.now.hart c.args.self.now.bus) a c.args.time c.args.self.now.cmp c.timer_pending.result h.arch h.compare c.timer_pending.ensures.pending) ∙ c.if-not-timer_pending.false
+
+pub returns-clause-pending : goal.returns-clause-pending
+returns-clause-pending g c = λ s a h. sym (due g c s a h)
+
 pub returns-clause-stands : goal.returns-clause-stands
-unfolding arch_of trapped
-returns-clause-stands g c = λ s a h.
-    let due : timer_pending a.csrs c.args.time (compare_of a.devices) ≡ true = sym (pending_is (arch_of c.args.self.now.hart c.args.self.now.bus) a c.args.time c.args.self.now.cmp c.timer_pending.result h.arch h.compare c.timer_pending.ensures.pending) ∙ c.if-not-timer_pending.false in
-    record {
-      arch = c.trap.ensures.arch c.args.self.now.bus ∙ ap (λ (x : Arch). trapped timer_interrupt 0 x.pc x) h.arch ∙ before_trap c.args.time a due;
-      exec = ap exec_of c.trap.ensures.memory ∙ h.exec;
-      range = ap range_of c.trap.ensures.memory ∙ h.range;
-      compare = compare_for c.args.self.now.cmp (trapped timer_interrupt 0 a.pc a) _ (before_trap c.args.time a due) h.compare;
-    }
+unfolding trapped arch_of
+returns-clause-stands g c = λ s a h. record {
+  arch = c.trap.ensures.arch c.args.self.now.bus ∙ ap (λ (x : Arch). trapped timer_interrupt 0 x.pc x) h.arch ∙ before_trap c.args.time a (due g c s a h);
+  exec = ap exec_of c.trap.ensures.memory ∙ h.exec;
+  range = ap range_of c.trap.ensures.memory ∙ h.range;
+  compare = compare_for c.args.self.now.cmp (trapped timer_interrupt 0 a.pc a) _ (before_trap c.args.time a (due g c s a h)) h.compare;
+}
 
 pub returns-clause-back : goal.returns-clause-back
 unfolding arch_of
