@@ -10,4 +10,3 @@ mod time_worker;
 
 pub use session::Session;
 pub use trace_ring::Named;
-

@@ -9,4 +9,3 @@ mod reading;
 mod registers;
 
 pub use flight::InFlight;
-

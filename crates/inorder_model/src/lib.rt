@@ -13,4 +13,3 @@ mod timing;
 
 pub use side::InorderSide;
 pub use split::InorderCore;
-

@@ -14,4 +14,3 @@ pub use event::Event;
 pub use split::SplitCore;
 pub use state::SplitState;
 pub use timing::Timing;
-

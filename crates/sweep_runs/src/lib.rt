@@ -6,4 +6,3 @@ mod runs;
 
 pub use job::Job;
 pub use runs::sweep;
-

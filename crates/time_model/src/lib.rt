@@ -9,4 +9,3 @@ mod turn;
 
 pub use side::{Taken, TimeSide};
 pub use turn::Turn;
-

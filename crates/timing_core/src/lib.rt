@@ -19,4 +19,3 @@ pub use fetch::Tried;
 pub use orders::Orders;
 pub use state::TimingCore;
 pub use units::latency_of;
-
