@@ -10,8 +10,6 @@ mod put;
 mod report_lines;
 mod status;
 mod sweep;
-#[cfg(test)]
-mod tests;
 mod timed;
 mod untimed;
 

@@ -180,6 +180,27 @@ fn machine_files_plans_and_scripts_are_read_to_their_limits(rt: HostRuntime) -> 
     Ok(())
 }
 
+#[test]
+fn longest_key_of_a_machine_file_is_told(rt: HostRuntime) -> Result<(), Fail> {
+    let alloc = rt.alloc();
+    let mut files = MemoryFiles::new(alloc);
+    files.add("pass", image_of(alloc, &SMALLEST_PASS)?.as_slice())?;
+    let key = vec![in alloc; b'k'; 65_534]?;
+    let mut text = key.as_slice().to_vec(alloc)?;
+    text.extend_from_slice(b"=1")?;
+    files.add("long", text.as_slice())?;
+    let mut told = b"fast: machine: unknown ".to_vec(alloc)?;
+    told.extend_from_slice(key.as_slice())?;
+    told.push(b'\n')?;
+    let mut sink = MemorySink::new(alloc, 70_000)?;
+    assert_eq!(rt;
+        answer(&rt, alloc, "run pass long", &mut files, &mut sink)?,
+        12
+    );
+    assert_eq!(rt; sink.bytes(), told.as_slice());
+    Ok(())
+}
+
 /// Lines, the roles of their files in the order in which these are read, and the answer where no
 /// read fails. Each file takes one read for its bytes and one for its end.
 const READ: [(&str, &[&str], u8); 6] = [
