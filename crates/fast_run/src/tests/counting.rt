@@ -73,7 +73,7 @@ impl Device for Counting {
 }
 
 /// Answers the words with a console that is counted, which was started once and dropped, and gives
-/// the exit status, how often it was loaded and undone, and the lines that the sink has.
+/// the exit status, and how often it was loaded and undone.
 fn count<R: Threads + Wait + Sync + Abort>(
     rt: &R,
     alloc: Global,

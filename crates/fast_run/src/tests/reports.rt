@@ -698,7 +698,7 @@ fn each_put_that_fails_leaves_a_prefix(rt: HostRuntime) -> Result<(), Fail> {
     let alloc = rt.alloc();
     let mut files = files_of_runs(alloc)?;
     // Output, its line feed, and a put for each line of the report, or for each line of a debugger;
-    // of a sweep name, what stands behind it, and the line feed.
+    // of a sweep the name, how the run ended, and what it cost.
     for (text, number, puts) in [
         ("func five --output 4", 3, 18),
         ("run five wide --output 4", 3, 26),

@@ -23,7 +23,7 @@ const LOADED: &str = concat!(
 );
 
 /// Scripts, lines that play them, and the answers.
-const SESSIONS: [(&str, &str, u8, &str); 10] = [
+const SESSIONS: [(&str, &str, u8, &str); 9] = [
     // Behind the step back the same byte of the input is loaded again.
     (
         "s 4\nb 1\ns 1\nr\n",

@@ -17,6 +17,9 @@ fn lines_stand_in_the_order_of_the_words(rt: HostRuntime) -> Result<(), Fail> {
                 eight: pass cycles 7 instructions 4 mispredicted 0 icache 0 dcache 0\n\
                 bad: machine: range core.window 0\n";
     check(&rt, alloc, line, &mut files, 5, text)?;
+    let text = "bad: machine: range core.window 0\n\
+                plain: pass cycles 13 instructions 4 mispredicted 0 icache 0 dcache 0\n";
+    check(&rt, alloc, "sweep pass bad plain", &mut files, 5, text)?;
     let line = "sweep loop targets plain";
     let text = "targets: pass cycles 30 instructions 25 mispredicted 2 icache 0 dcache 0\n\
                 plain: pass cycles 76 instructions 25 mispredicted 9 icache 0 dcache 0\n";
