@@ -24,6 +24,10 @@ const TEXTS: [(&str, &str); 12] = [
     ("script", "r\r\n\ns 1\ns 0\nx"),
 ];
 
+fn texts() -> &'static [(&'static str, &'static str)] {
+    &TEXTS
+}
+
 /// The front of an image of another processor.
 fn other_front() -> [u8; 84] {
     let mut front = super::FRONT;
@@ -34,7 +38,7 @@ fn other_front() -> [u8; 84] {
 /// These files, an image, and two that are none.
 fn files_of(alloc: Global) -> Result<MemoryFiles, Fail> {
     let mut files = MemoryFiles::new(alloc);
-    for (name, text) in TEXTS {
+    for &(name, text) in texts() {
         files.add(name, text.as_bytes())?;
     }
     files.add("other", &other_front())?;
@@ -98,10 +102,14 @@ const REFUSED: [(&str, u8, &str); 37] = [
     ("inorder pass empty bad", 18, "fast: bad plan: 2\n"),
 ];
 
+fn refused() -> &'static [(&'static str, u8, &'static str)] {
+    &REFUSED
+}
+
 #[test]
 fn first_refusal_is_told(rt: HostRuntime) -> Result<(), Fail> {
     let alloc = rt.alloc();
-    for (text, number, told) in REFUSED {
+    for &(text, number, told) in refused() {
         let mut files = files_of(alloc)?;
         check(&rt, alloc, text, &mut files, number, told)?;
     }
@@ -232,10 +240,14 @@ const READ: [(&str, &[&str], u8); 6] = [
     ),
 ];
 
+fn readings() -> &'static [(&'static str, &'static [&'static str], u8)] {
+    &READ
+}
+
 #[test]
 fn each_read_that_fails_is_told_with_its_role(rt: HostRuntime) -> Result<(), Fail> {
     let alloc = rt.alloc();
-    for (text, roles, number) in READ {
+    for &(text, roles, number) in readings() {
         let mut read = 0u64;
         for role in roles {
             check_read(&rt, alloc, text, role, read)?;

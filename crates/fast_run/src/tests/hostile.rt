@@ -27,11 +27,15 @@ const PLANS: [(&str, &str); 5] = [
     ),
 ];
 
+fn plans() -> &'static [(&'static str, &'static str)] {
+    &PLANS
+}
+
 #[test]
 fn plans_that_starve_a_side_lead_to_the_machines_cycle(rt: HostRuntime) -> Result<(), Fail> {
     let alloc = rt.alloc();
     let mut files = files_of_runs(alloc)?;
-    for (events, lines) in PLANS {
+    for &(events, lines) in plans() {
         let plan = repeated(alloc, events.as_bytes(), 10_000)?;
         files.add(events, plan.as_slice())?;
         let text = format!(in alloc; "sched loop targets {events} --ring 1")?;

@@ -285,13 +285,21 @@ const MACHINES: [(&str, &str); 13] = [
     ),
 ];
 
+fn programs() -> &'static [(&'static str, &'static [u32])] {
+    &PROGRAMS
+}
+
+fn machines() -> &'static [(&'static str, &'static str)] {
+    &MACHINES
+}
+
 /// Programs, machine files, an input, plans and a script.
 pub fn files_of_runs(alloc: Global) -> Result<MemoryFiles, Fail> {
     let mut files = MemoryFiles::new(alloc);
-    for (name, words) in PROGRAMS {
+    for &(name, words) in programs() {
         files.add(name, image_of(alloc, words)?.as_slice())?;
     }
-    for (name, text) in MACHINES {
+    for &(name, text) in machines() {
         files.add(name, text.as_bytes())?;
     }
     files.add("uart", uart(alloc)?.as_slice())?;

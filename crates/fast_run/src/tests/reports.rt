@@ -665,11 +665,15 @@ fn has_line(report: &str, line: &str) -> bool {
     report.lines().any(|other| other == line)
 }
 
+fn reports() -> &'static [(&'static str, u8, &'static str)] {
+    &REPORTS
+}
+
 #[test]
 fn reports_are_those_worked_out_by_hand(rt: HostRuntime) -> Result<(), Fail> {
     let alloc = rt.alloc();
     let mut files = files_of_runs(alloc)?;
-    for (text, number, lines) in REPORTS {
+    for &(text, number, lines) in reports() {
         check_report(&rt, alloc, text, &mut files, number, lines)?;
         if let Some(rest) = text.strip_prefix("run ") {
             check_on_one_thread(&rt, alloc, rest, &mut files, number, lines)?;

@@ -81,10 +81,14 @@ const SESSIONS: [(&str, &str, u8, &str); 9] = [
     ("", "back pass script", 5, ""),
 ];
 
+fn sessions() -> &'static [(&'static str, &'static str, u8, &'static str)] {
+    &SESSIONS
+}
+
 #[test]
 fn sessions_show_what_their_scripts_ask_for(rt: HostRuntime) -> Result<(), Fail> {
     let alloc = rt.alloc();
-    for (script, text, number, shown) in SESSIONS {
+    for &(script, text, number, shown) in sessions() {
         let mut files = files_of_runs(alloc)?;
         files.add("script", script.as_bytes())?;
         check(&rt, alloc, text, &mut files, number, shown)?;
@@ -114,10 +118,14 @@ const REFUSED: [(&str, &str); 15] = [
     ),
 ];
 
+fn refused() -> &'static [(&'static str, &'static str)] {
+    &REFUSED
+}
+
 #[test]
 fn first_bad_line_of_a_script_is_told(rt: HostRuntime) -> Result<(), Fail> {
     let alloc = rt.alloc();
-    for (script, told) in REFUSED {
+    for &(script, told) in refused() {
         let mut files = MemoryFiles::new(alloc);
         files.add("pass", image_of(alloc, &SMALLEST_PASS)?.as_slice())?;
         files.add("script", script.as_bytes())?;

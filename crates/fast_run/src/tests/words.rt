@@ -72,11 +72,15 @@ const LINES: [(&str, &str); 17] = [
     ("inorder a m p", "fast: missing: plan\n"),
 ];
 
+fn refused() -> &'static [&'static str] {
+    &REFUSED
+}
+
 #[test]
 fn refused_words_are_answered_by_the_usage(rt: HostRuntime) -> Result<(), Fail> {
     let alloc = rt.alloc();
     let mut files = MemoryFiles::new(alloc);
-    for text in REFUSED {
+    for text in refused() {
         check(&rt, alloc, text, &mut files, 10, USAGE)?;
     }
     Ok(())
@@ -92,10 +96,14 @@ fn no_words_are_answered_by_the_usage(rt: HostRuntime) -> Result<(), Fail> {
     Ok(())
 }
 
+fn lines() -> &'static [(&'static str, &'static str)] {
+    &LINES
+}
+
 #[test]
 fn first_file_that_is_lacking_is_told(rt: HostRuntime) -> Result<(), Fail> {
     let alloc = rt.alloc();
-    for (text, answer) in LINES {
+    for &(text, answer) in lines() {
         let mut files = MemoryFiles::new(alloc);
         files.add("a", image_of(alloc, &SMALLEST_PASS)?.as_slice())?;
         files.add("m", b"")?;
