@@ -178,6 +178,10 @@ static PLACES: [(u32, Width, Option<Place>); 10] = [
     (0x8000_0000, Width::Word, None),
 ];
 
+fn places() -> &'static [(u32, Width, Option<Place>)] {
+    &PLACES
+}
+
 /// Places, accesses and undos on a bus.
 #[tactic(auto, unfolding(crate::specs::Range::accepts_of))]
 fn drive<D: Device>(rt: &impl Abort, alloc: Global, devices: Vec<D>)
@@ -185,8 +189,8 @@ fn drive<D: Device>(rt: &impl Abort, alloc: Global, devices: Vec<D>)
 {
     let mut bus = Bus::new(devices);
     assert!(rt; bus.start(alloc, b"AB").is_ok());
-    for (addr, width, place) in &PLACES {
-        assert_eq!(rt; bus.find(*addr, *width), *place, "at {addr}");
+    for &(addr, width, place) in places() {
+        assert_eq!(rt; bus.find(addr, width), place, "at {addr}");
     }
     let (value, undo) = bus.load(0, 0, Width::Byte, 0);
     assert_eq!(rt; (value, bus.number(0, 1)), (0x41, 1));

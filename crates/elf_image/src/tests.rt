@@ -155,126 +155,168 @@ fn check(
     Ok(())
 }
 
+/// What is said of a file, the words that stand in it instead, and what reading gives.
+type Patched = (
+    &'static str,
+    &'static [(usize, u32)],
+    Result<usize, ImageFault>,
+);
+
+/// Of [`SMALLEST`].
+const PATCHED: [Patched; 26] = [
+    ("as it is", &[], Ok(1)),
+    ("magic", &[(0, 0x464c_457e)], Err(ImageFault::Magic)),
+    ("64 bits", &[(4, 0x0001_0102)], Err(ImageFault::Class)),
+    ("big endian", &[(4, 0x0001_0201)], Err(ImageFault::Endian)),
+    (
+        "64 bits, big endian",
+        &[(4, 0x0001_0202)],
+        Err(ImageFault::Class),
+    ),
+    (
+        "shared object",
+        &[(16, 0x00f3_0003)],
+        Err(ImageFault::FileType),
+    ),
+    ("for x86-64", &[(16, 0x003e_0002)], Err(ImageFault::Machine)),
+    (
+        "headers of 31 bytes",
+        &[(40, 0x001f_0034)],
+        Err(ImageFault::EntrySize),
+    ),
+    ("65 headers", &[(44, 65)], Err(ImageFault::Count(65))),
+    (
+        "65 headers of 31 bytes",
+        &[(40, 0x001f_0034), (44, 65)],
+        Err(ImageFault::EntrySize),
+    ),
+    (
+        "table far away",
+        &[(28, 0xffff_ffff)],
+        Err(ImageFault::TableOutside),
+    ),
+    (
+        "table that wraps",
+        &[(28, 0xffff_ffe0)],
+        Err(ImageFault::TableOutside),
+    ),
+    (
+        "no headers, wherever",
+        &[(28, 0xffff_ffff), (40, 0x0000_0034), (44, 0)],
+        Ok(0),
+    ),
+    ("compressed code", &[(36, 1)], Ok(1)),
+    (
+        "contents far away",
+        &[(56, 0xffff_ffff), (68, 0xffff_ffff)],
+        Err(ImageFault::FileOutside(0)),
+    ),
+    (
+        "contents that wrap",
+        &[(56, 0xffff_fff0)],
+        Err(ImageFault::FileOutside(0)),
+    ),
+    (
+        "a byte too many",
+        &[(68, 17), (72, 17)],
+        Err(ImageFault::FileOutside(0)),
+    ),
+    ("no memory", &[(72, 0)], Err(ImageFault::Larger(0))),
+    (
+        "neither bytes nor memory",
+        &[(64, 0), (68, 0), (72, 0)],
+        Ok(0),
+    ),
+    ("a note", &[(52, 4), (56, 0xffff_ffff)], Ok(0)),
+    ("up to RAM's end", &[(64, 0x80ff_fff0)], Ok(1)),
+    (
+        "zeros up to RAM's end",
+        &[(64, 0x80ff_fff0), (68, 0)],
+        Ok(1),
+    ),
+    (
+        "past RAM's end",
+        &[(64, 0x80ff_fff0), (72, 17)],
+        Err(ImageFault::OutsideRam(0)),
+    ),
+    (
+        "from below RAM",
+        &[(64, 0x7fff_ffff)],
+        Err(ImageFault::OutsideRam(0)),
+    ),
+    (
+        "memory that wraps",
+        &[(64, 0xffff_fff0), (72, 0x8000_0020)],
+        Err(ImageFault::OutsideRam(0)),
+    ),
+    ("virtual address elsewhere", &[(60, 0)], Ok(1)),
+];
+
+/// Of [`DOUBLED`].
+const PATCHED_PAIRS: [Patched; 6] = [
+    ("twice the same", &[], Err(ImageFault::Overlap(1, 0))),
+    (
+        "virtual addresses apart",
+        &[(92, 0x8000_1000)],
+        Err(ImageFault::Overlap(1, 0)),
+    ),
+    (
+        "a byte in common",
+        &[(96, 0x8000_000f)],
+        Err(ImageFault::Overlap(1, 0)),
+    ),
+    ("side by side", &[(96, 0x8000_0010)], Ok(2)),
+    ("the second empty", &[(100, 0), (104, 0)], Ok(1)),
+    ("the first a note", &[(52, 4)], Ok(1)),
+];
+
+fn smallest() -> &'static [u8] {
+    &SMALLEST
+}
+
+fn doubled() -> &'static [u8] {
+    &DOUBLED
+}
+
+fn patched() -> &'static [Patched] {
+    &PATCHED
+}
+
+fn patched_pairs() -> &'static [Patched] {
+    &PATCHED_PAIRS
+}
+
+/// What is refused of the smallest image's first bytes.
+fn cut_short(len: usize) -> ImageFault {
+    match len {
+        0..=51 => ImageFault::Short,
+        52..=83 => ImageFault::TableOutside,
+        _ => ImageFault::FileOutside(0),
+    }
+}
+
+#[test]
+fn files_that_are_cut_short(rt: HostRuntime) -> Result<(), Fail> {
+    let file = smallest();
+    for len in 0..file.len() {
+        let fault = cut_short(len);
+        check(&rt, rt.alloc(), "cut short", &file[..len], &[], Err(fault))?;
+    }
+    Ok(())
+}
+
 #[test]
 fn hostile_files(rt: HostRuntime) -> Result<(), Fail> {
-    let alloc = rt.alloc();
-    for len in 0..SMALLEST.len() {
-        let fault = match len {
-            0..=51 => ImageFault::Short,
-            52..=83 => ImageFault::TableOutside,
-            _ => ImageFault::FileOutside(0),
-        };
-        check(&rt, alloc, "cut short", &SMALLEST[..len], &[], Err(fault))?;
+    for &(name, patches, want) in patched() {
+        check(&rt, rt.alloc(), name, smallest(), patches, want)?;
     }
-    let rows: [(&str, &[(usize, u32)], Result<usize, ImageFault>); 26] = [
-        ("as it is", &[], Ok(1)),
-        ("magic", &[(0, 0x464c_457e)], Err(ImageFault::Magic)),
-        ("64 bits", &[(4, 0x0001_0102)], Err(ImageFault::Class)),
-        ("big endian", &[(4, 0x0001_0201)], Err(ImageFault::Endian)),
-        (
-            "64 bits, big endian",
-            &[(4, 0x0001_0202)],
-            Err(ImageFault::Class),
-        ),
-        (
-            "shared object",
-            &[(16, 0x00f3_0003)],
-            Err(ImageFault::FileType),
-        ),
-        ("for x86-64", &[(16, 0x003e_0002)], Err(ImageFault::Machine)),
-        (
-            "headers of 31 bytes",
-            &[(40, 0x001f_0034)],
-            Err(ImageFault::EntrySize),
-        ),
-        ("65 headers", &[(44, 65)], Err(ImageFault::Count(65))),
-        (
-            "65 headers of 31 bytes",
-            &[(40, 0x001f_0034), (44, 65)],
-            Err(ImageFault::EntrySize),
-        ),
-        (
-            "table far away",
-            &[(28, 0xffff_ffff)],
-            Err(ImageFault::TableOutside),
-        ),
-        (
-            "table that wraps",
-            &[(28, 0xffff_ffe0)],
-            Err(ImageFault::TableOutside),
-        ),
-        (
-            "no headers, wherever",
-            &[(28, 0xffff_ffff), (40, 0x0000_0034), (44, 0)],
-            Ok(0),
-        ),
-        ("compressed code", &[(36, 1)], Ok(1)),
-        (
-            "contents far away",
-            &[(56, 0xffff_ffff), (68, 0xffff_ffff)],
-            Err(ImageFault::FileOutside(0)),
-        ),
-        (
-            "contents that wrap",
-            &[(56, 0xffff_fff0)],
-            Err(ImageFault::FileOutside(0)),
-        ),
-        (
-            "a byte too many",
-            &[(68, 17), (72, 17)],
-            Err(ImageFault::FileOutside(0)),
-        ),
-        ("no memory", &[(72, 0)], Err(ImageFault::Larger(0))),
-        (
-            "neither bytes nor memory",
-            &[(64, 0), (68, 0), (72, 0)],
-            Ok(0),
-        ),
-        ("a note", &[(52, 4), (56, 0xffff_ffff)], Ok(0)),
-        ("up to RAM's end", &[(64, 0x80ff_fff0)], Ok(1)),
-        (
-            "zeros up to RAM's end",
-            &[(64, 0x80ff_fff0), (68, 0)],
-            Ok(1),
-        ),
-        (
-            "past RAM's end",
-            &[(64, 0x80ff_fff0), (72, 17)],
-            Err(ImageFault::OutsideRam(0)),
-        ),
-        (
-            "from below RAM",
-            &[(64, 0x7fff_ffff)],
-            Err(ImageFault::OutsideRam(0)),
-        ),
-        (
-            "memory that wraps",
-            &[(64, 0xffff_fff0), (72, 0x8000_0020)],
-            Err(ImageFault::OutsideRam(0)),
-        ),
-        ("virtual address elsewhere", &[(60, 0)], Ok(1)),
-    ];
-    for (name, patches, want) in rows {
-        check(&rt, alloc, name, &SMALLEST, patches, want)?;
-    }
-    let pairs: [(&str, &[(usize, u32)], Result<usize, ImageFault>); 6] = [
-        ("twice the same", &[], Err(ImageFault::Overlap(1, 0))),
-        (
-            "virtual addresses apart",
-            &[(92, 0x8000_1000)],
-            Err(ImageFault::Overlap(1, 0)),
-        ),
-        (
-            "a byte in common",
-            &[(96, 0x8000_000f)],
-            Err(ImageFault::Overlap(1, 0)),
-        ),
-        ("side by side", &[(96, 0x8000_0010)], Ok(2)),
-        ("the second empty", &[(100, 0), (104, 0)], Ok(1)),
-        ("the first a note", &[(52, 4)], Ok(1)),
-    ];
-    for (name, patches, want) in pairs {
-        check(&rt, alloc, name, &DOUBLED, patches, want)?;
+    Ok(())
+}
+
+#[test]
+fn hostile_files_of_two_headers(rt: HostRuntime) -> Result<(), Fail> {
+    for &(name, patches, want) in patched_pairs() {
+        check(&rt, rt.alloc(), name, doubled(), patches, want)?;
     }
     Ok(())
 }

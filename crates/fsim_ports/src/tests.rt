@@ -25,17 +25,22 @@ fn check_load<F: Files>(
     }
 }
 
-/// Loads files that hold `abcd` under `image` and nothing under `empty`.
-fn check_loads<F: Files>(rt: &impl Abort, files: &mut F, alloc: Global) {
-    let cases: [(&str, u64, Result<&[u8], LoadFault>); 6] = [
+/// A name, a limit, and what comes of files that hold `abcd` under `image` and nothing under
+/// `empty`.
+fn loads() -> [(&'static str, u64, Result<&'static [u8], LoadFault>); 6] {
+    [
         ("image", 4, Ok(b"abcd")),
         ("image", u64::MAX, Ok(b"abcd")),
         ("image", 3, Err(LoadFault::TooLong)),
         ("empty", 0, Ok(b"")),
         ("imag", 4, Err(LoadFault::Missing)),
         ("", 4, Err(LoadFault::Missing)),
-    ];
-    for (name, limit, wanted) in cases {
+    ]
+}
+
+/// Loads such files.
+fn check_loads<F: Files>(rt: &impl Abort, files: &mut F, alloc: Global) {
+    for (name, limit, wanted) in loads() {
         check_load(rt, files, name, limit, wanted, alloc);
     }
 }
@@ -55,6 +60,18 @@ fn loads_files_of_memory(rt: HostRuntime) -> Result<(), Fail> {
     Ok(())
 }
 
+/// What comes of loads of which some fail.
+fn loads_of<'a>(long: &'a [u8]) -> [(&'static str, Result<&'a [u8], LoadFault>); 6] {
+    [
+        ("image", Err(LoadFault::Failed)),
+        ("none", Err(LoadFault::Missing)),
+        ("image", Ok(b"abcd")),
+        ("long", Err(LoadFault::Failed)),
+        ("long", Ok(long)),
+        ("image", Err(LoadFault::Failed)),
+    ]
+}
+
 #[test]
 fn loads_again_behind_a_failed_read(rt: HostRuntime) -> Result<(), Fail> {
     let long = vec![in rt.alloc(); 7u8; 70_000]?;
@@ -64,33 +81,29 @@ fn loads_again_behind_a_failed_read(rt: HostRuntime) -> Result<(), Fail> {
     for call in [1, 2, 6, 10] {
         files.fail_at(call)?;
     }
-    let cases: [(&str, Result<&[u8], LoadFault>); 6] = [
-        ("image", Err(LoadFault::Failed)),
-        ("none", Err(LoadFault::Missing)),
-        ("image", Ok(b"abcd")),
-        ("long", Err(LoadFault::Failed)),
-        ("long", Ok(long.as_slice())),
-        ("image", Err(LoadFault::Failed)),
-    ];
-    for (name, wanted) in cases {
+    for (name, wanted) in loads_of(long.as_slice()) {
         check_load(&rt, &mut files, name, 70_000, wanted, rt.alloc());
     }
     Ok(())
 }
 
-#[test]
-fn writes_on_behind_a_failed_put(rt: HostRuntime) -> Result<(), Fail> {
-    let mut sink = MemorySink::new(rt.alloc(), 7)?;
-    sink.fail_at(2)?;
-    let cases: [(&[u8], Result<(), Failed>); 6] = [
+/// What is put into a sink of seven bytes whose second put fails, and what comes of it.
+fn puts() -> [(&'static [u8], Result<(), Failed>); 6] {
+    [
         (b"ab", Ok(())),
         (b"cd", Err(Failed)),
         (b"ef", Ok(())),
         (b"ghij", Err(Failed)),
         (b"", Ok(())),
         (b"klm", Ok(())),
-    ];
-    for (text, wanted) in cases {
+    ]
+}
+
+#[test]
+fn writes_on_behind_a_failed_put(rt: HostRuntime) -> Result<(), Fail> {
+    let mut sink = MemorySink::new(rt.alloc(), 7)?;
+    sink.fail_at(2)?;
+    for (text, wanted) in puts() {
         assert_eq!(rt; put_all(&mut sink, text), wanted);
     }
     assert_eq!(rt; sink.bytes(), b"abefklm".as_slice());
@@ -172,16 +185,20 @@ impl Print for SlowHost {
     }
 }
 
-#[test]
-fn host_sink_tells_how_much_was_taken(rt: HostRuntime) {
-    let cases: [(usize, &[u8], Result<usize, Failed>); 5] = [
+/// How much the host takes at a time, what is put, and what comes of it.
+fn pieces() -> [(usize, &'static [u8], Result<usize, Failed>); 5] {
+    [
         (2, b"abcde", Ok(2)),
         (2, b"a", Ok(1)),
         (2, b"", Ok(0)),
         (0, b"a", Err(Failed)),
         (0, b"", Ok(0)),
-    ];
-    for (most, piece, wanted) in cases {
+    ]
+}
+
+#[test]
+fn host_sink_tells_how_much_was_taken(rt: HostRuntime) {
+    for (most, piece, wanted) in pieces() {
         let mut sink = HostSink::new(SlowHost { most });
         assert_eq!(rt; sink.put(piece), wanted, "{most} {piece:?}");
     }

@@ -97,62 +97,87 @@ fn read_after(kind: u8, rs1: u8, csr: u16, a: u32) -> Option<u32> {
     read(&csrs, csr)
 }
 
+fn writable() -> &'static [(u16, u32, [u32; 3])] {
+    &WRITABLE
+}
+
+fn read_only() -> &'static [(u16, u32)] {
+    &READ_ONLY
+}
+
+fn absent() -> &'static [u16] {
+    &ABSENT
+}
+
 #[test]
 fn registers_show_and_keep_what_the_manual_says(rt: HostRuntime) {
-    for (csr, value, after) in &WRITABLE {
-        assert_eq!(rt; read(&busy(), *csr), Some(*value), "read {csr:x}");
+    for &(csr, value, after) in writable() {
+        assert_eq!(rt; read(&busy(), csr), Some(value), "read {csr:x}");
         assert_eq!(rt;
-            read_after(CSRRW, 6, *csr, 0xffff_ffff),
+            read_after(CSRRW, 6, csr, 0xffff_ffff),
             Some(after[0]),
             "write {csr:x}"
         );
         assert_eq!(rt;
-            read_after(CSRRS, 6, *csr, 0x0000_008b),
+            read_after(CSRRS, 6, csr, 0x0000_008b),
             Some(after[1]),
             "set {csr:x}"
         );
         assert_eq!(rt;
-            read_after(CSRRC, 6, *csr, 0x0000_008b),
+            read_after(CSRRC, 6, csr, 0x0000_008b),
             Some(after[2]),
             "clear {csr:x}"
         );
     }
-    for (csr, value) in &READ_ONLY {
-        assert_eq!(rt; read(&busy(), *csr), Some(*value), "read {csr:x}");
-        assert_eq!(rt; read_after(CSRRW, 6, *csr, *value), None, "write {csr:x}");
-        assert_eq!(rt; read_after(CSRRS, 6, *csr, *value), None, "set {csr:x}");
-        assert_eq!(rt; read_after(CSRRC, 6, *csr, 0), None, "clear {csr:x}");
+}
+
+#[test]
+fn registers_that_are_read_only_refuse_a_write(rt: HostRuntime) {
+    for &(csr, value) in read_only() {
+        assert_eq!(rt; read(&busy(), csr), Some(value), "read {csr:x}");
+        assert_eq!(rt; read_after(CSRRW, 6, csr, value), None, "write {csr:x}");
+        assert_eq!(rt; read_after(CSRRS, 6, csr, value), None, "set {csr:x}");
+        assert_eq!(rt; read_after(CSRRC, 6, csr, 0), None, "clear {csr:x}");
     }
-    for csr in &ABSENT {
-        assert_eq!(rt; read(&busy(), *csr), None, "read {csr:x}");
-        assert_eq!(rt; read_after(CSRRW, 6, *csr, 0), None, "write {csr:x}");
+}
+
+#[test]
+fn addresses_without_a_register_refuse_all(rt: HostRuntime) {
+    for &csr in absent() {
+        assert_eq!(rt; read(&busy(), csr), None, "read {csr:x}");
+        assert_eq!(rt; read_after(CSRRW, 6, csr, 0), None, "write {csr:x}");
         let mut csrs = busy();
         csrs.apply(CsrWrite::Put {
-            csr: *csr,
+            csr,
             value: 0xffff_ffff,
         });
         assert_eq!(rt; csrs, busy(), "no register at {csr:x}");
     }
 }
 
+/// Form, rd, rs1 or immediate, and the value read and written with aaaaaaaa in rs1.
+const FORMS: [(u8, u8, u8, u32, Option<u32>); 12] = [
+    (CSRRW, 5, 0, 0x1234_5678, Some(0xaaaa_aaaa)),
+    (CSRRW, 0, 6, 0, Some(0xaaaa_aaaa)),
+    (CSRRS, 0, 6, 0x1234_5678, Some(0xbabe_fefa)),
+    (CSRRC, 0, 6, 0x1234_5678, Some(0x1014_5450)),
+    (CSRRS, 5, 0, 0x1234_5678, None),
+    (CSRRC, 5, 0, 0x1234_5678, None),
+    (CSRRWI, 0, 0, 0, Some(0)),
+    (CSRRWI, 5, 27, 0x1234_5678, Some(27)),
+    (CSRRSI, 0, 27, 0x1234_5678, Some(0x1234_567b)),
+    (CSRRCI, 0, 27, 0x1234_5678, Some(0x1234_5660)),
+    (CSRRSI, 5, 0, 0x1234_5678, None),
+    (CSRRCI, 5, 0, 0x1234_5678, None),
+];
+
+fn forms() -> &'static [(u8, u8, u8, u32, Option<u32>)] {
+    &FORMS
+}
+
 #[test]
 fn forms_read_and_write_as_their_operands_say(rt: HostRuntime) {
-    // Form, rd, rs1 or immediate, and the value read and written with aaaaaaaa in rs1.
-    let cases = [
-        (CSRRW, 5, 0, 0x1234_5678, Some(0xaaaa_aaaa)),
-        (CSRRW, 0, 6, 0, Some(0xaaaa_aaaa)),
-        (CSRRS, 0, 6, 0x1234_5678, Some(0xbabe_fefa)),
-        (CSRRC, 0, 6, 0x1234_5678, Some(0x1014_5450)),
-        (CSRRS, 5, 0, 0x1234_5678, None),
-        (CSRRC, 5, 0, 0x1234_5678, None),
-        (CSRRWI, 0, 0, 0, Some(0)),
-        (CSRRWI, 5, 27, 0x1234_5678, Some(27)),
-        (CSRRSI, 0, 27, 0x1234_5678, Some(0x1234_567b)),
-        (CSRRCI, 0, 27, 0x1234_5678, Some(0x1234_5660)),
-        (CSRRSI, 5, 0, 0x1234_5678, None),
-        (CSRRCI, 5, 0, 0x1234_5678, None),
-    ];
-    for (kind, rd, rs1, value, written) in cases {
+    for &(kind, rd, rs1, value, written) in forms() {
         let write = match written {
             Some(value) => CsrWrite::Put {
                 csr: MSCRATCH,
@@ -206,17 +231,22 @@ fn time_reads_are_legal_reads_of_the_time(rt: HostRuntime) {
     assert!(rt; !reads_time(Insn::Mret));
 }
 
+/// mtvec, cause, and the handler: vectored mode moves the timer interrupt alone.
+const TRAPS: [(u32, u32, u32); 5] = [
+    (0x8000_0100, 0x8000_0007, 0x8000_0100),
+    (0x8000_0101, 0x8000_0007, 0x8000_011c),
+    (0x8000_0101, 7, 0x8000_0100),
+    (0x8000_0101, 11, 0x8000_0100),
+    (0xffff_fffd, 0x8000_0007, 0x0000_0018),
+];
+
+fn traps() -> &'static [(u32, u32, u32)] {
+    &TRAPS
+}
+
 #[test]
 fn traps_keep_the_place_and_mret_goes_back(rt: HostRuntime) {
-    // mtvec, cause, and the handler: vectored mode moves the timer interrupt alone.
-    let cases = [
-        (0x8000_0100, 0x8000_0007, 0x8000_0100),
-        (0x8000_0101, 0x8000_0007, 0x8000_011c),
-        (0x8000_0101, 7, 0x8000_0100),
-        (0x8000_0101, 11, 0x8000_0100),
-        (0xffff_fffd, 0x8000_0007, 0x0000_0018),
-    ];
-    for (mtvec, cause, handler) in cases {
+    for &(mtvec, cause, handler) in traps() {
         let mut csrs = busy();
         csrs.mtvec = mtvec;
         assert_eq!(rt;

@@ -3,6 +3,7 @@ use branch_predictor::PredKind;
 use fsim_base::Bytes;
 use mono_model::Params;
 use std::alloc::{AllocError, Global};
+use std::process::Abort;
 use std::test::Fail;
 
 /// A file with another value for each key.
@@ -235,24 +236,33 @@ fn answer(alloc: Global, file: &str) -> Result<String, AllocError> {
     }
 }
 
-#[test]
-fn files_give_their_machines(rt: HostRuntime) -> Result<(), Fail> {
+/// Files, and the machines that they say.
+fn machines() -> [(&'static str, Params); 11] {
     let plain = Params::plain();
     let wide = Params {
         core_fetch: 2,
         core_window: 16,
         ..plain
     };
-    for (file, wanted) in [
+    let second = Params {
+        version: 2,
+        ..plain
+    };
+    let four_wide = Params {
+        core_fetch: 4,
+        core_commit: 4,
+        core_window: 64,
+        predictor_kind: PredKind::Bimodal,
+        predictor_targets: 64,
+        icache_ways: 4,
+        dcache_ways: 4,
+        dcache_miss: 1000,
+        ..plain
+    };
+    [
         ("", plain),
         ("# nothing\n", plain),
-        (
-            "version = 2",
-            Params {
-                version: 2,
-                ..plain
-            },
-        ),
+        ("version = 2", second),
         ("[core]\n[alu]\n", plain),
         ("core.fetch = 2\ncore.window = 16\n", wide),
         ("[core]\r\nfetch = 2\r\nwindow = 16\r\n", wide),
@@ -263,20 +273,15 @@ fn files_give_their_machines(rt: HostRuntime) -> Result<(), Fail> {
             "version = 1\n\n[core] # four wide\nfetch = 4\ncommit = 4\nwindow = 64\n\n\
              [predictor]\nkind = \"bimodal\"\ntargets = 64\n\n\
              [icache]\nways = 4\n\n[dcache]\nways = 4\nmiss = 1000\n",
-            Params {
-                core_fetch: 4,
-                core_commit: 4,
-                core_window: 64,
-                predictor_kind: PredKind::Bimodal,
-                predictor_targets: 64,
-                icache_ways: 4,
-                dcache_ways: 4,
-                dcache_miss: 1000,
-                ..plain
-            },
+            four_wide,
         ),
         (ALL_KEYS, ALL_OTHERS),
-    ] {
+    ]
+}
+
+#[test]
+fn files_give_their_machines(rt: HostRuntime) -> Result<(), Fail> {
+    for (file, wanted) in machines() {
         match read(rt.alloc(), file.as_bytes()) {
             Ok(params) => assert_eq!(rt; params, wanted, "the file {file}"),
             Err(fault) => {
@@ -288,46 +293,70 @@ fn files_give_their_machines(rt: HostRuntime) -> Result<(), Fail> {
     Ok(())
 }
 
+/// Compares how a file is answered.
+fn expect(rt: &impl Abort, alloc: Global, file: &str, wanted: &str) -> Result<(), Fail> {
+    let text = answer(alloc, file)?;
+    assert_eq!(rt; text.as_str(), wanted, "the file {file}");
+    Ok(())
+}
+
+fn refused() -> &'static [(&'static str, &'static str)] {
+    &REFUSED
+}
+
 #[test]
 fn files_are_refused_with_their_first_fault(rt: HostRuntime) -> Result<(), Fail> {
-    for (file, wanted) in REFUSED {
-        let text = answer(rt.alloc(), file)?;
-        assert_eq!(rt; text.as_str(), wanted, "the file {file}");
+    for &(file, wanted) in refused() {
+        expect(&rt, rt.alloc(), file, wanted)?;
     }
     Ok(())
+}
+
+/// Compares how a file is answered in which a key has this number.
+fn expect_number(
+    rt: &impl Abort,
+    alloc: Global,
+    key: &str,
+    number: i64,
+    is_within: bool,
+) -> Result<(), Fail> {
+    let version = if key.starts_with("l2") {
+        "version = 2"
+    } else {
+        ""
+    };
+    let file = format!(in alloc; "{version}\n{key} = {number}")?;
+    let refusal = format!(in alloc; "range {key} {number}")?;
+    let wanted = if is_within { "read" } else { refusal.as_str() };
+    expect(rt, alloc, file.as_str(), wanted)
+}
+
+fn ranges() -> &'static [(&'static str, i64, i64)] {
+    &RANGES
 }
 
 #[test]
 fn both_ends_of_a_range_are_in_it(rt: HostRuntime) -> Result<(), Fail> {
     let alloc = rt.alloc();
-    for (key, low, high) in RANGES {
-        let version = if key.starts_with("l2") {
-            "version = 2"
-        } else {
-            ""
-        };
-        for number in [low, high] {
-            let file = format!(in alloc; "{version}\n{key} = {number}")?;
-            let text = answer(alloc, file.as_str())?;
-            assert_eq!(rt; text.as_str(), "read", "the file {file}");
-        }
-        for number in [low.saturating_sub(1), high.saturating_add(1)] {
-            let file = format!(in alloc; "{version}\n{key} = {number}")?;
-            let wanted = format!(in alloc; "range {key} {number}")?;
-            let text = answer(alloc, file.as_str())?;
-            assert_eq!(rt; text.as_str(), wanted.as_str(), "the file {file}");
-        }
+    for &(key, low, high) in ranges() {
+        expect_number(&rt, alloc, key, low, true)?;
+        expect_number(&rt, alloc, key, high, true)?;
+        expect_number(&rt, alloc, key, low.saturating_sub(1), false)?;
+        expect_number(&rt, alloc, key, high.saturating_add(1), false)?;
     }
     Ok(())
+}
+
+fn rams() -> &'static [(&'static str, &'static str)] {
+    &RAMS
 }
 
 #[test]
 fn ram_lies_within_the_addresses(rt: HostRuntime) -> Result<(), Fail> {
     let alloc = rt.alloc();
-    for (keys, wanted) in RAMS {
+    for &(keys, wanted) in rams() {
         let file = format!(in alloc; "[ram]\n{keys}")?;
-        let text = answer(alloc, file.as_str())?;
-        assert_eq!(rt; text.as_str(), wanted, "the keys {keys}");
+        expect(&rt, alloc, file.as_str(), wanted)?;
     }
     Ok(())
 }

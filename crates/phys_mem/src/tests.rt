@@ -40,6 +40,101 @@ fn store(
     }
 }
 
+/// Stands for a byte outside RAM.
+const NO: u32 = 0x100;
+
+/// Address, width and value of a store, what stood there, and the bytes around it then.
+const EDGES: [(u32, Width, u32, Option<u32>, [u32; 12]); 12] = [
+    (
+        0x8000_0000,
+        Width::Byte,
+        0x1234_56ab,
+        Some(0),
+        [NO, NO, NO, NO, 0xab, 0, 0, 0, 0, 0, 0, 0],
+    ),
+    (
+        0x8000_0000,
+        Width::Half,
+        0x1234_56cd,
+        Some(0xab),
+        [NO, NO, NO, NO, 0xcd, 0x56, 0, 0, 0, 0, 0, 0],
+    ),
+    (
+        0x8000_0000,
+        Width::Word,
+        0x8765_4321,
+        Some(0x56cd),
+        [NO, NO, NO, NO, 0x21, 0x43, 0x65, 0x87, 0, 0, 0, 0],
+    ),
+    (
+        0x8000_0ffc,
+        Width::Word,
+        0x1122_3344,
+        Some(0),
+        [0, 0, 0, 0, 0x44, 0x33, 0x22, 0x11, 0, 0, 0, 0],
+    ),
+    (
+        0x8000_1000,
+        Width::Word,
+        0x5566_7788,
+        Some(0),
+        [0x44, 0x33, 0x22, 0x11, 0x88, 0x77, 0x66, 0x55, 0, 0, 0, 0],
+    ),
+    (
+        0x8000_0ffe,
+        Width::Half,
+        0xffff_9900,
+        Some(0x1122),
+        [0, 0, 0x44, 0x33, 0, 0x99, 0x88, 0x77, 0x66, 0x55, 0, 0],
+    ),
+    (
+        0x8000_0fff,
+        Width::Byte,
+        0xee,
+        Some(0x99),
+        [0, 0x44, 0x33, 0, 0xee, 0x88, 0x77, 0x66, 0x55, 0, 0, 0],
+    ),
+    (
+        0x8000_1ffc,
+        Width::Word,
+        0xa1a2_a3a4,
+        Some(0),
+        [0, 0, 0, 0, 0xa4, 0xa3, 0xa2, 0xa1, NO, NO, NO, NO],
+    ),
+    (
+        0x8000_1ffe,
+        Width::Half,
+        0x0000_b1b2,
+        Some(0xa1a2),
+        [0, 0, 0xa4, 0xa3, 0xb2, 0xb1, NO, NO, NO, NO, NO, NO],
+    ),
+    (
+        0x8000_1fff,
+        Width::Byte,
+        0xc1,
+        Some(0xb1),
+        [0, 0xa4, 0xa3, 0xb2, 0xc1, NO, NO, NO, NO, NO, NO, NO],
+    ),
+    (
+        0x8000_2000,
+        Width::Byte,
+        1,
+        None,
+        [0xa4, 0xa3, 0xb2, 0xc1, NO, NO, NO, NO, NO, NO, NO, NO],
+    ),
+    (
+        0x7fff_fffc,
+        Width::Word,
+        1,
+        None,
+        [NO, NO, NO, NO, NO, NO, NO, NO, 0x21, 0x43, 0x65, 0x87],
+    ),
+];
+
+fn edges() -> &'static [(u32, Width, u32, Option<u32>, [u32; 12])] {
+    &EDGES
+}
+
 #[test]
 fn edges_of_ram_and_of_pages(rt: HostRuntime) -> Result<(), Fail> {
     let alloc = rt.alloc();
@@ -48,101 +143,27 @@ fn edges_of_ram_and_of_pages(rt: HostRuntime) -> Result<(), Fail> {
         size: 0x2000,
     };
     let mut ram = ram(&rt, alloc, range, Vec::new(alloc))?;
-    // 0x100 stands for a byte outside RAM.
-    let o = 0x100;
-    let rows = [
-        (
-            0x8000_0000,
-            Width::Byte,
-            0x1234_56ab,
-            Some(0),
-            [o, o, o, o, 0xab, 0, 0, 0, 0, 0, 0, 0],
-        ),
-        (
-            0x8000_0000,
-            Width::Half,
-            0x1234_56cd,
-            Some(0xab),
-            [o, o, o, o, 0xcd, 0x56, 0, 0, 0, 0, 0, 0],
-        ),
-        (
-            0x8000_0000,
-            Width::Word,
-            0x8765_4321,
-            Some(0x56cd),
-            [o, o, o, o, 0x21, 0x43, 0x65, 0x87, 0, 0, 0, 0],
-        ),
-        (
-            0x8000_0ffc,
-            Width::Word,
-            0x1122_3344,
-            Some(0),
-            [0, 0, 0, 0, 0x44, 0x33, 0x22, 0x11, 0, 0, 0, 0],
-        ),
-        (
-            0x8000_1000,
-            Width::Word,
-            0x5566_7788,
-            Some(0),
-            [0x44, 0x33, 0x22, 0x11, 0x88, 0x77, 0x66, 0x55, 0, 0, 0, 0],
-        ),
-        (
-            0x8000_0ffe,
-            Width::Half,
-            0xffff_9900,
-            Some(0x1122),
-            [0, 0, 0x44, 0x33, 0, 0x99, 0x88, 0x77, 0x66, 0x55, 0, 0],
-        ),
-        (
-            0x8000_0fff,
-            Width::Byte,
-            0xee,
-            Some(0x99),
-            [0, 0x44, 0x33, 0, 0xee, 0x88, 0x77, 0x66, 0x55, 0, 0, 0],
-        ),
-        (
-            0x8000_1ffc,
-            Width::Word,
-            0xa1a2_a3a4,
-            Some(0),
-            [0, 0, 0, 0, 0xa4, 0xa3, 0xa2, 0xa1, o, o, o, o],
-        ),
-        (
-            0x8000_1ffe,
-            Width::Half,
-            0x0000_b1b2,
-            Some(0xa1a2),
-            [0, 0, 0xa4, 0xa3, 0xb2, 0xb1, o, o, o, o, o, o],
-        ),
-        (
-            0x8000_1fff,
-            Width::Byte,
-            0xc1,
-            Some(0xb1),
-            [0, 0xa4, 0xa3, 0xb2, 0xc1, o, o, o, o, o, o, o],
-        ),
-        (
-            0x8000_2000,
-            Width::Byte,
-            1,
-            None,
-            [0xa4, 0xa3, 0xb2, 0xc1, o, o, o, o, o, o, o, o],
-        ),
-        (
-            0x7fff_fffc,
-            Width::Word,
-            1,
-            None,
-            [o, o, o, o, o, o, o, o, 0x21, 0x43, 0x65, 0x87],
-        ),
-    ];
-    for (addr, width, value, old, bytes) in rows {
+    for &(addr, width, value, old, bytes) in edges() {
         store(&rt, &mut ram, addr, width, value, old, bytes);
     }
     assert_eq!(rt; ram.get(0x8000_0ffc, Width::Word), Some(0xee00_3344));
     assert_eq!(rt; ram.get(0x8000_1ffc, Width::Half), Some(0xa3a4));
     assert_eq!(rt; ram.text(0x8000_0000), None);
     Ok(())
+}
+
+/// An address, and what stands there at first.
+const WORDS: [(u32, Option<u32>); 6] = [
+    (0x8000_0ff4, None),
+    (0x8000_0ff8, Some(0)),
+    (0x8000_0ffc, Some(0)),
+    (0x8000_1000, Some(0)),
+    (0x8000_1004, Some(0)),
+    (0x8000_1008, None),
+];
+
+fn words() -> &'static [(u32, Option<u32>)] {
+    &WORDS
 }
 
 #[test]
@@ -153,14 +174,7 @@ fn range_that_begins_and_ends_inside_a_page(rt: HostRuntime) -> Result<(), Fail>
         size: 0x10,
     };
     let mut ram = ram(&rt, alloc, range, Vec::new(alloc))?;
-    for (addr, old) in [
-        (0x8000_0ff4, None),
-        (0x8000_0ff8, Some(0)),
-        (0x8000_0ffc, Some(0)),
-        (0x8000_1000, Some(0)),
-        (0x8000_1004, Some(0)),
-        (0x8000_1008, None),
-    ] {
+    for &(addr, old) in words() {
         assert!(rt; addr % 4 == 0);
         assert_eq!(rt; ram.set(addr, Width::Word, addr), old, "at {addr:x}");
         assert_eq!(rt;
@@ -170,6 +184,35 @@ fn range_that_begins_and_ends_inside_a_page(rt: HostRuntime) -> Result<(), Fail>
         );
     }
     Ok(())
+}
+
+/// An address, the instruction there, and the word that a load reads.
+const BEFORE: [(u32, Option<u32>, Option<u32>); 9] = [
+    (0x8000_0ffc, None, Some(0)),
+    (0x8000_1000, Some(0x0010_02b7), Some(0x0010_02b7)),
+    (0x8000_1004, Some(0x37), Some(0x37)),
+    (0x8000_1008, None, Some(0)),
+    (0x8000_100c, None, Some(0x0403_0201)),
+    (0x8000_1010, None, Some(0)),
+    (0x8000_2000, None, Some(0)),
+    (0x8000_3000, None, None),
+    (0x7fff_fffc, None, None),
+];
+
+/// An address and the instruction there, behind stores and a FENCE.I.
+const AFTER: [(u32, Option<u32>); 4] = [
+    (0x8000_1000, Some(0x0010_02b7)),
+    (0x8000_1004, Some(0x1111_1111)),
+    (0x8000_1008, None),
+    (0x8000_100c, None),
+];
+
+fn before_sync() -> &'static [(u32, Option<u32>, Option<u32>)] {
+    &BEFORE
+}
+
+fn after_sync() -> &'static [(u32, Option<u32>)] {
+    &AFTER
 }
 
 /// Ten bytes of text, then two of nothing, then data on the same page.
@@ -195,18 +238,7 @@ fn text_beside_data(rt: HostRuntime) -> Result<(), Fail> {
         bytes: Bytes::new([1, 2, 3, 4].to_vec(alloc)?),
     };
     let mut ram = ram(&rt, alloc, range, vec![in alloc; text, data]?)?;
-    let before = [
-        (0x8000_0ffc, None, Some(0)),
-        (0x8000_1000, Some(0x0010_02b7), Some(0x0010_02b7)),
-        (0x8000_1004, Some(0x37), Some(0x37)),
-        (0x8000_1008, None, Some(0)),
-        (0x8000_100c, None, Some(0x0403_0201)),
-        (0x8000_1010, None, Some(0)),
-        (0x8000_2000, None, Some(0)),
-        (0x8000_3000, None, None),
-        (0x7fff_fffc, None, None),
-    ];
-    for (addr, text, word) in before {
+    for &(addr, text, word) in before_sync() {
         assert!(rt; addr % 4 == 0);
         assert_eq!(rt;
             (ram.text(addr), ram.get(addr, Width::Word)),
@@ -225,13 +257,7 @@ fn text_beside_data(rt: HostRuntime) -> Result<(), Fail> {
         "stores don't reach the text"
     );
     ram.sync();
-    let after = [
-        (0x8000_1000, Some(0x0010_02b7)),
-        (0x8000_1004, Some(0x1111_1111)),
-        (0x8000_1008, None),
-        (0x8000_100c, None),
-    ];
-    for (addr, text) in after {
+    for &(addr, text) in after_sync() {
         assert!(rt; addr % 4 == 0);
         assert_eq!(rt; ram.text(addr), text, "synced, at {addr:x}");
     }

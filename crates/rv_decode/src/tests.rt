@@ -130,9 +130,17 @@ const ILLEGAL: [u32; 39] = [
     0xffff_ffff, // .word 0xffffffff
 ];
 
+fn words() -> &'static [(u32, Insn)] {
+    &WORDS
+}
+
+fn illegal() -> &'static [u32] {
+    &ILLEGAL
+}
+
 #[test]
 fn words_of_the_gnu_assembler(rt: HostRuntime) {
-    for (word, insn) in WORDS {
+    for &(word, insn) in words() {
         assert_eq!(rt; decode(word), Some(insn), "{word:08x}");
         assert!(rt; insn.fits(), "{word:08x}");
         assert_eq!(rt; encode(insn), word);
@@ -141,59 +149,68 @@ fn words_of_the_gnu_assembler(rt: HostRuntime) {
 
 #[test]
 fn words_outside_the_table(rt: HostRuntime) {
-    for word in ILLEGAL {
+    for &word in illegal() {
         assert_eq!(rt; decode(word), None, "{word:08x}");
     }
 }
 
+const NONE: (Option<u8>, Option<u8>) = (None, None);
+
+/// A word, its class and flow, the registers that it reads, and the one that it writes.
+type Asked = (u32, Class, Flow, (Option<u8>, Option<u8>), Option<u8>);
+
+const ASKED: [Asked; 12] = [
+    (0x0010_00ef, Class::Alu, Flow::Jump, NONE, Some(1)), // jal x1
+    (0xffdf_f06f, Class::Alu, Flow::Jump, NONE, None), // jal x0
+    (
+        0x0041_c0e3,
+        Class::Alu,
+        Flow::Branch,
+        (Some(3), Some(4)),
+        None,
+    ), // blt x3, x4
+    (0xfff4_4003, Class::Load, Flow::Plain, (Some(8), None), None), // lbu x0, -1(x8)
+    (
+        0x0000_afa3,
+        Class::Store,
+        Flow::Plain,
+        (Some(1), Some(0)),
+        None,
+    ), // sw x0, 31(x1)
+    (
+        0x0296_3a33,
+        Class::Mul,
+        Flow::Plain,
+        (Some(12), Some(9)),
+        Some(20),
+    ), // mulhu x20, x12, x9
+    (
+        0x0348_cdb3,
+        Class::Div,
+        Flow::Plain,
+        (Some(17), Some(20)),
+        Some(27),
+    ), // div x27, x17, x20
+    (0x1233_028f, Class::Alu, Flow::Plain, NONE, None), // fence with rd 5 and rs1 6
+    (0x0000_0073, Class::Alu, Flow::Plain, NONE, None), // ecall
+    (0x3020_0073, Class::Serial, Flow::Jump, NONE, None), // mret
+    (
+        0x3001_10f3,
+        Class::Serial,
+        Flow::Plain,
+        (Some(2), None),
+        Some(1),
+    ), // csrrw x1, mstatus, x2
+    (0x305f_d273, Class::Serial, Flow::Plain, NONE, Some(4)), // csrrwi x4, mtvec, 31
+];
+
+fn asked() -> &'static [Asked] {
+    &ASKED
+}
+
 #[test]
 fn what_a_pipeline_asks(rt: HostRuntime) {
-    let none = (None, None);
-    let cases = [
-        (0x0010_00ef, Class::Alu, Flow::Jump, none, Some(1)), // jal x1
-        (0xffdf_f06f, Class::Alu, Flow::Jump, none, None), // jal x0
-        (
-            0x0041_c0e3,
-            Class::Alu,
-            Flow::Branch,
-            (Some(3), Some(4)),
-            None,
-        ), // blt x3, x4
-        (0xfff4_4003, Class::Load, Flow::Plain, (Some(8), None), None), // lbu x0, -1(x8)
-        (
-            0x0000_afa3,
-            Class::Store,
-            Flow::Plain,
-            (Some(1), Some(0)),
-            None,
-        ), // sw x0, 31(x1)
-        (
-            0x0296_3a33,
-            Class::Mul,
-            Flow::Plain,
-            (Some(12), Some(9)),
-            Some(20),
-        ), // mulhu x20, x12, x9
-        (
-            0x0348_cdb3,
-            Class::Div,
-            Flow::Plain,
-            (Some(17), Some(20)),
-            Some(27),
-        ), // div x27, x17, x20
-        (0x1233_028f, Class::Alu, Flow::Plain, none, None), // fence with rd 5 and rs1 6
-        (0x0000_0073, Class::Alu, Flow::Plain, none, None), // ecall
-        (0x3020_0073, Class::Serial, Flow::Jump, none, None), // mret
-        (
-            0x3001_10f3,
-            Class::Serial,
-            Flow::Plain,
-            (Some(2), None),
-            Some(1),
-        ), // csrrw x1, mstatus, x2
-        (0x305f_d273, Class::Serial, Flow::Plain, none, Some(4)), // csrrwi x4, mtvec, 31
-    ];
-    for (word, class, flow, sources, dest) in cases {
+    for &(word, class, flow, sources, dest) in asked() {
         let insn = decode(word).expect(&rt, "a word of the table");
         assert_eq!(rt; insn.class(), class, "{word:08x}");
         assert_eq!(rt; insn.flow(), flow, "{word:08x}");

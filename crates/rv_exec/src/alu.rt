@@ -3,6 +3,7 @@ ghost use Rattle.rv_exec.specs.Alu.{truth, shifted_left, shifted_right, shifted_
 ghost use Rattle.rv_exec.specs.Alu.{alu_value};
 
 /// What an integer computational instruction writes; `alt` says that funct7 is 0x20.
+#[inline(always)]
 pub fn alu(kind: u8, alt: bool, a: u32, b: u32) -> u32
     ensures value { result ≡ alu_value kind alt a b }
 {

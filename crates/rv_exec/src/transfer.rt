@@ -46,6 +46,7 @@ pub fn cut(value: u32, width: Width) -> u32
 
 /// What a load writes to its register: the low bytes of `raw`, with their sign or zeros before
 /// them.
+#[inline(always)]
 pub fn extend(raw: u32, width: Width, signed: bool) -> u32
     ensures value { result ≡ loaded_value width signed raw }
 {

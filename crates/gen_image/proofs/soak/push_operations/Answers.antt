@@ -1,4 +1,4 @@
-use Rattle.std.proofs.Common.{◌+◌, ◌++◌, length, ap, ◌∙◌, arith}
+use Rattle.std.proofs.Common.{◌++◌, length, ap, ◌∙◌, arith}
 use Rattle.elf_image.specs.Write.{words}
 use Rattle.gen_image.specs.Soak.{operation}
 use Rattle.gen_image.proofs.Parts.{each_none, each_more}
