@@ -163,7 +163,7 @@ type Patched = (
 );
 
 /// Of [`SMALLEST`].
-const PATCHED: [Patched; 26] = [
+static PATCHED: [Patched; 26] = [
     ("as it is", &[], Ok(1)),
     ("magic", &[(0, 0x464c_457e)], Err(ImageFault::Magic)),
     ("64 bits", &[(4, 0x0001_0102)], Err(ImageFault::Class)),
@@ -253,7 +253,7 @@ const PATCHED: [Patched; 26] = [
 ];
 
 /// Of [`DOUBLED`].
-const PATCHED_PAIRS: [Patched; 6] = [
+static PATCHED_PAIRS: [Patched; 6] = [
     ("twice the same", &[], Err(ImageFault::Overlap(1, 0))),
     (
         "virtual addresses apart",

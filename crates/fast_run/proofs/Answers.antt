@@ -1,81 +1,14 @@
--- From the end of a job, and from the cause that there is none, to the program's answer.
-use Rattle.std.proofs.Common.{◌≡◌, ◌≢◌, ◌⊎◌, inl, inr, ℕ, List, [], Option, Some, None, Result, Ok, Err, IfOk, IfErr, ap, sym, refl, ◌∙◌, subst}
-use Rattle.fsim_ports.specs.Files.{Names}
-use Rattle.fsim_ports.specs.Sink.{grown, Breaks}
-use Rattle.mono_model.specs.declared.final_state.End.{End}
-use Rattle.mono_model.specs.declared.final_state.End.TheVariants as end
+-- From the answer to a job, and from the cause that there is none, to the program's answer.
+use Rattle.std.proofs.Common.{◌≡◌, ℕ, inl, inr, Option, Some, None, Ok, refl, sym, subst}
 use Rattle.report_text.specs.FaultText.{fault_text}
 use Rattle.report_text.specs.declared.status.Status.{Status}
-use Rattle.report_text.specs.declared.status.Status.TheVariants.{Pass, Fail, Limit, OutputFull, Running, Shown, Usage, Image, Machine, Missing, ReadFault, WriteFault, Memory, TooLong, BadPlan, Later, BadScript, Sets}
+use Rattle.report_text.specs.declared.status.Status.TheVariants.{Memory, Usage}
 use Rattle.fast_cli.specs.declared.line.Line.{Line}
-use Rattle.fast_run.specs.declared.job.Job.{Job}
-use Rattle.fast_run.specs.Answer.{Asks, Closes, Ends, IsAnswer, Refused, Reported, Broken, Starved, Stopped}
-use Rattle.fast_run.specs.Call.{Reading, Writing, WroteTo}
-use Rattle.fast_run.specs.Files.{files_of}
-use Rattle.fast_run.specs.Gives.{Gives}
-use Rattle.fast_run.specs.Job.{job_of}
-use Rattle.fast_run.specs.Outcome.{MayEnd, job_status, job_text, status_for}
-use Rattle.fast_run.specs.Reading.{AreRead, StopsIn}
-
--- an answer is want of memory, or it is another
-pub memory_or : (status : Status) → (status ≡ Memory) ⊎ (status ≢ Memory)
-memory_or Memory = inl refl
-memory_or Pass = inr (λ is. cc)
-memory_or (Fail code) = inr (λ is. cc)
-memory_or Limit = inr (λ is. cc)
-memory_or OutputFull = inr (λ is. cc)
-memory_or Running = inr (λ is. cc)
-memory_or Shown = inr (λ is. cc)
-memory_or Usage = inr (λ is. cc)
-memory_or (Image fault) = inr (λ is. cc)
-memory_or (Machine fault) = inr (λ is. cc)
-memory_or (Missing role) = inr (λ is. cc)
-memory_or (ReadFault role) = inr (λ is. cc)
-memory_or WriteFault = inr (λ is. cc)
-memory_or (TooLong role limit) = inr (λ is. cc)
-memory_or (BadPlan place) = inr (λ is. cc)
-memory_or (Later word) = inr (λ is. cc)
-memory_or (BadScript place) = inr (λ is. cc)
-memory_or (Sets machine) = inr (λ is. cc)
-
--- the answer to a run that goes on is of no other end
-pub running-end : (e : End) → status_for e ≡ Running → e ≡ end.Running
-running-end end.Pass is = cc
-running-end (end.Fail code) is = cc
-running-end end.Limit is = cc
-running-end end.OutputFull is = cc
-running-end end.Running is = refl
-
--- a job that was reported whole
-pub ends-reported : (job : Job) (text : List ℕ) (sink : Writing) (status : Status) → status ≡ job_status job → MayEnd job → job_text job ≡ text →
-    sink.after ≡ grown sink.before text → Ends job sink status
-ends-reported job text sink status answer may same written = Reported (record {
-  answer = answer;
-  going = λ running. may (sym answer ∙ running);
-  written = written ∙ ap (grown sink.before) (sym same);
-})
-
--- one whose report broke off
-pub ends-broken : (job : Job) (text : List ℕ) (sink : Writing) → job_text job ≡ text → Breaks text sink.faults.before sink.faults.after sink.before sink.after → Ends job sink WriteFault
-ends-broken job text sink same broken = Broken (record {
-  answer = refl;
-  written = subst (λ (written : List ℕ). Breaks written sink.faults.before sink.faults.after sink.before sink.after) (sym same) broken;
-})
-
--- reading the files stopped, if it wasn't for want of memory
-pub closes-stopped : (line : Line) (sets : ℕ) (files : Reading) (status : Status) → (status ≢ Memory → StopsIn files (files_of line) status) → Closes line sets files status
-closes-stopped line sets files status stop = elim (memory_or status) [
-  | inl memory ↦ Starved memory
-  | inr other ↦ Stopped (stop other)
-]
-
--- what was read is refused, if it isn't for want of memory
-pub closes-refused : (line : Line) (sets : ℕ) (files : Reading) (contents : List (List ℕ)) (status : Status) → AreRead files.told (files_of line) contents →
-    (files_of line ≡ [] → files.faults.after ≡ files.faults.before) → (status ≢ Memory → job_of line sets contents ≡ Err status) → Closes line sets files status
-closes-refused line sets files contents status read unread refused = elim (memory_or status) [
-  | inl memory ↦ Starved memory
-  | inr other ↦ Refused (record { asks = record { contents = contents; read = read; same = refused other }; unread = unread })
-]
+use Rattle.fast_jobs.specs.declared.job.Job.{Job}
+use Rattle.fast_jobs.specs.Call.{Reading, Writing, WroteTo}
+use Rattle.fast_jobs.specs.Ending.{Ends}
+use Rattle.fast_jobs.specs.Opening.{Asks, Closes, Starved}
+use Rattle.fast_run.specs.Answer.{IsAnswer}
 
 -- there is no job, and the line of the answer was written
 pub answer-closed : (line : Line) (sets : ℕ) (files : Reading) (sink : Writing) (status answer : Status) → answer ≡ status → Closes line sets files status → WroteTo sink (fault_text status) →
@@ -105,15 +38,3 @@ answer-usage asked sets files sink status none unread usage written =
 pub answer-line : (asked : Option Line) (line : Line) (sets : ℕ) (files : Reading) (sink : Writing) (status : Status) → asked ≡ Some line → IsAnswer (Some line) sets files sink status →
     IsAnswer asked sets files sink status
 answer-line asked line sets files sink status named answered = subst (λ (a : Option Line). IsAnswer a sets files sink status) (sym named) answered
-
--- a job that is made of what was read is asked for
-pub job-asks : (line : Line) (sets : ℕ) (told : Option Names) (contents : List (List ℕ)) (result : Result Job Status) → AreRead told (files_of line) contents →
-    Gives (job_of line sets contents) result → IfOk result (λ job. Asks line sets told (Ok job))
-job-asks line sets told contents (Ok job) read gives = record { contents = contents; read = read; same = gives }
-job-asks line sets told contents (Err status) read gives = tt
-
--- or there is none
-pub job-closes : (line : Line) (sets : ℕ) (files : Reading) (contents : List (List ℕ)) (result : Result Job Status) → AreRead files.told (files_of line) contents →
-    (files_of line ≡ [] → files.faults.after ≡ files.faults.before) → Gives (job_of line sets contents) result → IfErr result (Closes line sets files)
-job-closes line sets files contents (Ok job) read unread gives = tt
-job-closes line sets files contents (Err status) read unread gives = closes-refused line sets files contents status read unread gives

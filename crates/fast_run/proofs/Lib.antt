@@ -1,13 +1,3 @@
-pub mod Setups
-pub mod Ends
-pub mod Ending
-pub mod LaneEnding
-pub mod Plans
-pub mod Jobs
-pub mod Readings
 pub mod Answers
 pub mod Settling
 pub mod Words
-pub mod Refusals
-pub mod Sweeps
-pub mod Scripts

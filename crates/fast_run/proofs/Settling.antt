@@ -4,17 +4,19 @@ use Rattle.fsim_ports.specs.Files.{Names}
 use Rattle.report_text.specs.declared.status.Status.{Status}
 use Rattle.report_text.specs.declared.status.Status.TheVariants.{Usage, Memory}
 use Rattle.fast_cli.specs.declared.line.Line.{Line}
-use Rattle.fast_run.specs.declared.job.Job.{Job}
-use Rattle.fast_run.specs.Answer.{Asks, Closes, Ends, IsAnswer, Refused, Reported, Broken, Starved, Stopped, Unopened}
-use Rattle.fast_run.specs.Call.{Reading, Writing, IsQuiet}
-use Rattle.fast_run.specs.Files.{files_of}
-use Rattle.fast_run.specs.Gives.{◌>>=◌}
-use Rattle.fast_run.specs.Job.{job_of}
-use Rattle.fast_run.specs.Outcome.{outcome}
-use Rattle.fast_run.specs.Reading.{AreRead, StopsIn}
+use Rattle.fast_jobs.specs.declared.job.Job.{Job}
+use Rattle.fast_jobs.specs.Ending.{Ends, Reported, Broken, Unopened}
+use Rattle.fast_jobs.specs.Opening.{Asks, Closes, Refused, Starved, Stopped}
+use Rattle.fast_run.specs.Answer.{IsAnswer}
+use Rattle.fast_jobs.specs.Call.{Reading, Writing, IsQuiet}
+use Rattle.fast_jobs.specs.Files.{files_of}
+use Rattle.fast_jobs.specs.Gives.{◌>>=◌}
+use Rattle.fast_jobs.specs.Job.{job_of}
+use Rattle.fast_jobs.specs.Outcome.{outcome}
+use Rattle.fast_jobs.specs.Reading.{AreRead, StopsIn}
 use Rattle.fast_run.specs.Settled.{IsComplete, IsSettled, Settles, asked_job}
-use Rattle.fast_run.proofs.Answers.{memory_or}
-use Rattle.fast_run.proofs.Readings.{told-read, told-stopped}
+use Rattle.fast_jobs.proofs.Outcomes.{memory_or}
+use Rattle.fast_jobs.proofs.Readings.{told-read, told-stopped}
 
 ok-same : (a b : Job) → ◌≡◌ {A = Result Job Status} (Ok a) (Ok b) → a ≡ b
 ok-same a b same = cc

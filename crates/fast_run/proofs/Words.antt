@@ -13,7 +13,7 @@ use Rattle.report_text.specs.declared.status.Status.{Status}
 use Rattle.report_text.specs.declared.status.Status.TheVariants.{Memory, Usage}
 use Rattle.report_text.specs.FaultText.{fault_text}
 use Rattle.fast_run.specs.Answer.{IsAnswer}
-use Rattle.fast_run.specs.Call.{Reading, WroteTo, Writing}
+use Rattle.fast_jobs.specs.Call.{Reading, WroteTo, Writing}
 use Rattle.fast_run.specs.Program.{Arguments, line_in, status_of_error}
 use Rattle.fast_run.proofs.Answers.{answer-starved, answer-usage}
 

@@ -1,13 +1,3 @@
-pub mod Plan
-pub mod Files
-pub mod Gives
-pub mod Refusal
-pub mod Stages
-pub mod SweepFiles
-pub mod Job
-pub mod Outcome
-pub mod Call
-pub mod Reading
 pub mod Answer
 pub mod Settled
 pub mod Program

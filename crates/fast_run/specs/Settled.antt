@@ -4,13 +4,13 @@ use Rattle.fsim_ports.specs.Files.{Names}
 use Rattle.report_text.specs.declared.status.Status.{Status}
 use Rattle.report_text.specs.declared.status.Status.TheVariants.{Usage, WriteFault, Memory}
 use Rattle.fast_cli.specs.declared.line.Line.{Line}
-use Rattle.fast_run.specs.declared.job.Job.{Job}
-use Rattle.fast_run.specs.Files.{files_of}
-use Rattle.fast_run.specs.Gives.{◌>>=◌}
-use Rattle.fast_run.specs.Job.{job_of}
-use Rattle.fast_run.specs.Outcome.{outcome}
-use Rattle.fast_run.specs.Call.{Reading, Writing, IsQuiet}
-use Rattle.fast_run.specs.Reading.{told_contents}
+use Rattle.fast_jobs.specs.declared.job.Job.{Job}
+use Rattle.fast_jobs.specs.Files.{files_of}
+use Rattle.fast_jobs.specs.Gives.{◌>>=◌}
+use Rattle.fast_jobs.specs.Job.{job_of}
+use Rattle.fast_jobs.specs.Outcome.{outcome}
+use Rattle.fast_jobs.specs.Call.{Reading, Writing, IsQuiet}
+use Rattle.fast_jobs.specs.Reading.{told_contents}
 
 -- what the words ask for, or the first refusal: that they are no line, file by file, and then of
 -- what the files hold

@@ -2,17 +2,14 @@ ghost use Rattle.std.specs.Prelude.{◌≡◌, ◌≤◌, ◌/◌, true, map, ve
 ghost use Rattle.device_bus.specs.Bus.{AreSets};
 ghost use Rattle.fast_cli.specs.Line.{line};
 ghost use Rattle.fast_cli.specs.Ranges.{IsInRange};
+ghost use Rattle.fast_jobs.specs.Call.{reading_of, writing_of};
+ghost use Rattle.fast_jobs.specs.Job.{is_still};
 ghost use Rattle.fast_run.specs.Answer.{IsAnswer};
-ghost use Rattle.fast_run.specs.Call.{reading_of, writing_of};
-ghost use Rattle.fast_run.specs.Job.{is_still};
 ghost use Rattle.fast_run.specs.Settled.{IsComplete, IsSettled};
 
-use crate::job::Job;
-use crate::open::open;
-use crate::refusal::{Refusal, tell_want_of_memory};
-use crate::run::{first_set, run, run_in_threads};
 use device_bus::Device;
 use fast_cli::{Line, UsageFault, read_words};
+use fast_jobs::{Job, Refusal, first_set, open, run, run_in_threads, tell_want_of_memory};
 use fsim_ports::{Files, Gate, Sink};
 use report_text::Status;
 use std::alloc::Global;

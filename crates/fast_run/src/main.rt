@@ -3,28 +3,9 @@
 #![tactic(auto)]
 
 mod answer;
-mod files;
-mod finish;
-mod grow;
-mod image;
-mod inorder;
-mod job;
-mod load;
-mod machine;
-mod open;
-mod plan;
 mod program;
-mod read;
-mod refusal;
-mod run;
-mod script;
-mod setup;
-mod sweep;
-mod sweep_files;
-mod sweep_setup;
 #[cfg(test)]
 mod tests;
-mod timed_image;
 
 use std::process::ExitCode;
 

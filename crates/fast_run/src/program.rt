@@ -3,13 +3,13 @@ ghost use Rattle.std.specs.IoError.{error_kind};
 ghost use Rattle.std.specs.Process.{exit_status};
 ghost use Rattle.fast_cli.specs.Line.{line};
 ghost use Rattle.report_text.specs.FaultText.{status_number};
+ghost use Rattle.fast_jobs.specs.Call.{reading_of, writing_of};
 ghost use Rattle.fast_run.specs.Answer.{IsAnswer};
-ghost use Rattle.fast_run.specs.Call.{reading_of, writing_of};
 ghost use Rattle.fast_run.specs.Program.{IsNoText, line_in, status_of_error};
 
 use crate::answer::fast_main;
-use crate::refusal::{Refusal, tell_want_of_memory};
 use device_bus::{Console, Device, Finisher, Timer, sets_in_order};
+use fast_jobs::{Refusal, tell_want_of_memory};
 use fsim_ports::{Files, HostFiles, HostSink, QuietGate, Sink};
 use report_text::Status;
 use std::alloc::{AllocError, Global};

@@ -11,10 +11,12 @@ mod sessions;
 mod sweeps;
 mod words;
 
-use crate::open::open;
+use crate::answer::fast_main;
 use crate::program::answer_words;
+use device_bus::{Device, sets_in_order};
 use fast_cli::read_words;
-use fsim_ports::{MemoryFiles, MemorySink};
+use fast_jobs::open;
+use fsim_ports::{Gate, MemoryFiles, MemorySink};
 use std::alloc::Global;
 use std::process::Abort;
 use std::sync::Wait;
@@ -70,6 +72,22 @@ fn answer<R: Threads + Wait + Sync + Abort>(
 ) -> Result<u8, Fail> {
     let words = words_of(alloc, line)?;
     let status = answer_words(rt, alloc, words.as_slice(), files, sink)?;
+    Ok(status.number())
+}
+
+/// The same with these devices and this gate.
+fn answer_with<R: Threads + Wait + Sync + Abort, G: Gate + Sync>(
+    rt: &R,
+    alloc: Global,
+    line: &str,
+    files: &mut MemoryFiles,
+    sink: &mut MemorySink,
+    devices: Vec<Box<dyn Device + Send>>,
+    gate: &G,
+) -> Result<u8, Fail> {
+    let words = words_of(alloc, line)?;
+    assert!(rt; sets_in_order(devices.as_slice()));
+    let status = fast_main(rt, alloc, words.as_slice(), files, sink, devices, gate);
     Ok(status.number())
 }
 

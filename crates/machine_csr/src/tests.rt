@@ -156,7 +156,7 @@ fn addresses_without_a_register_refuse_all(rt: HostRuntime) {
 }
 
 /// Form, rd, rs1 or immediate, and the value read and written with aaaaaaaa in rs1.
-const FORMS: [(u8, u8, u8, u32, Option<u32>); 12] = [
+static FORMS: [(u8, u8, u8, u32, Option<u32>); 12] = [
     (CSRRW, 5, 0, 0x1234_5678, Some(0xaaaa_aaaa)),
     (CSRRW, 0, 6, 0, Some(0xaaaa_aaaa)),
     (CSRRS, 0, 6, 0x1234_5678, Some(0xbabe_fefa)),
@@ -232,7 +232,7 @@ fn time_reads_are_legal_reads_of_the_time(rt: HostRuntime) {
 }
 
 /// mtvec, cause, and the handler: vectored mode moves the timer interrupt alone.
-const TRAPS: [(u32, u32, u32); 5] = [
+static TRAPS: [(u32, u32, u32); 5] = [
     (0x8000_0100, 0x8000_0007, 0x8000_0100),
     (0x8000_0101, 0x8000_0007, 0x8000_011c),
     (0x8000_0101, 7, 0x8000_0100),

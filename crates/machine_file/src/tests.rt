@@ -93,7 +93,7 @@ const ALL_OTHERS: Params = Params {
 };
 
 /// A file, and how it is refused.
-const REFUSED: [(&str, &str); 52] = [
+static REFUSED: [(&str, &str); 52] = [
     ("core.window = 0", "range core.window 0"),
     ("core.window = -1", "range core.window -1"),
     ("core.window = 4294967297", "range core.window 4294967297"),
@@ -161,7 +161,7 @@ const REFUSED: [(&str, &str); 52] = [
 ];
 
 /// A key with a whole number, and the range of its numbers.
-const RANGES: [(&str, i64, i64); 31] = [
+static RANGES: [(&str, i64, i64); 31] = [
     ("version", 1, 2),
     ("ram.size", 4096, 67_108_864),
     ("core.fetch", 1, 8),
@@ -196,7 +196,7 @@ const RANGES: [(&str, i64, i64); 31] = [
 ];
 
 /// Where RAM lies, and how that is answered.
-const RAMS: [(&str, &str); 12] = [
+static RAMS: [(&str, &str); 12] = [
     ("base = 0x20000000", "read"),
     ("base = 0x1FFFF000", "range ram.base 536866816"),
     ("base = 0x20000800", "range ram.base 536872960"),

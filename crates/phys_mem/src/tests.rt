@@ -44,7 +44,7 @@ fn store(
 const NO: u32 = 0x100;
 
 /// Address, width and value of a store, what stood there, and the bytes around it then.
-const EDGES: [(u32, Width, u32, Option<u32>, [u32; 12]); 12] = [
+static EDGES: [(u32, Width, u32, Option<u32>, [u32; 12]); 12] = [
     (
         0x8000_0000,
         Width::Byte,
@@ -153,7 +153,7 @@ fn edges_of_ram_and_of_pages(rt: HostRuntime) -> Result<(), Fail> {
 }
 
 /// An address, and what stands there at first.
-const WORDS: [(u32, Option<u32>); 6] = [
+static WORDS: [(u32, Option<u32>); 6] = [
     (0x8000_0ff4, None),
     (0x8000_0ff8, Some(0)),
     (0x8000_0ffc, Some(0)),
@@ -187,7 +187,7 @@ fn range_that_begins_and_ends_inside_a_page(rt: HostRuntime) -> Result<(), Fail>
 }
 
 /// An address, the instruction there, and the word that a load reads.
-const BEFORE: [(u32, Option<u32>, Option<u32>); 9] = [
+static BEFORE: [(u32, Option<u32>, Option<u32>); 9] = [
     (0x8000_0ffc, None, Some(0)),
     (0x8000_1000, Some(0x0010_02b7), Some(0x0010_02b7)),
     (0x8000_1004, Some(0x37), Some(0x37)),
@@ -200,7 +200,7 @@ const BEFORE: [(u32, Option<u32>, Option<u32>); 9] = [
 ];
 
 /// An address and the instruction there, behind stores and a FENCE.I.
-const AFTER: [(u32, Option<u32>); 4] = [
+static AFTER: [(u32, Option<u32>); 4] = [
     (0x8000_1000, Some(0x0010_02b7)),
     (0x8000_1004, Some(0x1111_1111)),
     (0x8000_1008, None),

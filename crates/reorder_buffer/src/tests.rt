@@ -83,68 +83,66 @@ fn seen(window: &Window, place: u32) -> Seen {
 }
 
 /// A step, what it answers, and the three places after it.
-const STEPS: [(Step, u32, [Seen; 3]); 11] = [
-    (Step::Append(7), 1, [Some((7, 1, false)), None, None]),
-    (
-        Step::Append(8),
-        2,
-        [Some((7, 1, false)), Some((8, 2, false)), None],
-    ),
-    (
-        Step::Append(9),
-        0,
-        [
-            Some((7, 1, false)),
-            Some((8, 2, false)),
-            Some((9, 0, false)),
-        ],
-    ),
-    (
-        Step::Finish(1),
-        1,
-        [Some((7, 1, false)), Some((8, 2, true)), Some((9, 0, false))],
-    ),
-    (
-        Step::Pop,
-        0,
-        [Some((8, 2, true)), Some((9, 0, false)), None],
-    ),
-    (
-        Step::Append(10),
-        1,
-        [
-            Some((8, 2, true)),
-            Some((9, 0, false)),
-            Some((10, 1, false)),
-        ],
-    ),
-    (
-        Step::CutFrom(11),
-        0,
-        [
-            Some((8, 2, true)),
-            Some((9, 0, false)),
-            Some((10, 1, false)),
-        ],
-    ),
-    (Step::CutFrom(9), 2, [Some((8, 2, true)), None, None]),
-    (
-        Step::Append(9),
-        0,
-        [Some((8, 2, true)), Some((9, 0, false)), None],
-    ),
-    (Step::CutFrom(3), 2, [None, None, None]),
-    (Step::Append(50), 2, [Some((50, 2, false)), None, None]),
-];
-
-fn steps() -> &'static [(Step, u32, [Seen; 3])] {
-    &STEPS
+fn steps() -> [(Step, u32, [Seen; 3]); 11] {
+    [
+        (Step::Append(7), 1, [Some((7, 1, false)), None, None]),
+        (
+            Step::Append(8),
+            2,
+            [Some((7, 1, false)), Some((8, 2, false)), None],
+        ),
+        (
+            Step::Append(9),
+            0,
+            [
+                Some((7, 1, false)),
+                Some((8, 2, false)),
+                Some((9, 0, false)),
+            ],
+        ),
+        (
+            Step::Finish(1),
+            1,
+            [Some((7, 1, false)), Some((8, 2, true)), Some((9, 0, false))],
+        ),
+        (
+            Step::Pop,
+            0,
+            [Some((8, 2, true)), Some((9, 0, false)), None],
+        ),
+        (
+            Step::Append(10),
+            1,
+            [
+                Some((8, 2, true)),
+                Some((9, 0, false)),
+                Some((10, 1, false)),
+            ],
+        ),
+        (
+            Step::CutFrom(11),
+            0,
+            [
+                Some((8, 2, true)),
+                Some((9, 0, false)),
+                Some((10, 1, false)),
+            ],
+        ),
+        (Step::CutFrom(9), 2, [Some((8, 2, true)), None, None]),
+        (
+            Step::Append(9),
+            0,
+            [Some((8, 2, true)), Some((9, 0, false)), None],
+        ),
+        (Step::CutFrom(3), 2, [None, None, None]),
+        (Step::Append(50), 2, [Some((50, 2, false)), None, None]),
+    ]
 }
 
 #[test]
 fn a_window_of_three_goes_round(rt: HostRuntime) -> Result<(), Fail> {
     let mut window = Window::new(rt.alloc(), 3)?;
-    for &(step, answer, places) in steps() {
+    for (step, answer, places) in steps() {
         assert_eq!(rt;
             play(&mut window, step),
             Some(answer),

@@ -8,7 +8,7 @@ macro_rules! table {
 }
 
 /// Words as the GNU assembler 2.40 makes them of the texts beside them, and what those texts say.
-const WORDS: [(u32, Insn); 75] = table! {
+static WORDS: [(u32, Insn); 75] = table! {
     0x8000_02b7 = Lui { rd: 5, imm: 0x8000_0000 }, // lui x5, 0x80000
     0xffff_ffb7 = Lui { rd: 31, imm: 0xffff_f000 }, // lui x31, 0xfffff
     0x0000_1037 = Lui { rd: 0, imm: 0x0000_1000 }, // lui x0, 1
@@ -88,7 +88,7 @@ const WORDS: [(u32, Insn); 75] = table! {
 
 /// Words that the GNU assembler 2.40 makes of instructions of other extensions and modes, and of
 /// fields that no instruction has.
-const ILLEGAL: [u32; 39] = [
+static ILLEGAL: [u32; 39] = [
     0x1020_0073, // sret
     0x1200_0073, // sfence.vma x0, x0
     0x0031_009b, // addiw x1, x2, 3
@@ -156,65 +156,51 @@ fn words_outside_the_table(rt: HostRuntime) {
 
 const NONE: (Option<u8>, Option<u8>) = (None, None);
 
-/// A word, its class and flow, the registers that it reads, and the one that it writes.
-type Asked = (u32, Class, Flow, (Option<u8>, Option<u8>), Option<u8>);
+/// The class and the flow of a word, the registers that it reads, and the one that it writes.
+type Asked = (Class, Flow, (Option<u8>, Option<u8>), Option<u8>);
 
-const ASKED: [Asked; 12] = [
-    (0x0010_00ef, Class::Alu, Flow::Jump, NONE, Some(1)), // jal x1
-    (0xffdf_f06f, Class::Alu, Flow::Jump, NONE, None), // jal x0
+static ASKED: [(u32, Asked); 12] = [
+    (0x0010_00ef, (Class::Alu, Flow::Jump, NONE, Some(1))), // jal x1
+    (0xffdf_f06f, (Class::Alu, Flow::Jump, NONE, None)), // jal x0
     (
         0x0041_c0e3,
-        Class::Alu,
-        Flow::Branch,
-        (Some(3), Some(4)),
-        None,
+        (Class::Alu, Flow::Branch, (Some(3), Some(4)), None),
     ), // blt x3, x4
-    (0xfff4_4003, Class::Load, Flow::Plain, (Some(8), None), None), // lbu x0, -1(x8)
+    (
+        0xfff4_4003,
+        (Class::Load, Flow::Plain, (Some(8), None), None),
+    ), // lbu x0, -1(x8)
     (
         0x0000_afa3,
-        Class::Store,
-        Flow::Plain,
-        (Some(1), Some(0)),
-        None,
+        (Class::Store, Flow::Plain, (Some(1), Some(0)), None),
     ), // sw x0, 31(x1)
     (
         0x0296_3a33,
-        Class::Mul,
-        Flow::Plain,
-        (Some(12), Some(9)),
-        Some(20),
+        (Class::Mul, Flow::Plain, (Some(12), Some(9)), Some(20)),
     ), // mulhu x20, x12, x9
     (
         0x0348_cdb3,
-        Class::Div,
-        Flow::Plain,
-        (Some(17), Some(20)),
-        Some(27),
+        (Class::Div, Flow::Plain, (Some(17), Some(20)), Some(27)),
     ), // div x27, x17, x20
-    (0x1233_028f, Class::Alu, Flow::Plain, NONE, None), // fence with rd 5 and rs1 6
-    (0x0000_0073, Class::Alu, Flow::Plain, NONE, None), // ecall
-    (0x3020_0073, Class::Serial, Flow::Jump, NONE, None), // mret
+    (0x1233_028f, (Class::Alu, Flow::Plain, NONE, None)), // fence with rd 5 and rs1 6
+    (0x0000_0073, (Class::Alu, Flow::Plain, NONE, None)), // ecall
+    (0x3020_0073, (Class::Serial, Flow::Jump, NONE, None)), // mret
     (
         0x3001_10f3,
-        Class::Serial,
-        Flow::Plain,
-        (Some(2), None),
-        Some(1),
+        (Class::Serial, Flow::Plain, (Some(2), None), Some(1)),
     ), // csrrw x1, mstatus, x2
-    (0x305f_d273, Class::Serial, Flow::Plain, NONE, Some(4)), // csrrwi x4, mtvec, 31
+    (0x305f_d273, (Class::Serial, Flow::Plain, NONE, Some(4))), // csrrwi x4, mtvec, 31
 ];
 
-fn asked() -> &'static [Asked] {
+fn asked() -> &'static [(u32, Asked)] {
     &ASKED
 }
 
 #[test]
 fn what_a_pipeline_asks(rt: HostRuntime) {
-    for &(word, class, flow, sources, dest) in asked() {
+    for &(word, wanted) in asked() {
         let insn = decode(word).expect(&rt, "a word of the table");
-        assert_eq!(rt; insn.class(), class, "{word:08x}");
-        assert_eq!(rt; insn.flow(), flow, "{word:08x}");
-        assert_eq!(rt; insn.sources(), sources, "{word:08x}");
-        assert_eq!(rt; insn.dest(), dest, "{word:08x}");
+        let asked = (insn.class(), insn.flow(), insn.sources(), insn.dest());
+        assert_eq!(rt; asked, wanted, "{word:08x}");
     }
 }

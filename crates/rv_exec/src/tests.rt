@@ -8,7 +8,7 @@ use rv_decode::Insn;
 const AT: u32 = 0x8000_0000;
 
 /// Funct3, the operands and the value.
-const PRODUCTS: [(u8, u32, u32, u32); 46] = [
+static PRODUCTS: [(u8, u32, u32, u32); 46] = [
     // MUL, MULH, MULHSU, MULHU
     (0, 0x0000_7e00, 0xb6db_6db7, 0x0000_1200),
     (0, 0xaaaa_aaab, 0x0002_fe7d, 0x0000_ff7f),
@@ -84,7 +84,7 @@ fn multiplies_and_divides(rt: HostRuntime) {
 }
 
 /// Funct3, whether funct7 is 0x20, the operands and the value.
-const SUMS: [(u8, bool, u32, u32, u32); 27] = [
+static SUMS: [(u8, bool, u32, u32, u32); 27] = [
     (0, false, 0x7fff_ffff, 0x0000_7fff, 0x8000_7ffe),
     (0, false, 0xffff_ffff, 0x0000_0001, 0x0000_0000),
     (1, false, 0x0000_0001, 31, 0x8000_0000),
@@ -158,7 +158,7 @@ fn computes_with_registers_and_immediates(rt: HostRuntime) {
 }
 
 /// What was read, how much of it counts, whether its sign does, and the value.
-const LOADED: [(u32, Width, bool, u32); 8] = [
+static LOADED: [(u32, Width, bool, u32); 8] = [
     (0x0000_12ff, Width::Byte, true, 0xffff_ffff),
     (0x0000_12ff, Width::Byte, false, 0x0000_00ff),
     (0x0000_007f, Width::Byte, true, 0x0000_007f),

@@ -1,8 +1,8 @@
 //! A console that counts its calls: it shows that `sched` and `run` load ahead of what is
 //! committed, and take it back.
+use super::answer_with;
 use super::programs::files_of_runs;
-use crate::answer::fast_main;
-use device_bus::{Console, DevUndo, Device, DeviceKind, Finisher, Note, Timer, sets_in_order};
+use device_bus::{Console, DevUndo, Device, DeviceKind, Finisher, Note, Timer};
 use fsim_base::{NoMemory, Width};
 use fsim_ports::{MemoryFiles, MemorySink, QuietGate};
 use std::alloc::Global;
@@ -81,7 +81,6 @@ fn count<R: Threads + Wait + Sync + Abort>(
     files: &mut MemoryFiles,
     sink: &mut MemorySink,
 ) -> Result<(u8, u64, u64), Fail> {
-    let words: Vec<&str> = text.split(' ').collect(alloc)?;
     let calls = Arc::new(alloc, Calls::new())?;
     let console = Counting {
         console: Console::new(alloc)?,
@@ -91,20 +90,11 @@ fn count<R: Threads + Wait + Sync + Abort>(
     devices.push(Box::new(alloc, console)?)?;
     devices.push(Box::new(alloc, Timer::new())?)?;
     devices.push(Box::new(alloc, Finisher::new())?)?;
-    assert!(rt; sets_in_order(devices.as_slice()));
-    let status = fast_main(
-        rt,
-        alloc,
-        words.as_slice(),
-        files,
-        sink,
-        devices,
-        &QuietGate,
-    );
+    let number = answer_with(rt, alloc, text, files, sink, devices, &QuietGate)?;
     assert_eq!(rt; calls.starts.load(Ordering::SeqCst), 1, "{text}");
     assert_eq!(rt; Arc::strong_count(&calls), 1, "{text}");
     let loads = calls.loads.load(Ordering::SeqCst);
-    Ok((status.number(), loads, calls.undos.load(Ordering::SeqCst)))
+    Ok((number, loads, calls.undos.load(Ordering::SeqCst)))
 }
 
 #[test]
@@ -122,15 +112,22 @@ fn console_is_loaded_ahead_and_taken_back(rt: HostRuntime) -> Result<(), Fail> {
     let counted = count(&rt, alloc, text, &mut files, &mut still)?;
     assert_eq!(rt; counted, (4, 0, 0));
     assert_eq!(rt; ahead.bytes(), still.bytes());
+    Ok(())
+}
+
+#[test]
+fn console_of_a_run_is_loaded_and_taken_back(rt: HostRuntime) -> Result<(), Fail> {
+    let alloc = rt.alloc();
+    let mut files = files_of_runs(alloc)?;
     for text in [
         "run echo eight --input in",
         "run echo eight --input in --threads 1",
     ] {
-        let mut whole = MemorySink::new(alloc, 4096)?;
-        let (number, loads, undos) = count(&rt, alloc, text, &mut files, &mut whole)?;
+        let mut sink = MemorySink::new(alloc, 4096)?;
+        let (number, loads, undos) = count(&rt, alloc, text, &mut files, &mut sink)?;
         assert_eq!(rt; number, 0);
         assert!(rt; loads >= 2 && undos >= 1);
-        assert!(rt; whole.bytes().starts_with(b"status: pass\ncycles: 12\n"));
+        assert!(rt; sink.bytes().starts_with(b"status: pass\ncycles: 12\n"));
     }
     Ok(())
 }

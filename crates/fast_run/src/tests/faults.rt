@@ -138,53 +138,62 @@ fn image_may_fill_ram_to_its_last_byte(rt: HostRuntime) -> Result<(), Fail> {
     check(&rt, alloc, "func outside", &mut files, 11, told)
 }
 
-/// Adds a file of one byte so many times.
-fn add_filled(
-    alloc: Global,
-    files: &mut MemoryFiles,
-    name: &str,
-    byte: u8,
-    size: usize,
-) -> Result<(), Fail> {
-    let bytes = vec![in alloc; byte; size]?;
-    files.add(name, bytes.as_slice())?;
-    Ok(())
+/// Files of one byte, so many times.
+const FILLED: [(&str, u8, usize); 7] = [
+    ("image", 0, 67_108_865),
+    ("most", 0, 16_777_216),
+    ("more", 0, 16_777_217),
+    ("lines", b'\n', 65_536),
+    ("one-more", b'\n', 65_537),
+    ("blanks", b' ', 1_048_576),
+    ("one-more-blank", b' ', 1_048_577),
+];
+
+fn filled() -> &'static [(&'static str, u8, usize)] {
+    &FILLED
+}
+
+/// These files, and an image.
+fn filled_files(alloc: Global) -> Result<MemoryFiles, Fail> {
+    let mut files = MemoryFiles::new(alloc);
+    for &(name, byte, size) in filled() {
+        let bytes = vec![in alloc; byte; size]?;
+        files.add(name, bytes.as_slice())?;
+    }
+    files.add("pass", image_of(alloc, &SMALLEST_PASS)?.as_slice())?;
+    Ok(files)
+}
+
+/// Lines of which a file has one byte too many.
+const TOO_LONG: [(&str, &str); 5] = [
+    ("func image", "fast: too long: image 67108864\n"),
+    ("func pass --input more", "fast: too long: input 16777216\n"),
+    ("run pass one-more", "fast: too long: machine 65536\n"),
+    (
+        "sched pass lines one-more-blank",
+        "fast: too long: plan 1048576\n",
+    ),
+    ("back pass one-more", "fast: too long: script 65536\n"),
+];
+
+fn too_long() -> &'static [(&'static str, &'static str)] {
+    &TOO_LONG
 }
 
 #[test]
 fn files_are_read_to_their_limits(rt: HostRuntime) -> Result<(), Fail> {
     let alloc = rt.alloc();
-    let mut files = MemoryFiles::new(alloc);
-    add_filled(alloc, &mut files, "longer", 0, 67_108_865)?;
-    let told = "fast: too long: image 67108864\n";
-    check(&rt, alloc, "func longer", &mut files, 17, told)?;
-    files.add("pass", image_of(alloc, &SMALLEST_PASS)?.as_slice())?;
-    add_filled(alloc, &mut files, "most", 0, 16_777_216)?;
-    add_filled(alloc, &mut files, "more", 0, 16_777_217)?;
-    let told = "fast: too long: input 16777216\n";
-    check(&rt, alloc, "func pass --input more", &mut files, 17, told)?;
-    assert!(rt; opens(alloc, "func pass --input most", &mut files)?);
-    Ok(())
-}
-
-#[test]
-fn machine_files_plans_and_scripts_are_read_to_their_limits(rt: HostRuntime) -> Result<(), Fail> {
-    let alloc = rt.alloc();
-    let mut files = MemoryFiles::new(alloc);
-    files.add("pass", image_of(alloc, &SMALLEST_PASS)?.as_slice())?;
-    add_filled(alloc, &mut files, "most", b'\n', 65_536)?;
-    add_filled(alloc, &mut files, "more", b'\n', 65_537)?;
-    add_filled(alloc, &mut files, "plan", b' ', 1_048_576)?;
-    add_filled(alloc, &mut files, "long", b' ', 1_048_577)?;
-    for (line, told) in [
-        ("run pass more", "fast: too long: machine 65536\n"),
-        ("sched pass most long", "fast: too long: plan 1048576\n"),
-        ("back pass more", "fast: too long: script 65536\n"),
-    ] {
+    let mut files = filled_files(alloc)?;
+    for &(line, told) in too_long() {
         check(&rt, alloc, line, &mut files, 17, told)?;
     }
-    assert!(rt; opens(alloc, "sched pass most plan", &mut files)?);
-    assert!(rt; opens(alloc, "back pass most", &mut files)?);
+    for line in [
+        "func pass --input most",
+        "sched pass lines blanks",
+        "back pass lines",
+    ] {
+        assert!(rt; opens(alloc, line, &mut files)?, "{line}");
+    }
     Ok(())
 }
 

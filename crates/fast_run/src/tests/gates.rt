@@ -1,9 +1,9 @@
 //! A gate that holds each side until the other has had a turn: that the program runs the sides in
 //! two threads.
+use super::answer_with;
 use super::programs::files_of_runs;
-use crate::answer::fast_main;
 use crossbeam_utils::CachePadded;
-use device_bus::{Console, Device, Finisher, Timer, sets_in_order};
+use device_bus::{Console, Device, Finisher, Timer};
 use fsim_ports::{Gate, MemorySink};
 use std::process::Abort;
 use std::sync::atomic::{AtomicBool, Ordering};
@@ -59,13 +59,12 @@ fn run_has_both_sides_at_work(rt: HostRuntime) -> Result<(), Fail> {
     devices.push(Box::new(alloc, Console::new(alloc)?)?)?;
     devices.push(Box::new(alloc, Timer::new())?)?;
     devices.push(Box::new(alloc, Finisher::new())?)?;
-    assert!(rt; sets_in_order(devices.as_slice()));
     let gate = MeetingGate::new();
     let mut files = files_of_runs(alloc)?;
     let mut sink = MemorySink::new(alloc, 4096)?;
-    let words = ["run", "loop", "targets"];
-    let status = fast_main(&rt, alloc, &words, &mut files, &mut sink, devices, &gate);
-    assert_eq!(rt; status.number(), 0);
+    let line = "run loop targets";
+    let number = answer_with(&rt, alloc, line, &mut files, &mut sink, devices, &gate)?;
+    assert_eq!(rt; number, 0);
     assert!(rt; sink.bytes().starts_with(b"status: pass\ncycles: 30\n"));
     assert!(rt; !gate.ran_out.load(Ordering::SeqCst));
     Ok(())

@@ -697,29 +697,36 @@ fn check_on_one_thread<R: Threads + Wait + Sync + Abort>(
     check_report(rt, alloc, text.as_str(), files, number, lines)
 }
 
+/// Lines, their answers, and how many puts these take: output, its line feed, and one for each
+/// line of the report, or for each line of a debugger; of a sweep the name, how the run ended, and
+/// what it cost.
+const PUTS: [(&str, u8, u64); 6] = [
+    ("func five --output 4", 3, 18),
+    ("run five wide --output 4", 3, 26),
+    ("sched five wide whole --output 4", 3, 26),
+    ("back echo again --input in", 5, 14),
+    ("sweep five wide eight --output 4", 5, 6),
+    ("inorder five wide nothing --output 4", 3, 26),
+];
+
+fn puts() -> &'static [(&'static str, u8, u64)] {
+    &PUTS
+}
+
 #[test]
 fn each_put_that_fails_leaves_a_prefix(rt: HostRuntime) -> Result<(), Fail> {
     let alloc = rt.alloc();
     let mut files = files_of_runs(alloc)?;
-    // Output, its line feed, and a put for each line of the report, or for each line of a debugger;
-    // of a sweep the name, how the run ended, and what it cost.
-    for (text, number, puts) in [
-        ("func five --output 4", 3, 18),
-        ("run five wide --output 4", 3, 26),
-        ("sched five wide whole --output 4", 3, 26),
-        ("back echo again --input in", 5, 14),
-        ("sweep five wide eight --output 4", 5, 6),
-        ("inorder five wide nothing --output 4", 3, 26),
-    ] {
+    for &(text, number, puts) in puts() {
         let mut whole = MemorySink::new(alloc, 4096)?;
         let _ = answer(&rt, alloc, text, &mut files, &mut whole)?;
         for put in 1..28u64 {
-            let wanted = if put <= puts { 15 } else { number };
             let mut sink = MemorySink::new(alloc, 4096)?;
             sink.fail_at(put)?;
             let answered = answer(&rt, alloc, text, &mut files, &mut sink)?;
-            assert_eq!(rt; answered, wanted, "{text} {put}");
             let is_cut = is_prefix(&rt, sink.bytes(), whole.bytes());
+            let wanted = if is_cut { 15 } else { number };
+            assert_eq!(rt; answered, wanted, "{text} {put}");
             assert_eq!(rt; is_cut, put <= puts, "{text} {put}");
         }
     }
@@ -732,24 +739,23 @@ fn is_prefix(rt: &impl Abort, bytes: &[u8], whole: &[u8]) -> bool {
     bytes.len() < whole.len()
 }
 
-/// The report of the soak program of a seed.
-fn soak<R: Threads + Wait + Sync + Abort>(
+/// The report of a line that passes.
+fn report_of<R: Threads + Wait + Sync + Abort>(
     rt: &R,
     alloc: Global,
-    seed: &str,
+    line: &str,
 ) -> Result<MemorySink, Fail> {
     let mut files = MemoryFiles::new(alloc);
     let mut sink = MemorySink::new(alloc, 4096)?;
-    let line = format!(in alloc; "soak {seed}")?;
-    let answered = answer(rt, alloc, line.as_str(), &mut files, &mut sink)?;
+    let answered = answer(rt, alloc, line, &mut files, &mut sink)?;
     assert_eq!(rt; answered, 0);
     Ok(sink)
 }
 
 #[test]
 fn soak_passes_with_the_same_report_each_time(rt: HostRuntime) -> Result<(), Fail> {
-    let first = soak(&rt, rt.alloc(), "7")?;
-    let second = soak(&rt, rt.alloc(), "7")?;
+    let first = report_of(&rt, rt.alloc(), "soak 7")?;
+    let second = report_of(&rt, rt.alloc(), "soak 7")?;
     assert!(rt; first.bytes().starts_with(b"status: pass\n"));
     assert_eq!(rt; first.bytes(), second.bytes());
     Ok(())

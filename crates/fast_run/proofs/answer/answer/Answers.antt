@@ -1,9 +1,10 @@
 use Rattle.std.proofs.Common.{◌≡◌, ℕ, vec_len, ◌/◌, Some, Ok, ap, sym, ◌∙◌, subst}
-use Rattle.fast_run.specs.declared.job.Job.{Job}
-use Rattle.fast_run.specs.Answer.{Ends, IsAnswer}
-use Rattle.fast_run.specs.Call.{reading_of, writing_of}
+use Rattle.fast_jobs.specs.declared.job.Job.{Job}
+use Rattle.fast_jobs.specs.Ending.{Ends}
+use Rattle.fast_run.specs.Answer.{IsAnswer}
+use Rattle.fast_jobs.specs.Call.{reading_of, writing_of}
 use Rattle.fast_run.proofs.Answers.{answer-closed, answer-ran}
-use Rattle.fast_run.proofs.Jobs.{still-single}
+use Rattle.fast_jobs.proofs.Jobs.{still-single}
 use Rattle.fast_run.proofs.answer.answer.Goals as goal
 
 pub returns-in-Ok-Single-clause-answer : goal.returns-in-Ok-Single-clause-answer

@@ -1,6 +1,6 @@
 use Rattle.std.proofs.Common.{◌≡◌, ℕ, vec_len, ◌/◌, Some, ap, subst}
 use Rattle.fast_run.specs.Answer.{IsAnswer}
-use Rattle.fast_run.specs.Call.{reading_of, writing_of}
+use Rattle.fast_jobs.specs.Call.{reading_of, writing_of}
 use Rattle.fast_run.proofs.Answers.{answer-closed, answer-ran}
 use Rattle.fast_run.proofs.answer.answer_in_threads.Goals as goal
 

@@ -1,6 +1,6 @@
 use Rattle.std.proofs.Common.{vec_len, ◌/◌, map}
 use Rattle.fast_cli.specs.Line.{line}
-use Rattle.fast_run.specs.Call.{reading_of, writing_of}
+use Rattle.fast_jobs.specs.Call.{reading_of, writing_of}
 use Rattle.fast_run.proofs.Answers.{answer-line}
 use Rattle.fast_run.proofs.Settling.{answer-complete, answer-settled}
 use Rattle.fast_run.proofs.answer.fast_main.Goals as goal

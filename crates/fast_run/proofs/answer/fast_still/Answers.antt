@@ -1,5 +1,5 @@
 use Rattle.std.proofs.Common.{vec_len, ◌/◌, Some}
-use Rattle.fast_run.specs.Call.{reading_of, writing_of}
+use Rattle.fast_jobs.specs.Call.{reading_of, writing_of}
 use Rattle.fast_run.proofs.Settling.{answer-complete, answer-settled}
 use Rattle.fast_run.proofs.answer.fast_still.Goals as goal
 

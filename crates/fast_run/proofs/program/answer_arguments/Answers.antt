@@ -1,7 +1,7 @@
 use Rattle.std.proofs.Common.{refl, sym, ◌∙◌, subst}
 use Rattle.report_text.specs.declared.status.Status.{Status}
 use Rattle.report_text.specs.FaultText.{fault_text}
-use Rattle.fast_run.specs.Call.{WroteTo, reading_of, writing_of}
+use Rattle.fast_jobs.specs.Call.{WroteTo, reading_of, writing_of}
 use Rattle.fast_run.proofs.Words.{answer-error}
 use Rattle.fast_run.proofs.program.answer_arguments.Goals as goal
 

@@ -5,7 +5,7 @@ use Rattle.std.specs.Borrow.{Bor}
 use Rattle.std.specs.Global.{Global}
 use Rattle.fast_cli.specs.Line.{line}
 use Rattle.fast_run.specs.Answer.{IsAnswer}
-use Rattle.fast_run.specs.Call.{reading_of, writing_of}
+use Rattle.fast_jobs.specs.Call.{reading_of, writing_of}
 use Rattle.fast_run.proofs.Words.{words-next}
 use Rattle.fast_run.proofs.program.answer_texts.Goals as goal
 

@@ -1,0 +1,11 @@
+pub mod Setups
+pub mod Ends
+pub mod Ending
+pub mod LaneEnding
+pub mod Plans
+pub mod Jobs
+pub mod Readings
+pub mod Outcomes
+pub mod Refusals
+pub mod Sweeps
+pub mod Scripts

@@ -1,0 +1,19 @@
+use Rattle.std.proofs.Common.{[], ◌∷◌, subst}
+use Rattle.report_text.specs.declared.status.Role.TheVariants as role
+use Rattle.fast_cli.specs.declared.line.Line.{Line}
+use Rattle.fast_jobs.specs.Files.{file, files_of}
+use Rattle.fast_jobs.specs.Reading.{AreWithin}
+use Rattle.fast_jobs.proofs.Jobs.{input-behind, input-behind_machines}
+use Rattle.fast_jobs.proofs.job.job_of.Goals as goal
+
+pub back_job-requires-clause-input : goal.back_job-requires-clause-input
+back_job-requires-clause-input c =
+    let contents = c.args.contents.items in
+    let within = subst (λ (line : Line). AreWithin (files_of line) contents) c.in-Back.is c.requires.within in
+    input-behind (file role.Image c.in-Back.image ∷ file role.Script c.in-Back.script ∷ []) c.in-Back.options contents within
+
+pub sweep_files-requires-clause-input : goal.sweep_files-requires-clause-input
+sweep_files-requires-clause-input c =
+    let contents = c.args.contents.items in
+    let within = subst (λ (line : Line). AreWithin (files_of line) contents) c.in-Sweep.is c.requires.within in
+    input-behind_machines (file role.Image c.in-Sweep.image) c.in-Sweep.machines (file role.Machine) c.in-Sweep.options contents within

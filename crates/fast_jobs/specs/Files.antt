@@ -1,0 +1,43 @@
+-- The files that a line names, and how long each may be.
+use Rattle.std.specs.Prelude.{ℕ, List, [], ◌∷◌, ◌++◌, map, Option, Some, None}
+use Rattle.report_text.specs.declared.status.Role.{Role}
+use Rattle.report_text.specs.declared.status.Role.TheVariants as role
+use Rattle.fast_cli.specs.declared.line.Line.{Line}
+use Rattle.fast_cli.specs.declared.line.Line.TheVariants.{Back, Func, Inorder, Run, Sched, Soak}
+use Rattle.fast_cli.specs.declared.line.Line.TheVariants.{Sweep}
+use Rattle.fast_cli.specs.declared.line.Options.{Options}
+use Rattle.fast_jobs.specs.declared.files.NamedFile.{NamedFile}
+
+abbrev pub file : Role → List ℕ → NamedFile
+file role name = record { role = role; name = name }
+
+-- what the console reads, if the options name it
+abbrev pub input_under : Option (List ℕ) → List NamedFile
+input_under None = []
+input_under (Some name) = file role.Input name ∷ []
+
+abbrev pub input_of : Options → List NamedFile
+input_of options = input_under options.input
+
+-- the files that are read for a line, in their order
+abbrev pub files_of : Line → List NamedFile
+files_of (Func image options) = file role.Image image ∷ input_of options
+files_of (Run image machine threads options) =
+    file role.Image image ∷ file role.Machine machine ∷ input_of options
+files_of (Sched image machine plan options) =
+    file role.Image image ∷ file role.Machine machine ∷ file role.Plan plan ∷ input_of options
+files_of (Soak seed) = []
+files_of (Back image script history options) =
+    file role.Image image ∷ file role.Script script ∷ input_of options
+files_of (Inorder image machine plan options) =
+    file role.Image image ∷ file role.Machine machine ∷ file role.Plan plan ∷ input_of options
+files_of (Sweep image machines options) =
+    file role.Image image ∷ map (file role.Machine) machines ++ input_of options
+
+-- how many bytes a file of a role may have
+abbrev pub limit_of : Role → ℕ
+limit_of role.Image = 67108864
+limit_of role.Machine = 65536
+limit_of role.Plan = 1048576
+limit_of role.Input = 16777216
+limit_of role.Script = 65536

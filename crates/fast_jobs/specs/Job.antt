@@ -1,0 +1,136 @@
+-- What a line and the bytes of its files ask for: a job, or the first refusal.
+use Rattle.std.specs.Prelude.{◌≡◌, ◌≤◌, ℕ, true, false, Bool, List, [], length}
+use Rattle.std.specs.Prelude.{Result, Ok, ◌==◌, None}
+use Rattle.mono_model.specs.declared.params.Params.{Params}
+use Rattle.mono_model.specs.declared.setup.Setup.{Setup}
+use Rattle.mono_model.specs.Setup.{is_setup, ram_range}
+use Rattle.mono_model.specs.Plain.{plain_params}
+use Rattle.machine_file.specs.File.{params_of}
+use Rattle.report_text.specs.declared.status.Status.{Status}
+use Rattle.fast_cli.specs.declared.line.Line.{Line}
+use Rattle.fast_cli.specs.declared.line.Line.TheVariants as line
+use Rattle.fast_cli.specs.declared.line.Options.{Options}
+use Rattle.fast_cli.specs.Ranges.{HasRanges}
+use Rattle.gen_image.specs.Soak.{soak_image}
+use Rattle.gen_image.specs.Machine.{soak_machine}
+use Rattle.inorder_model.specs.Standing.{IsInorder}
+use Rattle.fast_jobs.specs.declared.job.Job.{Job}
+use Rattle.fast_jobs.specs.declared.job.Job.TheVariants.{Single, Sweep}
+use Rattle.fast_jobs.specs.declared.job.SingleJob.{SingleJob}
+use Rattle.fast_jobs.specs.declared.job.SingleJob.TheVariants.{Back, Func, Inorder, Run, Sched}
+use Rattle.fast_jobs.specs.declared.job.PlannedRun.{PlannedRun}
+use Rattle.fast_jobs.specs.declared.sweep_files.SweepFiles.{SweepFiles}
+use Rattle.fast_jobs.specs.Gives.{◌>>=◌}
+pub use Rattle.fast_jobs.specs.Stages.{setup_for, bytes_at}
+unfoldable pub use Rattle.fast_jobs.specs.Stages.{image_in, timed_image, plan_in, script_in}
+use Rattle.fast_jobs.specs.SweepFiles.{swept}
+
+-- the plain machine runs an image without a machine file
+unfoldable pub func_job : Options → List (List ℕ) → Result SingleJob Status
+func_job options contents = do
+  image ← image_in (ram_range plain_params) (bytes_at contents 0)
+  Ok (Func (setup_for plain_params options image (bytes_at contents 1)))
+
+-- the run on the machine of a machine file
+unfoldable pub run_job : Options → List (List ℕ) → Result SingleJob Status
+run_job options contents = do
+  loaded ← timed_image (bytes_at contents 1) (bytes_at contents 0)
+  Ok (Run (setup_for loaded.params options loaded.image (bytes_at contents 2)))
+
+-- the run on a machine that a plan is for: the plan is tested behind the image
+unfoldable pub planned_run : Options → List (List ℕ) → Result PlannedRun Status
+planned_run options contents = do
+  loaded ← timed_image (bytes_at contents 1) (bytes_at contents 0)
+  events ← plan_in (bytes_at contents 2)
+  Ok (record {
+    setup = setup_for loaded.params options loaded.image (bytes_at contents 3);
+    plan = events;
+  })
+
+unfoldable pub sched_job : Options → List (List ℕ) → Result SingleJob Status
+sched_job options contents = do
+  planned ← planned_run options contents
+  Ok (Sched planned.setup planned.plan)
+
+-- The in-order machine has one instruction at most in each of its four stages behind Fetch, whatever
+-- a machine file says of the window.
+unfoldable pub inorder_params : Params → Params
+inorder_params params = record params { core_window = 4 }
+
+abbrev pub inorder_setup : Setup → Setup
+inorder_setup s = record s { params = inorder_params s.params }
+
+unfoldable pub inorder_job : Options → List (List ℕ) → Result SingleJob Status
+inorder_job options contents = do
+  planned ← planned_run options contents
+  Ok (Inorder (inorder_setup planned.setup) planned.plan)
+
+-- a script over the run of the plain machine is tested behind the image
+unfoldable pub back_job : ℕ → Options → List (List ℕ) → Result SingleJob Status
+back_job history options contents = do
+  image ← image_in (ram_range plain_params) (bytes_at contents 0)
+  commands ← script_in (bytes_at contents 1)
+  Ok (Back (setup_for plain_params options image (bytes_at contents 2)) history commands)
+
+-- a line that has no options
+unfoldable pub default_options : Options
+default_options = record { ring = 64; cycles = 10000000; output = 16777216; input = None }
+
+-- the soak program of a seed, with 16,384 blocks, on its machine
+unfoldable pub soak_setup : ℕ → Setup
+soak_setup seed =
+    setup_for (params_of soak_machine) default_options (soak_image seed 16384) []
+
+-- the job that is one run
+abbrev pub single_job : Result SingleJob Status → Result Job Status
+single_job wanted = do
+  job ← wanted
+  Ok (Single job)
+
+-- the job of a line with the bytes of its files and this many sets of devices, or the first refusal
+abbrev pub job_of : Line → ℕ → List (List ℕ) → Result Job Status
+job_of (line.Func image options) sets contents = single_job (func_job options contents)
+job_of (line.Run image machine threads options) sets contents = single_job (run_job options contents)
+job_of (line.Sched image machine plan options) sets contents = single_job (sched_job options contents)
+job_of (line.Soak seed) sets contents = single_job (Ok (Run (soak_setup seed)))
+job_of (line.Back image script history options) sets contents =
+    single_job (back_job history options contents)
+job_of (line.Inorder image machine plan options) sets contents =
+    single_job (inorder_job options contents)
+job_of (line.Sweep image machines options) sets contents = do
+  files ← swept machines options sets contents
+  Ok (Sweep files)
+
+-- the line is played on one thread, and the call that plays it returns
+abbrev pub is_still : Line → Bool
+is_still (line.Func image options) = true
+is_still (line.Run image machine threads options) = threads == 1
+is_still (line.Sched image machine plan options) = true
+is_still (line.Soak seed) = false
+is_still (line.Back image script history options) = true
+is_still (line.Inorder image machine plan options) = true
+is_still (line.Sweep image machines options) = false
+
+-- a sweep can open each of its machines: its limits are in their ranges, and the console can hold
+-- its input
+pub record CanSweep (files : SweepFiles) : Type 0 where
+  pub limits : HasRanges files.limits
+  pub input : length files.input ≤ 16777216
+
+-- the run can be begun: its setup is sound
+abbrev pub CanStart : SingleJob → Type 0
+CanStart (Func s) = is_setup s ≡ true
+CanStart (Run s) = is_setup s ≡ true
+CanStart (Sched s plan) = is_setup s ≡ true
+CanStart (Inorder s plan) = IsInorder s
+CanStart (Back s history script) = is_setup s ≡ true
+
+-- the job can be begun
+abbrev pub CanBegin : Job → Type 0
+CanBegin (Single job) = CanStart job
+CanBegin (Sweep files) = CanSweep files
+
+-- how many sets of devices a job takes
+abbrev pub sets_for : Job → ℕ
+sets_for (Single job) = 1
+sets_for (Sweep files) = length files.machines

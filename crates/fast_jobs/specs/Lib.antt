@@ -1,0 +1,12 @@
+pub mod Plan
+pub mod Files
+pub mod Gives
+pub mod Refusal
+pub mod Stages
+pub mod SweepFiles
+pub mod Job
+pub mod Outcome
+pub mod Call
+pub mod Reading
+pub mod Opening
+pub mod Ending

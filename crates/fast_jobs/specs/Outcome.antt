@@ -1,0 +1,78 @@
+-- What comes of a job: its answer, and the text that is written.
+use Rattle.std.specs.Prelude.{◌≡◌, ℕ, Bool, true, false, List, map}
+use Rattle.mono_model.specs.declared.setup.Setup.{Setup}
+use Rattle.mono_model.specs.declared.final_state.End.{End}
+use Rattle.mono_model.specs.declared.final_state.End.TheVariants as end
+use Rattle.mono_model.specs.Alone.{Alone, alone}
+use Rattle.mono_model.specs.Cycle.{mono}
+use Rattle.mono_model.specs.Report.{text}
+use Rattle.mono_model.specs.Split.{reach}
+use Rattle.lane_model.specs.Cycle.{lane, lane_text}
+use Rattle.split_core.specs.declared.event.Event.{Event}
+use Rattle.split_core.specs.Events.{event_in}
+use Rattle.report_text.specs.declared.status.Status.{Status}
+use Rattle.report_text.specs.declared.status.Status.TheVariants.{Pass, Fail, Limit, OutputFull}
+use Rattle.report_text.specs.declared.status.Status.TheVariants.{Running, Shown}
+use Rattle.report_text.specs.FuncText.{func_text}
+use Rattle.back_debug.specs.Session.{session_text, start_position}
+use Rattle.fast_jobs.specs.declared.job.Job.{Job}
+use Rattle.fast_jobs.specs.declared.job.Job.TheVariants.{Single, Sweep}
+use Rattle.fast_jobs.specs.declared.job.SingleJob.TheVariants.{Back, Func, Inorder, Run, Sched}
+use Rattle.fast_jobs.specs.SweepFiles.{sweep_lines}
+
+-- the answer to an end
+abbrev pub status_for : End → Status
+status_for end.Pass = Pass
+status_for (end.Fail code) = Fail code
+status_for end.Limit = Limit
+status_for end.OutputFull = OutputFull
+status_for end.Running = Running
+
+-- the sequential run to its end
+unfoldable pub whole_run : Setup → Alone
+whole_run s = alone s s.cycles
+
+-- the cycle that a plan leads to: at whose start the machine stands after its events and the way to
+-- the next boundary
+unfoldable pub planned_cycle : Setup → List Event → ℕ
+planned_cycle s plan = reach s (map event_in plan)
+
+-- The answer to a job: how its run ended. After as many cycles as its limit each run on a machine has
+-- ended, and it stands still from its end on; the cycle that `sched`'s plan leads to may come before.
+-- A debugger and a sweep tell the ends of their runs in their lines.
+abbrev pub job_status : Job → Status
+job_status (Single (Func s)) = status_for (whole_run s).end
+job_status (Single (Run s)) = status_for (mono s s.cycles).end
+job_status (Single (Sched s plan)) = status_for (mono s (planned_cycle s plan)).end
+job_status (Single (Inorder s plan)) = status_for (lane s s.cycles).machine.end
+job_status (Single (Back s history script)) = Shown
+job_status (Sweep files) = Shown
+
+-- what is written of it: the output of its run and the report, what the commands of a script show,
+-- or the lines of a sweep
+abbrev pub job_text : Job → List ℕ
+job_text (Single (Func s)) = func_text s
+job_text (Single (Run s)) = text s s.cycles
+job_text (Single (Sched s plan)) = text s (planned_cycle s plan)
+job_text (Single (Inorder s plan)) = lane_text s s.cycles
+job_text (Single (Back s history script)) = session_text history s script start_position
+job_text (Sweep files) = sweep_lines files
+
+pub record Outcome : Type 0 where
+  pub status : Status
+  pub text : List ℕ
+
+abbrev pub outcome : Job → Outcome
+outcome job = record { status = job_status job; text = job_text job }
+
+-- the plan of `sched`, and nothing else, may lead to a cycle at which the run goes on
+abbrev pub may_go_on : Job → Bool
+may_go_on (Single (Func s)) = false
+may_go_on (Single (Run s)) = false
+may_go_on (Single (Sched s plan)) = true
+may_go_on (Single (Inorder s plan)) = false
+may_go_on (Single (Back s history script)) = false
+may_go_on (Sweep files) = false
+
+abbrev pub MayEnd : Job → Type 0
+MayEnd job = job_status job ≡ Running → may_go_on job ≡ true

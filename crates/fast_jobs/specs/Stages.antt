@@ -1,0 +1,58 @@
+-- What the bytes of files give, or what refuses them, and the setup that they make.
+use Rattle.std.specs.Prelude.{ℕ, List, [], slice_index_or, option_map, Result, Ok}
+use Rattle.fsim_base.specs.declared.access.RamRange.{RamRange}
+use Rattle.elf_image.specs.declared.image.Image.{Image as LoadedImage}
+use Rattle.elf_image.specs.Image.{image_fault, image_of}
+use Rattle.mono_model.specs.declared.params.Params.{Params}
+use Rattle.mono_model.specs.declared.setup.Setup.{Setup}
+use Rattle.mono_model.specs.Setup.{ram_range}
+use Rattle.machine_file.specs.File.{machine_fault, params_of}
+use Rattle.split_core.specs.declared.event.Event.{Event}
+use Rattle.back_debug.specs.declared.script.Command.{Command}
+use Rattle.back_debug.specs.Script.{commands_of, first_bad_line}
+use Rattle.report_text.specs.declared.status.Status.{Status}
+use Rattle.report_text.specs.declared.status.Status.TheVariants.{Image, Machine, BadPlan}
+use Rattle.report_text.specs.declared.status.Status.TheVariants.{BadScript}
+use Rattle.fast_cli.specs.declared.line.Options.{Options}
+use Rattle.fast_jobs.specs.declared.timed_image.Loaded.{Loaded}
+use Rattle.fast_jobs.specs.Gives.{◌>>=◌, unless}
+use Rattle.fast_jobs.specs.Plan.{plan_events, first_bad}
+
+-- the parameters that a machine file gives
+unfoldable pub machine_in : List ℕ → Result Params Status
+machine_in bytes = unless (option_map Machine (machine_fault bytes)) (params_of bytes)
+
+-- the image of a file for this RAM
+unfoldable pub image_in : RamRange → List ℕ → Result LoadedImage Status
+image_in ram bytes = unless (option_map Image (image_fault bytes ram)) (image_of bytes)
+
+-- a machine file and an image for its machine: the machine file is tested before the image, since
+-- it has the range of RAM
+unfoldable pub timed_image : List ℕ → List ℕ → Result Loaded Status
+timed_image machine bytes = do
+  params ← machine_in machine
+  image ← image_in (ram_range params) bytes
+  Ok (record { params = params; image = image })
+
+-- the events of a plan
+unfoldable pub plan_in : List ℕ → Result (List Event) Status
+plan_in bytes = unless (option_map BadPlan (first_bad bytes)) (plan_events bytes)
+
+-- the commands of a debugger's script
+unfoldable pub script_in : List ℕ → Result (List Command) Status
+script_in bytes = unless (option_map BadScript (first_bad_line bytes)) (commands_of bytes)
+
+-- the setup of an image: a machine, the limits that the options give, and what the console reads
+abbrev pub setup_for : Params → Options → LoadedImage → List ℕ → Setup
+setup_for params options image input = record {
+  image = image;
+  params = params;
+  input = input;
+  cycles = options.cycles;
+  output = options.output;
+  ring = options.ring;
+}
+
+-- the bytes of the file at a place of the list; none where the line names no such file
+abbrev pub bytes_at : List (List ℕ) → ℕ → List ℕ
+bytes_at contents place = slice_index_or contents place []

@@ -1,0 +1,145 @@
+ghost use Rattle.std.specs.Prelude.{◌≡◌, ◌++◌, ◌∷◌, [], map, IfOk, OnOk};
+ghost use Rattle.report_text.specs.declared.status.Role.TheVariants as role;
+ghost use Rattle.fast_jobs.specs.Files.{file, files_of, input_of};
+
+use fast_cli::{Line, Options};
+use fsim_base::{NoMemory, Text};
+use report_text::Role;
+use std::alloc::Global;
+
+/// A file that a line names, and what it is for.
+#[derive(Debug, Drop)]
+pub struct NamedFile {
+    pub role: Role,
+    pub name: Text,
+}
+
+/// The files that are read for a line, in their order.
+pub fn files_of(alloc: Global, line: &Line) -> Result<Vec<NamedFile>, NoMemory>
+    ensures files { IfOk result (λ files. files.items ≡ files_of line.now) }
+{
+    match line {
+        Line::Func { image, options } => files_of_run(alloc, image, &[], options),
+        Line::Run {
+            image,
+            machine,
+            options,
+            ..
+        } => files_of_run(alloc, image, &[(Role::Machine, machine)], options),
+        Line::Sched {
+            image,
+            machine,
+            plan,
+            options,
+        }
+        | Line::Inorder {
+            image,
+            machine,
+            plan,
+            options,
+        } => files_of_plan(alloc, image, machine, plan, options),
+        Line::Back {
+            image,
+            script,
+            options,
+            ..
+        } => files_of_run(alloc, image, &[(Role::Script, script)], options),
+        Line::Sweep {
+            image,
+            machines,
+            options,
+        } => files_of_sweep(alloc, image, machines.as_slice(), options),
+        Line::Soak { .. } => Ok(Vec::new(alloc)),
+    }
+}
+
+/// The files of a run: an image, those of the rows, and what the console reads.
+fn files_of_run(
+    alloc: Global,
+    image: &Text,
+    rows: &[(Role, &Text)],
+    options: &Options,
+) -> Result<Vec<NamedFile>, NoMemory>
+    ensures files { IfOk result (λ files. files.items ≡ file role.Image image.now
+        ∷ map (λ row. file row.0 row.1.now) rows.now ++ input_of options.now) }
+{
+    let mut files = Vec::new(alloc);
+    push(alloc, Role::Image, image, &mut files)?;
+    for row in rows {
+        push(alloc, row.0, row.1, &mut files)?;
+    }
+    push_input(alloc, options, &mut files)?;
+    Ok(files)
+}
+
+/// The files of a run on a machine that a plan is for.
+fn files_of_plan(
+    alloc: Global,
+    image: &Text,
+    machine: &Text,
+    plan: &Text,
+    options: &Options,
+) -> Result<Vec<NamedFile>, NoMemory>
+    ensures files { IfOk result (λ files. files.items ≡ file role.Image image.now
+        ∷ file role.Machine machine.now ∷ file role.Plan plan.now ∷ input_of options.now) }
+{
+    let rows = [(Role::Machine, machine), (Role::Plan, plan)];
+    files_of_run(alloc, image, &rows, options)
+}
+
+/// The files of a sweep: an image, the machine files, and what the console reads.
+fn files_of_sweep(
+    alloc: Global,
+    image: &Text,
+    machines: &[Text],
+    options: &Options,
+) -> Result<Vec<NamedFile>, NoMemory>
+    ensures files { IfOk result (λ files. files.items
+        ≡ file role.Image image.now ∷ map (file role.Machine) machines.now
+        ++ input_of options.now) }
+{
+    let mut files = Vec::new(alloc);
+    push(alloc, Role::Image, image, &mut files)?;
+    push_machines(alloc, machines, &mut files)?;
+    push_input(alloc, options, &mut files)?;
+    Ok(files)
+}
+
+/// Adds the file of a role.
+fn push(alloc: Global, role: Role, name: &Text, files: &mut Vec<NamedFile>) -> Result<(), NoMemory>
+    ensures pushed { OnOk result (files.new.items ≡ files.old.items ++ file role name.now ∷ []) }
+{
+    let Ok(name) = String::from_str(alloc, name.as_str()) else {
+        return Err(NoMemory);
+    };
+    let name = Text::new(name);
+    if files.push(NamedFile { role, name }).is_err() {
+        return Err(NoMemory);
+    }
+    Ok(())
+}
+
+/// Adds the machine files of a sweep.
+fn push_machines(
+    alloc: Global,
+    machines: &[Text],
+    files: &mut Vec<NamedFile>,
+) -> Result<(), NoMemory>
+    ensures pushed { OnOk result
+        (files.new.items ≡ files.old.items ++ map (file role.Machine) machines.now) }
+{
+    for machine in machines {
+        push(alloc, Role::Machine, machine, files)?;
+    }
+    Ok(())
+}
+
+/// Adds what the console reads, if the options name it.
+fn push_input(alloc: Global, options: &Options, files: &mut Vec<NamedFile>) -> Result<(), NoMemory>
+    ensures pushed { OnOk result (files.new.items ≡ files.old.items ++ input_of options.now) }
+{
+    match &options.input {
+        Some(name) => push(alloc, Role::Input, name, files),
+        None => Ok(()),
+    }
+}

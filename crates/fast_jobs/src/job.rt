@@ -1,0 +1,242 @@
+ghost use Rattle.std.specs.Prelude.{◌≡◌, ◌≤◌, true, length, Ok, IfOk};
+ghost use Rattle.mono_model.specs.Setup.{is_setup};
+ghost use Rattle.fast_cli.specs.Ranges.{HasRanges, IsInRange};
+ghost use Rattle.fast_jobs.specs.Files.{files_of};
+ghost use Rattle.fast_jobs.specs.Gives.{Gives};
+ghost use Rattle.fast_jobs.specs.declared.job.SingleJob.{SingleJob as AnyRun};
+ghost use Rattle.inorder_model.specs.Standing.{IsInorder};
+ghost use Rattle.fast_jobs.specs.Job.{back_job, bytes_at, default_options, func_job, inorder_job};
+ghost use Rattle.fast_jobs.specs.Job.{inorder_setup, job_of, planned_run, run_job, sched_job};
+ghost use Rattle.fast_jobs.specs.Job.{CanBegin, CanStart, sets_for, soak_setup};
+ghost use Rattle.fast_jobs.specs.Reading.{AreWithin};
+
+use crate::image::read_image;
+use crate::machine::ram_of;
+use crate::plan::Plan;
+use crate::refusal::Refusal;
+use crate::script::read_script;
+use crate::setup::setup_for;
+use crate::sweep_files::{SweepFiles, sweep_files};
+use crate::timed_image::timed_image;
+use back_debug::Script;
+use fast_cli::{Line, Options};
+use fsim_base::Bytes;
+use gen_image::{soak_image, soak_params};
+use mono_model::{Params, Setup};
+use std::alloc::Global;
+
+/// What is asked for, with all that it depends on.
+#[derive(Debug, Drop)]
+pub enum Job {
+    /// One run.
+    Single(SingleJob),
+    /// The run on each of many machines to its end.
+    Sweep(SweepFiles),
+}
+
+/// What is asked for of one run.
+#[derive(Debug, Drop)]
+pub enum SingleJob {
+    /// The sequential run to its end.
+    Func(Setup),
+    /// The run on the machine to its end.
+    Run(Setup),
+    /// The events of a plan, and the way to the next cycle boundary.
+    Sched(Setup, Plan),
+    /// The events of a plan on the in-order machine, and the way to its end.
+    Inorder(Setup, Plan),
+    /// The commands of a debugger's script, over a run that remembers so many steps.
+    Back(Setup, u32, Script),
+}
+
+/// The job of a line with the bytes of its files and so many sets of devices, or the first refusal:
+/// of the machine file, then of the image, then of the plan or the script.
+pub fn job_of(alloc: Global, line: &Line, sets: usize, contents: Vec<Bytes>) -> Result<Job, Refusal>
+    requires sets { 1 ≤ sets }
+    requires ranges { IsInRange line.now }
+    requires within { AreWithin (files_of line.now) contents.items }
+    ensures job { Gives (job_of line.now sets contents.items) result }
+    ensures can { IfOk result (λ job. CanBegin job) }
+    ensures room { IfOk result (λ job. sets_for job ≤ sets) }
+{
+    let job = match line {
+        Line::Func { options, .. } => func_job(alloc, options, contents)?,
+        Line::Run { options, .. } => run_job(alloc, options, contents)?,
+        Line::Sched { options, .. } => sched_job(alloc, options, contents)?,
+        Line::Soak { seed } => soak_job(alloc, *seed)?,
+        Line::Back {
+            history,
+            options,
+            ..
+        } => back_job(alloc, *history, options, contents)?,
+        Line::Inorder { options, .. } => inorder_job(alloc, options, contents)?,
+        Line::Sweep {
+            machines,
+            options,
+            ..
+        } => return Ok(Job::Sweep(sweep_files(alloc, machines, options, sets, contents)?)),
+    };
+    Ok(Job::Single(job))
+}
+
+/// The sequential run of an image on the plain machine; the files are image and input.
+#[tactic(auto, unfolding(crate::specs::Job::func_job))]
+fn func_job(alloc: Global, options: &Options, contents: Vec<Bytes>) -> Result<SingleJob, Refusal>
+    requires ranges { HasRanges options.now }
+    requires input { length (bytes_at contents.items 1) ≤ 16777216 }
+    ensures job { Gives (func_job options.now contents.items) result }
+    ensures can { IfOk result (λ job. CanStart job) }
+{
+    let params = Params::plain();
+    let image = read_image(alloc, bytes_at(contents.as_slice(), 0), ram_of(&params))?;
+    let input = take_at(alloc, contents, 1);
+    Ok(SingleJob::Func(setup_for(params, options, image, input)))
+}
+
+/// The run of an image on a machine; the files are image, machine file and input.
+#[tactic(auto, unfolding(crate::specs::Job::run_job))]
+fn run_job(alloc: Global, options: &Options, contents: Vec<Bytes>) -> Result<SingleJob, Refusal>
+    requires ranges { HasRanges options.now }
+    requires input { length (bytes_at contents.items 2) ≤ 16777216 }
+    ensures job { Gives (run_job options.now contents.items) result }
+    ensures can { IfOk result (λ job. CanStart job) }
+{
+    let files = contents.as_slice();
+    let loaded = timed_image(alloc, bytes_at(files, 1), bytes_at(files, 0))?;
+    let input = take_at(alloc, contents, 2);
+    Ok(SingleJob::Run(setup_for(loaded.params, options, loaded.image, input)))
+}
+
+/// A run on a machine, and the plan for it.
+#[derive(Drop)]
+pub struct PlannedRun {
+    setup: Setup,
+    plan: Plan,
+}
+
+/// A plan for a run on a machine; the files are image, machine file, plan and input.
+#[tactic(auto, unfolding(crate::specs::Job::planned_run))]
+fn planned_run(
+    alloc: Global,
+    options: &Options,
+    contents: Vec<Bytes>,
+) -> Result<PlannedRun, Refusal>
+    requires ranges { HasRanges options.now }
+    requires input { length (bytes_at contents.items 3) ≤ 16777216 }
+    ensures planned { Gives (planned_run options.now contents.items) result }
+    ensures sound { IfOk result (λ planned. is_setup planned.setup ≡ true) }
+{
+    let files = contents.as_slice();
+    let loaded = timed_image(alloc, bytes_at(files, 1), bytes_at(files, 0))?;
+    let plan = Plan::read(alloc, bytes_at(files, 2))?;
+    let input = take_at(alloc, contents, 3);
+    let setup = setup_for(loaded.params, options, loaded.image, input);
+    Ok(PlannedRun { setup, plan })
+}
+
+/// The plan, and the way to the next cycle boundary.
+#[tactic(auto, unfolding(crate::specs::Job::sched_job))]
+fn sched_job(alloc: Global, options: &Options, contents: Vec<Bytes>) -> Result<SingleJob, Refusal>
+    requires ranges { HasRanges options.now }
+    requires input { length (bytes_at contents.items 3) ≤ 16777216 }
+    ensures job { Gives (sched_job options.now contents.items) result }
+    ensures can { IfOk result (λ job. CanStart job) }
+{
+    let planned = planned_run(alloc, options, contents)?;
+    Ok(SingleJob::Sched(planned.setup, planned.plan))
+}
+
+/// The plan on the in-order machine, and the way to its end.
+#[tactic(auto, unfolding(crate::specs::Job::inorder_job))]
+fn inorder_job(alloc: Global, options: &Options, contents: Vec<Bytes>) -> Result<SingleJob, Refusal>
+    requires ranges { HasRanges options.now }
+    requires input { length (bytes_at contents.items 3) ≤ 16777216 }
+    ensures job { Gives (inorder_job options.now contents.items) result }
+    ensures can { IfOk result (λ job. CanStart job) }
+{
+    let planned = planned_run(alloc, options, contents)?;
+    Ok(SingleJob::Inorder(inorder_setup(planned.setup), planned.plan))
+}
+
+/// The setup with a window for the four stages behind Fetch of the in-order machine.
+fn inorder_setup(setup: Setup) -> Setup
+    requires sound { is_setup setup ≡ true }
+    ensures setup { result ≡ inorder_setup setup }
+    ensures sound { IsInorder result }
+{
+    let mut setup = setup;
+    setup.params.core_window = 4;
+    setup
+}
+
+/// A debugger's script for the sequential run of an image on the plain machine; the files are
+/// image, script and input.
+#[tactic(auto, unfolding(crate::specs::Job::back_job))]
+fn back_job(
+    alloc: Global,
+    history: u32,
+    options: &Options,
+    contents: Vec<Bytes>,
+) -> Result<SingleJob, Refusal>
+    requires ranges { HasRanges options.now }
+    requires input { length (bytes_at contents.items 2) ≤ 16777216 }
+    ensures job { Gives (back_job history options.now contents.items) result }
+    ensures can { IfOk result (λ job. CanStart job) }
+{
+    let params = Params::plain();
+    let files = contents.as_slice();
+    let image = read_image(alloc, bytes_at(files, 0), ram_of(&params))?;
+    let script = read_script(alloc, bytes_at(files, 1))?;
+    let input = take_at(alloc, contents, 2);
+    Ok(SingleJob::Back(setup_for(params, options, image, input), history, script))
+}
+
+/// How many blocks the soak program has.
+const SOAK_BLOCKS: u32 = 16_384;
+
+/// The run of the soak program of a seed on its machine. It is made here, and no file is read.
+#[tactic(auto, unfolding(crate::specs::Job::soak_setup))]
+fn soak_job(alloc: Global, seed: u64) -> Result<SingleJob, Refusal>
+    ensures job { Gives (Ok (AnyRun.Run (soak_setup seed))) result }
+    ensures can { IfOk result (λ job. CanStart job) }
+{
+    let image = soak_image(alloc, seed, SOAK_BLOCKS)?;
+    let input = Bytes::new(Vec::new(alloc));
+    Ok(SingleJob::Run(setup_for(soak_params(), &default_options(), image, input)))
+}
+
+/// The options of a line that has none.
+#[tactic(auto, unfolding(crate::specs::Job::default_options))]
+fn default_options() -> Options
+    ensures options { result ≡ default_options }
+    ensures ranges { HasRanges result }
+{
+    Options {
+        ring: 64,
+        cycles: 10_000_000,
+        output: 16_777_216,
+        input: None,
+    }
+}
+
+/// The bytes of the file at a place; none where there is no such file.
+fn bytes_at(contents: &[Bytes], place: usize) -> &[u8]
+    ensures bytes { result.now ≡ bytes_at contents.now place }
+{
+    match contents.get(place) {
+        Some(bytes) => bytes.as_slice(),
+        None => &[],
+    }
+}
+
+/// The same, and all else is dropped.
+fn take_at(alloc: Global, contents: Vec<Bytes>, place: usize) -> Bytes
+    ensures bytes { result ≡ bytes_at contents.items place }
+{
+    let mut contents = contents;
+    if place < contents.len() {
+        contents.swap_remove(place)
+    } else {
+        Bytes::new(Vec::new(alloc))
+    }
+}

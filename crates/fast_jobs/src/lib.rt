@@ -1,0 +1,28 @@
+//! What a line asks for: its files are read and tested, it is played, and what comes of it is
+//! written.
+#![tactic(auto)]
+
+mod files;
+mod finish;
+mod grow;
+mod image;
+mod inorder;
+mod job;
+mod load;
+mod machine;
+mod opening;
+mod plan;
+mod read;
+mod refusal;
+mod running;
+mod script;
+mod setup;
+mod sweep;
+mod sweep_files;
+mod sweep_setup;
+mod timed_image;
+
+pub use job::{Job, SingleJob};
+pub use opening::open;
+pub use refusal::{Refusal, tell_want_of_memory};
+pub use running::{first_set, run, run_in_threads};

@@ -1,0 +1,197 @@
+ghost use Rattle.std.specs.Prelude.{◌≡◌, ◌≤◌, ◌/◌, true, map, vec_len};
+ghost use Rattle.device_bus.specs.Bus.{AreSets, device_order};
+ghost use Rattle.mono_model.specs.Setup.{is_setup};
+ghost use Rattle.fast_jobs.specs.Ending.{Ends};
+ghost use Rattle.fast_jobs.specs.Call.{writing_of};
+ghost use Rattle.fast_jobs.specs.Job.{CanBegin, CanStart, sets_for};
+
+use crate::finish::{finish_alone, finish_timed};
+use crate::inorder::run_inorder;
+use crate::job::{Job, SingleJob};
+use crate::plan::Plan;
+use crate::refusal::tell_want_of_memory;
+use crate::script::run_script;
+use crate::sweep::run_sweep;
+use device_bus::Device;
+use fast_threads::{Named, Session};
+use fsim_base::NoMemory;
+use fsim_ports::{Gate, Sink};
+use func_model::FuncSide;
+use machine_laws::run_ends_once;
+use mono_model::Setup;
+use report_text::Status;
+use split_core::SplitCore;
+use std::alloc::Global;
+use std::marker::Brand;
+use std::sync::Wait;
+use std::thread::Threads;
+
+/// Does one run on one thread, writes its output and report, and gives the answer.
+pub fn run<K: Sink, D: Device>(
+    alloc: Global,
+    job: &SingleJob,
+    devices: Vec<D>,
+    sink: &mut K,
+) -> Status
+    requires can { CanStart job.now }
+    requires order { map D.kind devices.items ≡ device_order }
+    ensures count { K.faults sink.old ≤ K.faults sink.new }
+    ensures ends { Ends (Job.Single job.now)
+        (writing_of K.written K.faults sink.old sink.new) result }
+{
+    match job {
+        SingleJob::Func(setup) => run_alone(alloc, setup, devices, sink),
+        SingleJob::Run(setup) => run_to_end(alloc, setup, devices, sink),
+        SingleJob::Sched(setup, plan) => run_plan(alloc, setup, plan, devices, sink),
+        SingleJob::Inorder(setup, plan) => run_inorder(alloc, setup, plan, devices, sink),
+        SingleJob::Back(setup, history, script) => {
+            run_script(alloc, setup, *history, script, devices, sink)
+        }
+    }
+}
+
+/// Does a job, a run on the machine on two threads, and each run of a sweep on one of its own where
+/// one can be made.
+pub fn run_in_threads<R: Threads + Wait + Sync, K: Sink, G: Gate + Sync, D: Device + Send>(
+    rt: &R,
+    alloc: Global,
+    job: &Job,
+    devices: Vec<D>,
+    sink: &mut K,
+    gate: &G,
+) -> Status
+    requires can { CanBegin job.now }
+    requires sets { AreSets (vec_len devices / 3) (map D.kind devices.items) }
+    requires room { sets_for job.now ≤ vec_len devices / 3 }
+    ensures count { K.faults sink.old ≤ K.faults sink.new }
+    ensures ends { Ends job.now (writing_of K.written K.faults sink.old sink.new) result }
+{
+    match job {
+        Job::Single(SingleJob::Run(setup)) => {
+            run_session(rt, alloc, setup, first_set(devices), sink, gate)
+        }
+        Job::Single(job) => run(alloc, job, first_set(devices), sink),
+        Job::Sweep(files) => run_sweep(rt, alloc, files, devices, sink),
+    }
+}
+
+/// The first of the sets of devices; the others are dropped.
+pub fn first_set<D: Device>(devices: Vec<D>) -> Vec<D>
+    requires sets { AreSets (vec_len devices / 3) (map D.kind devices.items) }
+    ensures order { map D.kind result.items ≡ device_order }
+{
+    let mut devices = devices;
+    devices.truncate(3);
+    devices
+}
+
+/// The run on the machine, on two threads.
+fn run_session<R: Threads + Wait + Sync, S: Sink, G: Gate + Sync, D: Device + Send>(
+    rt: &R,
+    alloc: Global,
+    setup: &Setup,
+    devices: Vec<D>,
+    sink: &mut S,
+    gate: &G,
+) -> Status
+    requires sound { is_setup setup.now ≡ true }
+    requires order { map D.kind devices.items ≡ device_order }
+    ensures count { S.faults sink.old ≤ S.faults sink.new }
+    ensures ends { Ends (Job.Single (SingleJob.Run setup.now))
+        (writing_of S.written S.faults sink.old sink.new) result }
+{
+    play_session::<Brand, R, S, G, D>(rt, alloc, setup, devices, sink, gate)
+}
+
+/// The same, with a name for the setup, which the types of the run have for proofs.
+fn play_session<
+    K: Named + Send,
+    R: Threads + Wait + Sync,
+    S: Sink,
+    G: Gate + Sync,
+    D: Device + Send,
+>(rt: &R, alloc: Global, setup: &Setup, devices: Vec<D>, sink: &mut S, gate: &G) -> Status
+    requires sound { is_setup setup.now ≡ true }
+    requires run { K.setup ≡ setup.now }
+    requires order { map D.kind devices.items ≡ device_order }
+    ensures count { S.faults sink.old ≤ S.faults sink.new }
+    ensures ends { Ends (Job.Single (SingleJob.Run setup.now))
+        (writing_of S.written S.faults sink.old sink.new) result }
+{
+    let mut session = match Session::<D, K>::new(alloc, setup, devices) {
+        Ok(session) => session,
+        Err(NoMemory) => return tell_want_of_memory(sink),
+    };
+    session.run(rt, gate);
+    // The law that the machine has ended then.
+    run_ends_once();
+    let last = session.result();
+    finish_timed(&last, session.output(), sink)
+}
+
+/// The sequential run.
+fn run_alone<K: Sink, D: Device>(
+    alloc: Global,
+    setup: &Setup,
+    devices: Vec<D>,
+    sink: &mut K,
+) -> Status
+    requires sound { is_setup setup.now ≡ true }
+    requires order { map D.kind devices.items ≡ device_order }
+    ensures count { K.faults sink.old ≤ K.faults sink.new }
+    ensures ends { Ends (Job.Single (SingleJob.Func setup.now))
+        (writing_of K.written K.faults sink.old sink.new) result }
+{
+    let mut side = match FuncSide::new(alloc, setup, devices) {
+        Ok(side) => side,
+        Err(NoMemory) => return tell_want_of_memory(sink),
+    };
+    let last = side.alone(setup.cycles);
+    finish_alone(&last, side.output(), sink)
+}
+
+/// The run on the machine, on one thread.
+fn run_to_end<K: Sink, D: Device>(
+    alloc: Global,
+    setup: &Setup,
+    devices: Vec<D>,
+    sink: &mut K,
+) -> Status
+    requires sound { is_setup setup.now ≡ true }
+    requires order { map D.kind devices.items ≡ device_order }
+    ensures count { K.faults sink.old ≤ K.faults sink.new }
+    ensures ends { Ends (Job.Single (SingleJob.Run setup.now))
+        (writing_of K.written K.faults sink.old sink.new) result }
+{
+    let mut core = match SplitCore::new(alloc, setup, devices) {
+        Ok(core) => core,
+        Err(NoMemory) => return tell_want_of_memory(sink),
+    };
+    core.to_end();
+    let last = core.committed();
+    finish_timed(&last, core.output(), sink)
+}
+
+/// The events of a plan, and the way to the next cycle boundary.
+fn run_plan<K: Sink, D: Device>(
+    alloc: Global,
+    setup: &Setup,
+    plan: &Plan,
+    devices: Vec<D>,
+    sink: &mut K,
+) -> Status
+    requires sound { is_setup setup.now ≡ true }
+    requires order { map D.kind devices.items ≡ device_order }
+    ensures count { K.faults sink.old ≤ K.faults sink.new }
+    ensures ends { Ends (Job.Single (SingleJob.Sched setup.now plan.now))
+        (writing_of K.written K.faults sink.old sink.new) result }
+{
+    let mut core = match SplitCore::new(alloc, setup, devices) {
+        Ok(core) => core,
+        Err(NoMemory) => return tell_want_of_memory(sink),
+    };
+    core.play(plan.events());
+    core.to_boundary();
+    let last = core.committed();
+    finish_timed(&last, core.output(), sink)
+}

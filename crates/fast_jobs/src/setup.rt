@@ -1,0 +1,29 @@
+ghost use Rattle.std.specs.Prelude.{◌≡◌, ◌≤◌, true, length};
+ghost use Rattle.elf_image.specs.Sound.{IsSound};
+ghost use Rattle.mono_model.specs.Setup.{is_setup, are_params, ram_range};
+ghost use Rattle.fast_cli.specs.Ranges.{HasRanges};
+ghost use Rattle.fast_jobs.specs.Job.{setup_for};
+
+use elf_image::Image;
+use fast_cli::Options;
+use fsim_base::Bytes;
+use mono_model::{Params, Setup};
+
+/// The setup of an image on a machine, with what the console reads.
+pub fn setup_for(params: Params, options: &Options, image: Image, input: Bytes) -> Setup
+    requires in_range { are_params params ≡ true }
+    requires sound { IsSound image (ram_range params) }
+    requires ranges { HasRanges options.now }
+    requires input { length input ≤ 16777216 }
+    ensures setup { result ≡ setup_for params options.now image input }
+    ensures sound { is_setup result ≡ true }
+{
+    Setup {
+        image,
+        params,
+        input,
+        cycles: options.cycles,
+        output: options.output,
+        ring: options.ring,
+    }
+}
