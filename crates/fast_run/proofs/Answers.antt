@@ -33,8 +33,3 @@ answer-usage asked sets files sink status none unread usage written =
     let line : WroteTo sink (fault_text status) = subst (λ (given : Status). WroteTo sink (fault_text given)) (sym usage) written in
     let answered : IsAnswer None sets files sink status = inl (record { answer = usage; unread = unread; written = line }) in
     subst (λ (a : Option Line). IsAnswer a sets files sink status) (sym none) answered
-
--- the words are a line
-pub answer-line : (asked : Option Line) (line : Line) (sets : ℕ) (files : Reading) (sink : Writing) (status : Status) → asked ≡ Some line → IsAnswer (Some line) sets files sink status →
-    IsAnswer asked sets files sink status
-answer-line asked line sets files sink status named answered = subst (λ (a : Option Line). IsAnswer a sets files sink status) (sym named) answered

@@ -47,6 +47,28 @@ pub fn fast_main<R: Threads + Wait + Sync, F: Files, K: Sink, G: Gate + Sync>(
         (reading_of F.told F.faults files.old files.new)
         (writing_of K.written K.faults sink.old sink.new) result }
 {
+    answer_or_usage(rt, alloc, words, files, sink, devices, gate)
+}
+
+/// The answer to the words: that to their line, or the usage.
+fn answer_or_usage<R: Threads + Wait + Sync, F: Files, K: Sink, G: Gate + Sync>(
+    rt: &R,
+    alloc: Global,
+    words: &[&str],
+    files: &mut F,
+    sink: &mut K,
+    devices: Vec<Box<dyn Device + Send>>,
+    gate: &G,
+) -> Status
+    requires sets { AreSets (vec_len devices / 3)
+        (map (λ device. kind device) devices.items) }
+    ensures told { F.told files.new ≡ F.told files.old }
+    ensures files { F.faults files.old ≤ F.faults files.new }
+    ensures sink { K.faults sink.old ≤ K.faults sink.new }
+    ensures answer { IsAnswer (line (map (λ word. word.now) words.now)) (vec_len devices / 3)
+        (reading_of F.told F.faults files.old files.new)
+        (writing_of K.written K.faults sink.old sink.new) result }
+{
     let line = match read_words(alloc, words) {
         Ok(line) => line,
         Err(UsageFault::Words) => return Refusal::new(Status::Usage).tell(sink),
