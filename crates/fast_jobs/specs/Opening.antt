@@ -1,5 +1,5 @@
 -- Whether a line has a job: what it asks for, or why there is none.
-use Rattle.std.specs.Prelude.{◌≡◌, ℕ, List, [], Option, Result, Ok, Err}
+use Rattle.std.specs.Prelude.{◌≡◌, ℕ, List, [], Option, Result, Err}
 use Rattle.fsim_ports.specs.Files.{Names}
 use Rattle.report_text.specs.declared.status.Status.{Status}
 use Rattle.report_text.specs.declared.status.Status.TheVariants.{Memory}
