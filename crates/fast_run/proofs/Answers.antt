@@ -13,23 +13,30 @@ use Rattle.fast_run.specs.Answer.{IsAnswer}
 -- there is no job, and the line of the answer was written
 pub answer-closed : (line : Line) (sets : ℕ) (files : Reading) (sink : Writing) (status answer : Status) → answer ≡ status → Closes line sets files status → WroteTo sink (fault_text status) →
     IsAnswer (Some line) sets files sink answer
+unfolding IsAnswer
 answer-closed line sets files sink status answer same cause written =
     subst (λ (given : Status). IsAnswer (Some line) sets files sink given) (sym same) (inl (record { cause = cause; written = written }))
 
 -- there is one, and this is the answer to it
 pub answer-ran : (line : Line) (sets : ℕ) (files : Reading) (sink : Writing) (job : Job) (status : Status) → Asks line sets files.told (Ok job) → Ends job sink status →
     IsAnswer (Some line) sets files sink status
+unfolding IsAnswer
 answer-ran line sets files sink job status asks ends = inr (record { job = job; asks = asks; ends = ends })
 
 -- memory was wanted, whatever the words are
 pub answer-starved : (asked : Option Line) (sets : ℕ) (files : Reading) (sink : Writing) (status : Status) → status ≡ Memory → WroteTo sink (fault_text Memory) → IsAnswer asked sets files sink status
+unfolding IsAnswer
 answer-starved None sets files sink status memory written = inr (record { answer = memory; written = written })
 answer-starved (Some line) sets files sink status memory written = answer-closed line sets files sink Memory status memory (Starved refl) written
 
 -- the words are no line
 pub answer-usage : (asked : Option Line) (sets : ℕ) (files : Reading) (sink : Writing) (status : Status) → asked ≡ None → files.faults.after ≡ files.faults.before → status ≡ Usage →
     WroteTo sink (fault_text Usage) → IsAnswer asked sets files sink status
+unfolding IsAnswer
 answer-usage asked sets files sink status none unread usage written =
     let line : WroteTo sink (fault_text status) = subst (λ (given : Status). WroteTo sink (fault_text given)) (sym usage) written in
     let answered : IsAnswer None sets files sink status = inl (record { answer = usage; unread = unread; written = line }) in
     subst (λ (a : Option Line). IsAnswer a sets files sink status) (sym none) answered
+
+-- for the answers that come without a job
+pub ruleset closing_answers = (answer-usage, answer-starved)

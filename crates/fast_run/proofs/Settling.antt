@@ -52,6 +52,7 @@ job-settles job sink status (Broken broken) other = inr broken.answer
 job-settles job sink status (Unopened starved) other = absurd (other starved.answer)
 
 pub answer-settled : (asked : Option Line) (sets : ℕ) (files : Reading) (sink : Writing) (status : Status) → IsAnswer asked sets files sink status → IsSettled asked sets files status
+unfolding IsAnswer
 answer-settled None sets files sink status (inl usage) names told quiet other = usage.answer
 answer-settled None sets files sink status (inr starved) names told quiet other = absurd (other starved.answer)
 answer-settled (Some line) sets files sink status (inl closed) names told quiet other =
@@ -73,6 +74,7 @@ closed-completes line sets files names job status told wanted quiet cause = elim
 ]
 
 pub answer-complete : (asked : Option Line) (sets : ℕ) (files : Reading) (sink : Writing) (status : Status) → IsAnswer asked sets files sink status → IsComplete asked sets files sink status
+unfolding IsAnswer
 answer-complete None sets files sink status answer names job told wanted quiet sink_quiet = never-both job Usage (sym wanted)
 answer-complete (Some line) sets files sink status (inl closed) names job told wanted quiet sink_quiet =
     closed-completes line sets files names job status told wanted quiet closed.cause

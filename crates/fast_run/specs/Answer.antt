@@ -30,7 +30,7 @@ pub record IsUsage (files : Reading) (sink : Writing) (status : Status) : Type 0
 
 -- the answer of the program to words with this many sets of devices, by the line that the words
 -- are, if they are one
-abbrev pub IsAnswer : Option Line → ℕ → Reading → Writing → Status → Type 0
+unfoldable pub IsAnswer : Option Line → ℕ → Reading → Writing → Status → Type 0
 IsAnswer None sets files sink status = IsUsage files sink status ⊎ IsStarved sink status
 IsAnswer (Some line) sets files sink status =
     IsClosed line sets files sink status ⊎ HasRun line sets files sink status

@@ -51,6 +51,7 @@ pub fn fast_main<R: Threads + Wait + Sync, F: Files, K: Sink, G: Gate + Sync>(
 }
 
 /// The answer to the words: that to their line, or the usage.
+#[tactic(auto, using(crate::proofs::Answers::closing_answers))]
 fn answer_or_usage<R: Threads + Wait + Sync, F: Files, K: Sink, G: Gate + Sync>(
     rt: &R,
     alloc: Global,

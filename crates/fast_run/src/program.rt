@@ -44,6 +44,7 @@ fn exit_code(status: &Status) -> ExitCode
 
 /// The answer to the arguments of the process, of which the first is the program's name. Where they
 /// could not be had, since one of them is no text, they are no line.
+#[tactic(auto, using(crate::proofs::Answers::closing_answers))]
 fn answer_arguments<R: Threads + Wait + Sync, F: Files, K: Sink>(
     rt: &R,
     alloc: Global,

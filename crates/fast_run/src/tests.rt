@@ -13,9 +13,7 @@ mod words;
 
 use crate::answer::fast_main;
 use crate::program::answer_words;
-use device_bus::{Device, sets_in_order};
-use fast_cli::read_words;
-use fast_jobs::open;
+use device_bus::{Device, Finisher, Timer, sets_in_order};
 use fsim_ports::{Gate, MemoryFiles, MemorySink};
 use std::alloc::Global;
 use std::process::Abort;
@@ -35,22 +33,25 @@ const FRONT: [u8; 84] = [
 ];
 
 /// LUI x5, 0x100; LUI x6, 5; ADDI x6, x6, 0x555; SW x6, 0(x5).
-const SMALLEST_PASS: [u32; 4] = [0x0010_02b7, 0x0000_5337, 0x5553_0313, 0x0062_a023];
+const SMALLEST_PASS: &str = "001002b7 00005337 55530313 0062a023";
 
-/// The image of a program.
-fn image_of(alloc: Global, words: &[u32]) -> Result<Vec<u8>, Fail> {
-    let size = u32::try_from(words.len() * 4).unwrap_or(0).to_le_bytes();
+/// The image of a program. Its words are in hexadecimal, with a space between each two.
+fn image_of(alloc: Global, words: &str) -> Result<Vec<u8>, Fail> {
+    let mut program = Vec::new(alloc);
+    put_words(&mut program, words)?;
+    let size = u32::try_from(program.len()).unwrap_or(0).to_le_bytes();
     let mut front = FRONT;
     front[68..72].copy_from_slice(&size);
     front[72..76].copy_from_slice(&size);
     let mut image = front.to_vec(alloc)?;
-    put_words(&mut image, words)?;
+    image.extend_from_slice(program.as_slice())?;
     Ok(image)
 }
 
 /// Puts words behind an image.
-fn put_words(image: &mut Vec<u8>, words: &[u32]) -> Result<(), Fail> {
-    for word in words {
+fn put_words(image: &mut Vec<u8>, words: &str) -> Result<(), Fail> {
+    for word in words.split(' ') {
+        let word = u32::from_str_radix(word, 16).unwrap_or(0);
         image.extend_from_slice(&word.to_le_bytes())?;
     }
     Ok(())
@@ -91,6 +92,18 @@ fn answer_with<R: Threads + Wait + Sync + Abort, G: Gate + Sync>(
     Ok(status.number())
 }
 
+/// A set of devices with this console.
+fn set_with(
+    alloc: Global,
+    console: Box<dyn Device + Send>,
+) -> Result<Vec<Box<dyn Device + Send>>, Fail> {
+    let mut devices: Vec<Box<dyn Device + Send>> = Vec::new(alloc);
+    devices.push(console)?;
+    devices.push(Box::new(alloc, Timer::new())?)?;
+    devices.push(Box::new(alloc, Finisher::new())?)?;
+    Ok(devices)
+}
+
 /// Answers a line, and compares status and text.
 fn check<R: Threads + Wait + Sync + Abort>(
     rt: &R,
@@ -105,13 +118,4 @@ fn check<R: Threads + Wait + Sync + Abort>(
     assert_eq!(rt; answered, number, "{line}");
     assert_eq!(rt; sink.bytes(), text.as_bytes(), "{line}");
     Ok(())
-}
-
-/// Whether a line asks for a job with these files.
-fn opens(alloc: Global, line: &str, files: &mut MemoryFiles) -> Result<bool, Fail> {
-    let words = words_of(alloc, line)?;
-    match read_words(alloc, words.as_slice()) {
-        Ok(line) => Ok(open(alloc, &line, 1, files).is_ok()),
-        Err(_) => Ok(false),
-    }
 }

@@ -1,8 +1,8 @@
 //! A console that counts its calls: it shows that `sched` and `run` load ahead of what is
 //! committed, and take it back.
-use super::answer_with;
 use super::programs::files_of_runs;
-use device_bus::{Console, DevUndo, Device, DeviceKind, Finisher, Note, Timer};
+use super::{answer_with, set_with};
+use device_bus::{Console, DevUndo, Device, DeviceKind, Note};
 use fsim_base::{NoMemory, Width};
 use fsim_ports::{MemoryFiles, MemorySink, QuietGate};
 use std::alloc::Global;
@@ -86,10 +86,7 @@ fn count<R: Threads + Wait + Sync + Abort>(
         console: Console::new(alloc)?,
         calls: Arc::try_clone(&calls)?,
     };
-    let mut devices: Vec<Box<dyn Device + Send>> = Vec::new(alloc);
-    devices.push(Box::new(alloc, console)?)?;
-    devices.push(Box::new(alloc, Timer::new())?)?;
-    devices.push(Box::new(alloc, Finisher::new())?)?;
+    let devices = set_with(alloc, Box::new(alloc, console)?)?;
     let number = answer_with(rt, alloc, text, files, sink, devices, &QuietGate)?;
     assert_eq!(rt; calls.starts.load(Ordering::SeqCst), 1, "{text}");
     assert_eq!(rt; Arc::strong_count(&calls), 1, "{text}");

@@ -1,6 +1,6 @@
 //! What the files and the sink refuse.
-use super::programs::files_of_runs;
-use super::{SMALLEST_PASS, answer, check, image_of, opens};
+use super::programs::{files_of_runs, repeated};
+use super::{SMALLEST_PASS, answer, check, image_of};
 use fsim_ports::{MemoryFiles, MemorySink};
 use std::alloc::Global;
 use std::process::Abort;
@@ -42,7 +42,7 @@ fn files_of(alloc: Global) -> Result<MemoryFiles, Fail> {
         files.add(name, text.as_bytes())?;
     }
     files.add("other", &other_front())?;
-    let mut image = image_of(alloc, &SMALLEST_PASS)?;
+    let mut image = image_of(alloc, SMALLEST_PASS)?;
     files.add("pass", image.as_slice())?;
     image.truncate(51);
     files.add("short", image.as_slice())?;
@@ -132,7 +132,9 @@ fn image_may_fill_ram_to_its_last_byte(rt: HostRuntime) -> Result<(), Fail> {
     let alloc = rt.alloc();
     let mut files = MemoryFiles::new(alloc);
     files.add("last", &last_front(16))?;
-    assert!(rt; opens(alloc, "func last", &mut files)?);
+    let line = "func last --cycles 1";
+    let mut sink = MemorySink::new(alloc, 4096)?;
+    assert_eq!(rt; answer(&rt, alloc, line, &mut files, &mut sink)?, 2);
     files.add("outside", &last_front(17))?;
     let told = "fast: image: outside ram 0\n";
     check(&rt, alloc, "func outside", &mut files, 11, told)
@@ -160,7 +162,7 @@ fn filled_files(alloc: Global) -> Result<MemoryFiles, Fail> {
         let bytes = vec![in alloc; byte; size]?;
         files.add(name, bytes.as_slice())?;
     }
-    files.add("pass", image_of(alloc, &SMALLEST_PASS)?.as_slice())?;
+    files.add("pass", image_of(alloc, SMALLEST_PASS)?.as_slice())?;
     Ok(files)
 }
 
@@ -180,6 +182,17 @@ fn too_long() -> &'static [(&'static str, &'static str)] {
     &TOO_LONG
 }
 
+/// Lines whose files are as long as they may be, and their answers.
+const JUST_FITTING: [(&str, u8); 3] = [
+    ("func pass --input most", 0),
+    ("sched pass lines blanks", 4),
+    ("back pass lines", 5),
+];
+
+fn just_fitting() -> &'static [(&'static str, u8)] {
+    &JUST_FITTING
+}
+
 #[test]
 fn files_are_read_to_their_limits(rt: HostRuntime) -> Result<(), Fail> {
     let alloc = rt.alloc();
@@ -187,69 +200,62 @@ fn files_are_read_to_their_limits(rt: HostRuntime) -> Result<(), Fail> {
     for &(line, told) in too_long() {
         check(&rt, alloc, line, &mut files, 17, told)?;
     }
-    for line in [
-        "func pass --input most",
-        "sched pass lines blanks",
-        "back pass lines",
-    ] {
-        assert!(rt; opens(alloc, line, &mut files)?, "{line}");
+    for &(line, number) in just_fitting() {
+        let mut sink = MemorySink::new(alloc, 4096)?;
+        let answered = answer(&rt, alloc, line, &mut files, &mut sink)?;
+        assert_eq!(rt; answered, number, "{line}");
     }
     Ok(())
+}
+
+/// Bytes with others before and behind them.
+fn around(alloc: Global, before: &[u8], bytes: &[u8], behind: &[u8]) -> Result<Vec<u8>, Fail> {
+    let mut text = before.to_vec(alloc)?;
+    text.extend_from_slice(bytes)?;
+    text.extend_from_slice(behind)?;
+    Ok(text)
 }
 
 #[test]
 fn longest_key_of_a_machine_file_is_told(rt: HostRuntime) -> Result<(), Fail> {
     let alloc = rt.alloc();
+    let key = repeated(alloc, b"k", 65_534)?;
+    let text = around(alloc, b"", key.as_slice(), b"=1")?;
+    let told = around(alloc, b"fast: machine: unknown ", key.as_slice(), b"\n")?;
     let mut files = MemoryFiles::new(alloc);
-    files.add("pass", image_of(alloc, &SMALLEST_PASS)?.as_slice())?;
-    let key = vec![in alloc; b'k'; 65_534]?;
-    let mut text = key.as_slice().to_vec(alloc)?;
-    text.extend_from_slice(b"=1")?;
+    files.add("pass", image_of(alloc, SMALLEST_PASS)?.as_slice())?;
     files.add("long", text.as_slice())?;
-    let mut told = b"fast: machine: unknown ".to_vec(alloc)?;
-    told.extend_from_slice(key.as_slice())?;
-    told.push(b'\n')?;
     let mut sink = MemorySink::new(alloc, 70_000)?;
-    assert_eq!(rt;
-        answer(&rt, alloc, "run pass long", &mut files, &mut sink)?,
-        12
-    );
+    let answered = answer(&rt, alloc, "run pass long", &mut files, &mut sink)?;
+    assert_eq!(rt; answered, 12);
     assert_eq!(rt; sink.bytes(), told.as_slice());
     Ok(())
 }
 
 /// Lines, the roles of their files in the order in which these are read, and the answer where no
 /// read fails. Each file takes one read for its bytes and one for its end.
-const READ: [(&str, &[&str], u8); 6] = [
-    ("func echo --input in", &["image", "input"], 0),
-    (
-        "run echo eight --input in",
-        &["image", "machine", "input"],
-        0,
-    ),
+const READ: [(&str, &str, u8); 6] = [
+    ("func echo --input in", "image input", 0),
+    ("run echo eight --input in", "image machine input", 0),
     (
         "sched echo eight nothing --input in",
-        &["image", "machine", "plan", "input"],
+        "image machine plan input",
         4,
     ),
-    (
-        "back echo again --input in",
-        &["image", "script", "input"],
-        5,
-    ),
+    ("back echo again --input in", "image script input", 5),
     (
         "sweep echo eight targets --input in",
-        &["image", "machine", "machine", "input"],
+        "image machine machine input",
         5,
     ),
     (
         "inorder echo eight nothing --input in",
-        &["image", "machine", "plan", "input"],
+        "image machine plan input",
         0,
     ),
 ];
 
-fn readings() -> &'static [(&'static str, &'static [&'static str], u8)] {
+fn readings() -> &'static [(&'static str, &'static str, u8)] {
     &READ
 }
 
@@ -258,7 +264,7 @@ fn each_read_that_fails_is_told_with_its_role(rt: HostRuntime) -> Result<(), Fai
     let alloc = rt.alloc();
     for &(text, roles, number) in readings() {
         let mut read = 0u64;
-        for role in roles {
+        for role in roles.split(' ') {
             check_read(&rt, alloc, text, role, read)?;
             read = read.saturating_add(2);
         }

@@ -1,9 +1,9 @@
 //! A gate that holds each side until the other has had a turn: that the program runs the sides in
 //! two threads.
-use super::answer_with;
 use super::programs::files_of_runs;
+use super::{answer_with, set_with};
 use crossbeam_utils::CachePadded;
-use device_bus::{Console, Device, Finisher, Timer};
+use device_bus::Console;
 use fsim_ports::{Gate, MemorySink};
 use std::process::Abort;
 use std::sync::atomic::{AtomicBool, Ordering};
@@ -55,10 +55,7 @@ impl Gate for MeetingGate {
 #[test]
 fn run_has_both_sides_at_work(rt: HostRuntime) -> Result<(), Fail> {
     let alloc = rt.alloc();
-    let mut devices: Vec<Box<dyn Device + Send>> = Vec::new(alloc);
-    devices.push(Box::new(alloc, Console::new(alloc)?)?)?;
-    devices.push(Box::new(alloc, Timer::new())?)?;
-    devices.push(Box::new(alloc, Finisher::new())?)?;
+    let devices = set_with(alloc, Box::new(alloc, Console::new(alloc)?)?)?;
     let gate = MeetingGate::new();
     let mut files = files_of_runs(alloc)?;
     let mut sink = MemorySink::new(alloc, 4096)?;

@@ -4,145 +4,130 @@ use fsim_ports::MemoryFiles;
 use std::alloc::Global;
 use std::test::Fail;
 
-/// Programs by the names of their files; most end in a pass by x6 and x7.
-const PROGRAMS: [(&str, &[u32]); 19] = [
+/// Programs by the names of their files, each by its words; most end in a pass by x6 and x7.
+const PROGRAMS: [(&str, &str); 19] = [
     // Four instructions, of which the last stores a pass.
-    ("pass", &[0x001002b7, 0x00005337, 0x55530313, 0x0062a023]),
+    ("pass", "001002b7 00005337 55530313 0062a023"),
     // MULHSU, MUL, DIV and MULH at the ends of the range, and a branch over a word that is no
     // instruction.
     (
         "arith",
-        &[
-            0x800002b7, 0xfff00313, 0x0262c3b3, 0x00700413, 0x020444b3, 0x0262e533, 0x020465b3,
-            0x00538463, 0x00000000, 0x00100e37, 0x00005eb7, 0x555e8e93, 0x01de2023,
-        ],
+        concat!(
+            "800002b7 fff00313 0262c3b3 00700413 020444b3 0262e533 020465b3 00538463 ",
+            "00000000 00100e37 00005eb7 555e8e93 01de2023",
+        ),
     ),
     // A loop of ten rounds.
     (
         "loop",
-        &[
-            0x00a00293, 0xfff28293, 0xfe029ee3, 0x00100337, 0x000053b7, 0x55538393, 0x00732023,
-        ],
+        "00a00293 fff28293 fe029ee3 00100337 000053b7 55538393 00732023",
     ),
     // Behind a branch that is taken stands a load, whose line evicts that of the loads before and
     // after.
     (
         "evict",
-        &[
-            0x00000417, 0x04042483, 0x00048463, 0x08042503, 0x04042583, 0x00100337, 0x000053b7,
-            0x55538393, 0x00732023,
-        ],
+        concat!(
+            "00000417 04042483 00048463 08042503 04042583 00100337 000053b7 55538393 ",
+            "00732023",
+        ),
     ),
     // Behind a branch that is taken stands a load from the console, and behind that another.
     (
         "echo",
-        &[
-            0x00100293, 0x10000437, 0x00029463, 0x00044483, 0x00044503, 0x00100337, 0x000053b7,
-            0x55538393, 0x00732023,
-        ],
+        concat!(
+            "00100293 10000437 00029463 00044483 00044503 00100337 000053b7 55538393 ",
+            "00732023",
+        ),
     ),
     // Behind a branch that is taken stands a store of a failure to the finisher.
     (
         "finish",
-        &[
-            0x00100337, 0x000033b7, 0x33338393, 0x00000463, 0x00732023, 0x000053b7, 0x55538393,
-            0x00732023,
-        ],
+        "00100337 000033b7 33338393 00000463 00732023 000053b7 55538393 00732023",
     ),
     // A load of an address that is none, and a jump to what it loads.
     (
         "fault",
-        &[
-            0x00000297, 0x02028293, 0x30529073, 0x01002403, 0x00040067, 0x00000013, 0x00000013,
-            0x00000013, 0x342024f3, 0x34302573, 0x00100337, 0x000053b7, 0x55538393, 0x00732023,
-        ],
+        concat!(
+            "00000297 02028293 30529073 01002403 00040067 00000013 00000013 00000013 ",
+            "342024f3 34302573 00100337 000053b7 55538393 00732023",
+        ),
     ),
     // ECALL, with a handler at the next address.
     (
         "call",
-        &[
-            0x00000297, 0x01028293, 0x30529073, 0x00000073, 0x00100337, 0x000053b7, 0x55538393,
-            0x00732023,
-        ],
+        "00000297 01028293 30529073 00000073 00100337 000053b7 55538393 00732023",
     ),
     // A byte and a half word are stored, and then the word over both is loaded.
     (
         "merge",
-        &[
-            0x00000417, 0x02844533, 0x0aa00293, 0x7bc00313, 0x04540023, 0x04641123, 0x04042483,
-            0x00100337, 0x000053b7, 0x55538393, 0x00732023, 0x00000000, 0x00000000, 0x00000000,
-            0x00000000, 0x00000000, 0x11223344,
-        ],
+        concat!(
+            "00000417 02844533 0aa00293 7bc00313 04540023 04641123 04042483 00100337 ",
+            "000053b7 55538393 00732023 00000000 00000000 00000000 00000000 00000000 ",
+            "11223344",
+        ),
     ),
     // mcycle is read twice.
     (
         "time",
-        &[
-            0xb00022f3, 0xb0002373, 0x00100437, 0x000054b7, 0x55548493, 0x00942023,
-        ],
+        "b00022f3 b0002373 00100437 000054b7 55548493 00942023",
     ),
     // mtimecmp is reached while mcycle is read.
     (
         "timer",
-        &[
-            0x00000297, 0x04028293, 0x30529073, 0x02004437, 0x01000493, 0x00042223, 0x00942023,
-            0x08000513, 0x30452073, 0x30046073, 0xb00025f3, 0x00100337, 0x000053b7, 0x55538393,
-            0x00732023, 0x00000013, 0xfff00613, 0x00c42223, 0x30200073,
-        ],
+        concat!(
+            "00000297 04028293 30529073 02004437 01000493 00042223 00942023 08000513 ",
+            "30452073 30046073 b00025f3 00100337 000053b7 55538393 00732023 00000013 ",
+            "fff00613 00c42223 30200073",
+        ),
     ),
     // The handler of the timer, at its own vector, loads mtime.
     (
         "vector",
-        &[
-            0x00000297, 0x04128293, 0x30529073, 0x02004437, 0x0200c6b7, 0x00042223, 0x00042023,
-            0x08000513, 0x30452073, 0x30046073, 0x00000000, 0x00000000, 0x00000000, 0x00000000,
-            0x00000000, 0x00000000, 0x00000000, 0x00000000, 0x00000000, 0x00000000, 0x00000000,
-            0x00000000, 0x00000000, 0xff86a603, 0x00100337, 0x000053b7, 0x55538393, 0x00732023,
-        ],
+        concat!(
+            "00000297 04128293 30529073 02004437 0200c6b7 00042223 00042023 08000513 ",
+            "30452073 30046073 00000000 00000000 00000000 00000000 00000000 00000000 ",
+            "00000000 00000000 00000000 00000000 00000000 00000000 00000000 ff86a603 ",
+            "00100337 000053b7 55538393 00732023",
+        ),
     ),
     // Behind a DIV five bytes are put out.
     (
         "five",
-        &[
-            0x10000437, 0x04100493, 0x0294c533, 0x00940023, 0x00940023, 0x00940023, 0x00940023,
-            0x00940023, 0x00100337, 0x000053b7, 0x55538393, 0x00732023,
-        ],
+        concat!(
+            "10000437 04100493 0294c533 00940023 00940023 00940023 00940023 00940023 ",
+            "00100337 000053b7 55538393 00732023",
+        ),
     ),
     // The last word is stored over the fifth, which is executed behind a FENCE.I.
     (
         "patch",
-        &[
-            0x00000297, 0x0242a303, 0x0062a823, 0x0000100f, 0x00100513, 0x00100337, 0x000053b7,
-            0x55538393, 0x00732023, 0x00200513,
-        ],
+        concat!(
+            "00000297 0242a303 0062a823 0000100f 00100513 00100337 000053b7 55538393 ",
+            "00732023 00200513",
+        ),
     ),
     // The same with a FENCE.
     (
         "unpatched",
-        &[
-            0x00000297, 0x0242a303, 0x0062a823, 0x0000000f, 0x00100513, 0x00100337, 0x000053b7,
-            0x55538393, 0x00732023, 0x00200513,
-        ],
+        concat!(
+            "00000297 0242a303 0062a823 0000000f 00100513 00100337 000053b7 55538393 ",
+            "00732023 00200513",
+        ),
     ),
     // A store, and a load that drops its line.
     (
         "dirty",
-        &[
-            0x00000417, 0x04842023, 0x08042483, 0x00100337, 0x000053b7, 0x55538393, 0x00732023,
-        ],
+        "00000417 04842023 08042483 00100337 000053b7 55538393 00732023",
     ),
     // The smallest program with another word for the finisher.
-    ("fail", &[0x001002b7, 0x00073337, 0x33330313, 0x0062a023]),
+    ("fail", "001002b7 00073337 33330313 0062a023"),
     // A jump over a word, and behind it a byte for the console.
     (
         "jump",
-        &[
-            0x00700293, 0x0080006f, 0x00100313, 0x100003b7, 0x00538023, 0x00000013, 0x00000013,
-            0x00000013,
-        ],
+        "00700293 0080006f 00100313 100003b7 00538023 00000013 00000013 00000013",
     ),
     // A word that is no instruction, with its handler at 0.
-    ("zero", &[0x00000000]),
+    ("zero", "00000000"),
 ];
 
 /// The front of a linker's image: the headers of its attributes, its text of 84 bytes at
@@ -164,11 +149,11 @@ const UART_FRONT: [u8; 180] = [
 
 /// A driver that sets the divisor of the console, and then puts out its data up to the byte 0, each
 /// byte once the console is ready.
-const UART: [u32; 21] = [
-    0x10000437, 0x08300493, 0x009401a3, 0x00300493, 0x00940023, 0x000400a3, 0x009401a3, 0x00001597,
-    0xfe458593, 0x0005c603, 0x00060e63, 0x00544683, 0x0206f693, 0xfe068ce3, 0x00c40023, 0x00158593,
-    0xfe5ff06f, 0x00100337, 0x000053b7, 0x55538393, 0x00732023,
-];
+const UART: &str = concat!(
+    "10000437 08300493 009401a3 00300493 00940023 000400a3 009401a3 00001597 ",
+    "fe458593 0005c603 00060e63 00544683 0206f693 fe068ce3 00c40023 00158593 ",
+    "fe5ff06f 00100337 000053b7 55538393 00732023",
+);
 
 /// Machine files by their names.
 const MACHINES: [(&str, &str); 13] = [
@@ -285,7 +270,7 @@ const MACHINES: [(&str, &str); 13] = [
     ),
 ];
 
-fn programs() -> &'static [(&'static str, &'static [u32])] {
+fn programs() -> &'static [(&'static str, &'static str)] {
     &PROGRAMS
 }
 
@@ -304,7 +289,7 @@ pub fn files_of_runs(alloc: Global) -> Result<MemoryFiles, Fail> {
     }
     files.add("uart", uart(alloc)?.as_slice())?;
     files.add("flags", flagged(alloc)?.as_slice())?;
-    files.add("-", image_of(alloc, &super::SMALLEST_PASS)?.as_slice())?;
+    files.add("-", image_of(alloc, super::SMALLEST_PASS)?.as_slice())?;
     files.add("in", b"AB")?;
     files.add("nothing", b" \r\n")?;
     files.add("ahead", ahead(alloc)?.as_slice())?;
@@ -322,14 +307,14 @@ fn flagged(alloc: Global) -> Result<Vec<u8>, Fail> {
     front[68] = 16;
     front[72] = 16;
     let mut image = front.to_vec(alloc)?;
-    put_words(&mut image, &super::SMALLEST_PASS)?;
+    put_words(&mut image, super::SMALLEST_PASS)?;
     Ok(image)
 }
 
 /// The image of the driver.
 fn uart(alloc: Global) -> Result<Vec<u8>, Fail> {
     let mut image = UART_FRONT.to_vec(alloc)?;
-    put_words(&mut image, &UART)?;
+    put_words(&mut image, UART)?;
     image.extend_from_slice(b"Hi\n\0")?;
     Ok(image)
 }

@@ -700,7 +700,7 @@ fn check_on_one_thread<R: Threads + Wait + Sync + Abort>(
 /// Lines, their answers, and how many puts these take: output, its line feed, and one for each
 /// line of the report, or for each line of a debugger; of a sweep the name, how the run ended, and
 /// what it cost.
-const PUTS: [(&str, u8, u64); 6] = [
+const PUTS: [(&str, u8, u8); 6] = [
     ("func five --output 4", 3, 18),
     ("run five wide --output 4", 3, 26),
     ("sched five wide whole --output 4", 3, 26),
@@ -709,7 +709,7 @@ const PUTS: [(&str, u8, u64); 6] = [
     ("inorder five wide nothing --output 4", 3, 26),
 ];
 
-fn puts() -> &'static [(&'static str, u8, u64)] {
+fn puts() -> &'static [(&'static str, u8, u8)] {
     &PUTS
 }
 
@@ -727,7 +727,7 @@ fn each_put_that_fails_leaves_a_prefix(rt: HostRuntime) -> Result<(), Fail> {
             let is_cut = is_prefix(&rt, sink.bytes(), whole.bytes());
             let wanted = if is_cut { 15 } else { number };
             assert_eq!(rt; answered, wanted, "{text} {put}");
-            assert_eq!(rt; is_cut, put <= puts, "{text} {put}");
+            assert_eq!(rt; is_cut, put <= u64::from(puts), "{text} {put}");
         }
     }
     Ok(())

@@ -127,7 +127,7 @@ fn first_bad_line_of_a_script_is_told(rt: HostRuntime) -> Result<(), Fail> {
     let alloc = rt.alloc();
     for &(script, told) in refused() {
         let mut files = MemoryFiles::new(alloc);
-        files.add("pass", image_of(alloc, &SMALLEST_PASS)?.as_slice())?;
+        files.add("pass", image_of(alloc, SMALLEST_PASS)?.as_slice())?;
         files.add("script", script.as_bytes())?;
         check(&rt, alloc, "back pass script", &mut files, 21, told)?;
     }

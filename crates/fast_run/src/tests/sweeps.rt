@@ -1,7 +1,7 @@
 //! Lines of a sweep, against values worked out by hand from the machine's rules.
 use super::programs::files_of_runs;
-use super::{answer_with, check};
-use device_bus::{Console, Device, Finisher, Timer};
+use super::{answer_with, check, set_with};
+use device_bus::Console;
 use fsim_ports::{MemorySink, QuietGate};
 use std::test::Fail;
 
@@ -49,10 +49,7 @@ fn lines_stand_in_the_order_of_the_words(rt: HostRuntime) -> Result<(), Fail> {
 #[test]
 fn two_machines_and_one_set_of_devices(rt: HostRuntime) -> Result<(), Fail> {
     let alloc = rt.alloc();
-    let mut devices: Vec<Box<dyn Device + Send>> = Vec::new(alloc);
-    devices.push(Box::new(alloc, Console::new(alloc)?)?)?;
-    devices.push(Box::new(alloc, Timer::new())?)?;
-    devices.push(Box::new(alloc, Finisher::new())?)?;
+    let devices = set_with(alloc, Box::new(alloc, Console::new(alloc)?)?)?;
     let mut files = files_of_runs(alloc)?;
     let mut sink = MemorySink::new(alloc, 4096)?;
     let line = "sweep pass plain eight";

@@ -105,7 +105,7 @@ fn first_file_that_is_lacking_is_told(rt: HostRuntime) -> Result<(), Fail> {
     let alloc = rt.alloc();
     for &(text, answer) in lines() {
         let mut files = MemoryFiles::new(alloc);
-        files.add("a", image_of(alloc, &SMALLEST_PASS)?.as_slice())?;
+        files.add("a", image_of(alloc, SMALLEST_PASS)?.as_slice())?;
         files.add("m", b"")?;
         check(&rt, alloc, text, &mut files, 13, answer)?;
     }
