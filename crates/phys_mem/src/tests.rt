@@ -41,7 +41,7 @@ fn store(
 }
 
 /// Stands for a byte outside RAM.
-const NO: u32 = 0x100;
+const OUT: u32 = 0x100;
 
 /// Address, width and value of a store, what stood there, and the bytes around it then.
 static EDGES: [(u32, Width, u32, Option<u32>, [u32; 12]); 12] = [
@@ -50,21 +50,21 @@ static EDGES: [(u32, Width, u32, Option<u32>, [u32; 12]); 12] = [
         Width::Byte,
         0x1234_56ab,
         Some(0),
-        [NO, NO, NO, NO, 0xab, 0, 0, 0, 0, 0, 0, 0],
+        [OUT, OUT, OUT, OUT, 0xab, 0, 0, 0, 0, 0, 0, 0],
     ),
     (
         0x8000_0000,
         Width::Half,
         0x1234_56cd,
         Some(0xab),
-        [NO, NO, NO, NO, 0xcd, 0x56, 0, 0, 0, 0, 0, 0],
+        [OUT, OUT, OUT, OUT, 0xcd, 0x56, 0, 0, 0, 0, 0, 0],
     ),
     (
         0x8000_0000,
         Width::Word,
         0x8765_4321,
         Some(0x56cd),
-        [NO, NO, NO, NO, 0x21, 0x43, 0x65, 0x87, 0, 0, 0, 0],
+        [OUT, OUT, OUT, OUT, 0x21, 0x43, 0x65, 0x87, 0, 0, 0, 0],
     ),
     (
         0x8000_0ffc,
@@ -99,35 +99,39 @@ static EDGES: [(u32, Width, u32, Option<u32>, [u32; 12]); 12] = [
         Width::Word,
         0xa1a2_a3a4,
         Some(0),
-        [0, 0, 0, 0, 0xa4, 0xa3, 0xa2, 0xa1, NO, NO, NO, NO],
+        [0, 0, 0, 0, 0xa4, 0xa3, 0xa2, 0xa1, OUT, OUT, OUT, OUT],
     ),
     (
         0x8000_1ffe,
         Width::Half,
         0x0000_b1b2,
         Some(0xa1a2),
-        [0, 0, 0xa4, 0xa3, 0xb2, 0xb1, NO, NO, NO, NO, NO, NO],
+        [0, 0, 0xa4, 0xa3, 0xb2, 0xb1, OUT, OUT, OUT, OUT, OUT, OUT],
     ),
     (
         0x8000_1fff,
         Width::Byte,
         0xc1,
         Some(0xb1),
-        [0, 0xa4, 0xa3, 0xb2, 0xc1, NO, NO, NO, NO, NO, NO, NO],
+        [0, 0xa4, 0xa3, 0xb2, 0xc1, OUT, OUT, OUT, OUT, OUT, OUT, OUT],
     ),
     (
         0x8000_2000,
         Width::Byte,
         1,
         None,
-        [0xa4, 0xa3, 0xb2, 0xc1, NO, NO, NO, NO, NO, NO, NO, NO],
+        [
+            0xa4, 0xa3, 0xb2, 0xc1, OUT, OUT, OUT, OUT, OUT, OUT, OUT, OUT,
+        ],
     ),
     (
         0x7fff_fffc,
         Width::Word,
         1,
         None,
-        [NO, NO, NO, NO, NO, NO, NO, NO, 0x21, 0x43, 0x65, 0x87],
+        [
+            OUT, OUT, OUT, OUT, OUT, OUT, OUT, OUT, 0x21, 0x43, 0x65, 0x87,
+        ],
     ),
 ];
 
@@ -216,13 +220,7 @@ fn after_sync() -> &'static [(u32, Option<u32>)] {
 }
 
 /// Ten bytes of text, then two of nothing, then data on the same page.
-#[test]
-fn text_beside_data(rt: HostRuntime) -> Result<(), Fail> {
-    let alloc = rt.alloc();
-    let range = RamRange {
-        base: 0x8000_0000,
-        size: 0x3000,
-    };
+fn text_and_data(alloc: Global) -> Result<Vec<Segment>, Fail> {
     let text = Segment {
         index: 0,
         addr: 0x8000_1000,
@@ -237,7 +235,17 @@ fn text_beside_data(rt: HostRuntime) -> Result<(), Fail> {
         exec: false,
         bytes: Bytes::new([1, 2, 3, 4].to_vec(alloc)?),
     };
-    let mut ram = ram(&rt, alloc, range, vec![in alloc; text, data]?)?;
+    Ok(vec![in alloc; text, data]?)
+}
+
+#[test]
+fn text_beside_data(rt: HostRuntime) -> Result<(), Fail> {
+    let alloc = rt.alloc();
+    let range = RamRange {
+        base: 0x8000_0000,
+        size: 0x3000,
+    };
+    let mut ram = ram(&rt, alloc, range, text_and_data(alloc)?)?;
     for &(addr, text, word) in before_sync() {
         assert!(rt; addr % 4 == 0);
         assert_eq!(rt;
