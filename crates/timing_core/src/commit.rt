@@ -176,7 +176,9 @@ impl TimingCore {
         }
     }
 
-    /// The oldest slot does what it does in this phase.
+    /// The oldest slot does what it does in this phase. Most cycles end it at a slot that isn't
+    /// done, which is seen without a call.
+    #[inline(always)]
     fn leave(&mut self) -> Leaving
         ensures kept { (s : Setup) (t : Timing) → CoreStandsFor s t self.old → IsAlmostSmall t
             → CoreStandsFor s (behind_of t (leaving s t)) self.new }
@@ -205,7 +207,8 @@ impl TimingCore {
         }
     }
 
-    /// The oldest slot, which is done, does what it does in this phase.
+    /// The oldest slot, which is done, does what it does in this phase. It stays a call.
+    #[inline(never)]
     fn leave_done(&mut self, slot: &Slot) -> Leaving
         requires oldest { slice_get self.old.flight.slots 0 ≡ Some slot.now }
         ensures kept { (s : Setup) (t : Timing) → CoreStandsFor s t self.old → IsAlmostSmall t →
