@@ -19,8 +19,9 @@ use Rattle.machine_laws.proofs.OrderSteps.{needed_is}
 use Rattle.machine_laws.proofs.Stopping.{halted_machine}
 use Rattle.time_model.specs.declared.state.TimeState.{TimeState}
 use Rattle.time_model.specs.declared.turn.Turn.{Turn}
-use Rattle.time_model.specs.declared.turn.Turn.TheVariants.{Ordered, Want, Halted}
+use Rattle.time_model.specs.declared.turn.Turn.TheVariants.{Moved, Ordered, Want, CycleEnd, Halted}
 use Rattle.time_model.specs.Turns.{turn_told, order_told}
+use Rattle.time_model.specs.Running.{is_silent, IsSilent, start, more, IsRun, Steps}
 use Rattle.time_model.proofs.Turns.{told_turn}
 use Rattle.time_model.specs.Standing.{TimeSideStandsFor, IsStep, IsMade, IsRight, is_told_out, wants_in}
 use Rattle.time_model.proofs.Owing.{stands_wants}
@@ -100,7 +101,7 @@ goes_on None interrupting is = cc
 goes_on None committing is = cc
 goes_on None completing is = cc
 goes_on None issuing is = cc
-goes_on None (trying more) is = cc
+goes_on None (trying allowed) is = cc
 goes_on None ending is = cc
 goes_on None stopping is = cc
 goes_on None halted is = cc
@@ -162,11 +163,11 @@ module _ (end : TimeAt) (side new : TimeState) (hand : Option Order) (is_halted 
   stepped = by_lack (needs_entry (place end.setup is.steps) && is_none side.held) refl
 
   -- a step that tells an order
-  pub time_tells : (o : Order) → turn ≡ Ordered o → IsTimeAt end new (Some o) is_halted
+  time_tells : (o : Order) → turn ≡ Ordered o → IsTimeAt end new (Some o) is_halted
   time_tells o ordered = time_with end new (order_told turn) (Some o) is_halted (ap order_told ordered) stepped
 
   -- and one that tells none
-  pub time_moves : (what : Turn) → turn ≡ what → order_told what ≡ None → IsTimeAt end new hand is_halted
+  time_moves : (what : Turn) → turn ≡ what → order_told what ≡ None → IsTimeAt end new hand is_halted
   time_moves what same told = time_with end new (order_told turn) hand is_halted (ap order_told same ∙ told ∙ sym none) stepped
 
   halts_over : turn ≡ Halted → (b : Bool) → is_told_out (place end.setup is.steps) ≡ b → (needs_entry (place end.setup is.steps) && is_none side.held) ≡ false → IsTimeAt end new hand true
@@ -185,8 +186,41 @@ module _ (end : TimeAt) (side new : TimeState) (hand : Option Order) (is_halted 
   halts_lack halts false fed = halts_over halts (is_told_out (place end.setup is.steps)) refl fed
 
   -- the run is over
-  pub time_halts : turn ≡ Halted → IsTimeAt end new hand true
+  time_halts : turn ≡ Halted → IsTimeAt end new hand true
   time_halts halts = halts_lack halts (needs_entry (place end.setup is.steps) && is_none side.held) refl
+
+silent_told : (turn : Turn) → is_silent turn ≡ true → order_told turn ≡ None
+silent_told Moved is = refl
+silent_told (Ordered o) is = cc
+silent_told Want is = cc
+silent_told CycleEnd is = refl
+silent_told Halted is = cc
+
+-- steps that tell no order
+time_passes : (end : TimeAt) (side behind : TimeState) (hand : Option Order) (is_halted : Bool) → hand ≡ None → IsTimeAt end side hand is_halted → IsSilent Steps side behind →
+    IsTimeAt end behind hand is_halted
+time_passes end side _ hand is_halted none is start = is
+time_passes end side _ hand is_halted none is (more mid new turn rest made silent) =
+    let at : IsTimeAt end mid hand is_halted = time_passes end side mid hand is_halted none is rest in
+    time_moves end mid new hand is_halted turn none at (made end.setup at.steps at.sound at.stands) turn refl (silent_told turn silent)
+
+-- several steps, by what the last one did
+module _ (end : TimeAt) (side new : TimeState) (hand : Option Order) (is_halted : Bool) (turn : Turn) (none : hand ≡ None)
+    (is : IsTimeAt end side hand is_halted) (ran : IsRun Steps side new turn) where
+  before_last : IsTimeAt end ran.behind hand is_halted
+  before_last = time_passes end side ran.behind hand is_halted none is ran.silent
+
+  last_made : IsStep end.setup before_last.steps ran.behind new turn
+  last_made = ran.last end.setup before_last.steps before_last.sound before_last.stands
+
+  pub run_tells : (o : Order) → turn ≡ Ordered o → IsTimeAt end new (Some o) is_halted
+  run_tells = time_tells end ran.behind new hand is_halted turn none before_last last_made
+
+  pub run_moves : (what : Turn) → turn ≡ what → order_told what ≡ None → IsTimeAt end new hand is_halted
+  run_moves = time_moves end ran.behind new hand is_halted turn none before_last last_made
+
+  pub run_halts : turn ≡ Halted → IsTimeAt end new hand true
+  run_halts = time_halts end ran.behind new hand is_halted turn none before_last last_made
 
 -- where it is halted the machine is the one behind all cycles
 module _ (end : TimeAt) (side : TimeState) (hand : Option Order) (is : IsTimeAt end side hand true) where

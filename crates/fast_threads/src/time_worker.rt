@@ -97,7 +97,7 @@ impl<K: Named> TimeWorker<K> {
         self.side.stats()
     }
 
-    /// A turn: the order in hand is sent, or else the entry taken that the side needs, or a step
+    /// A turn: the order in hand is sent, or else the entry taken that the side needs, or steps are
     /// made. Says whether there was anything to do.
     pub fn turn(&mut self) -> bool
         ensures setup { self.new.setup ≡ self.old.setup }
@@ -139,12 +139,12 @@ impl<K: Named> TimeWorker<K> {
         true
     }
 
-    /// Makes a step of the side, where no order is in hand.
+    /// Makes steps of the side up to the next order or want, where no order is in hand.
     fn step(&mut self)
         requires none { self.old.hand ≡ None }
         ensures setup { self.new.setup ≡ self.old.setup }
     {
-        match self.side.step() {
+        match self.side.run() {
             Turn::Ordered(order) => self.hand = Some(order),
             Turn::Halted => self.is_halted = true,
             Turn::Moved => {}

@@ -1,40 +1,40 @@
 use Rattle.std.proofs.Common.{◌∙◌, refl, ap}
 use Rattle.time_model.specs.declared.turn.Turn.TheVariants.{Moved, Want, CycleEnd}
 use Rattle.fast_threads.specs.Workers.{TimeWork}
-use Rattle.fast_threads.proofs.Timing.{time_tells, time_moves, time_halts}
+use Rattle.fast_threads.proofs.Timing.{run_tells, run_moves, run_halts}
 use Rattle.fast_threads.proofs.time_worker.TimeWorker.step.Goals as goal
 
 pub invariant_of-self : goal.invariant_of-self
 invariant_of-self g c =
     let old = c.self.inside in
     let is = c.self.invariant in
-    time_tells old.end old.side c.step.new.self old.hand old.is_halted c.step.result (ap (λ (w : TimeWork). w.hand) c.self.view_is ∙ c.requires.none) is
-    (c.step.ensures.made old.end.setup is.steps is.sound is.stands) c.in-Ordered.order c.in-Ordered.is
+    run_tells old.end old.side c.run.new.self old.hand old.is_halted c.run.result (ap (λ (w : TimeWork). w.hand) c.self.view_is ∙ c.requires.none) is
+    c.run.ensures.made c.in-Ordered.order c.in-Ordered.is
 
 pub invariant_of-self-in-Halted : goal.invariant_of-self-in-Halted
 invariant_of-self-in-Halted g c =
     let old = c.self.inside in
     let is = c.self.invariant in
-    time_halts old.end old.side c.step.new.self old.hand old.is_halted c.step.result (ap (λ (w : TimeWork). w.hand) c.self.view_is ∙ c.requires.none) is
-    (c.step.ensures.made old.end.setup is.steps is.sound is.stands) c.in-Halted.is
+    run_halts old.end old.side c.run.new.self old.hand old.is_halted c.run.result (ap (λ (w : TimeWork). w.hand) c.self.view_is ∙ c.requires.none) is
+    c.run.ensures.made c.in-Halted.is
 
 pub invariant_of-self-in-Moved : goal.invariant_of-self-in-Moved
 invariant_of-self-in-Moved g c =
     let old = c.self.inside in
     let is = c.self.invariant in
-    time_moves old.end old.side c.step.new.self old.hand old.is_halted c.step.result (ap (λ (w : TimeWork). w.hand) c.self.view_is ∙ c.requires.none) is
-    (c.step.ensures.made old.end.setup is.steps is.sound is.stands) Moved c.in-Moved.is refl
+    run_moves old.end old.side c.run.new.self old.hand old.is_halted c.run.result (ap (λ (w : TimeWork). w.hand) c.self.view_is ∙ c.requires.none) is
+    c.run.ensures.made Moved c.in-Moved.is refl
 
 pub invariant_of-self-in-Want : goal.invariant_of-self-in-Want
 invariant_of-self-in-Want g c =
     let old = c.self.inside in
     let is = c.self.invariant in
-    time_moves old.end old.side c.step.new.self old.hand old.is_halted c.step.result (ap (λ (w : TimeWork). w.hand) c.self.view_is ∙ c.requires.none) is
-    (c.step.ensures.made old.end.setup is.steps is.sound is.stands) Want c.in-Want.is refl
+    run_moves old.end old.side c.run.new.self old.hand old.is_halted c.run.result (ap (λ (w : TimeWork). w.hand) c.self.view_is ∙ c.requires.none) is
+    c.run.ensures.made Want c.in-Want.is refl
 
 pub invariant_of-self-in-CycleEnd : goal.invariant_of-self-in-CycleEnd
 invariant_of-self-in-CycleEnd g c =
     let old = c.self.inside in
     let is = c.self.invariant in
-    time_moves old.end old.side c.step.new.self old.hand old.is_halted c.step.result (ap (λ (w : TimeWork). w.hand) c.self.view_is ∙ c.requires.none) is
-    (c.step.ensures.made old.end.setup is.steps is.sound is.stands) CycleEnd c.in-CycleEnd.is refl
+    run_moves old.end old.side c.run.new.self old.hand old.is_halted c.run.result (ap (λ (w : TimeWork). w.hand) c.self.view_is ∙ c.requires.none) is
+    c.run.ensures.made CycleEnd c.in-CycleEnd.is refl
