@@ -80,11 +80,11 @@ time_takes end behind side new e hand is_halted is taken stands =
 -- is the one that is needed
 module _ (end : TimeAt) (side : TimeState) (e : Entry) (hand : Option Order) (is_halted : Bool) (is : IsTimeAt end side hand is_halted)
     (named : IsNamed end.setup e) (wants : wants_in side ≡ true) (number : e.number ≡ next (place end.setup is.steps).run.demand) where
-  pub time_needs : e.epoch ≡ side.epoch → e ≡ needed_entry end.setup (place end.setup is.steps)
+  pub time_needs : e.epoch ≡ side.telling.epoch → e ≡ needed_entry end.setup (place end.setup is.steps)
   time_needs epoch =
       let s = end.setup in
       let p = place s is.steps in
-      let needs : needs_entry p ≡ true = (and_parts (needs_entry p) (is_none side.held) (sym (stands_wants s is.steps side is.stands) ∙ wants)).0 in
+      let needs : needs_entry p ≡ true = (and_parts (needs_entry p) (is_none side.telling.held) (sym (stands_wants s is.steps side is.stands) ∙ wants)).0 in
       needed_is s is.steps e (setup_facts s is.sound).some_cycle needs named (epoch ∙ is.stands.epoch) number
 
   pub time_right : IsRight e side
@@ -148,19 +148,19 @@ module _ (end : TimeAt) (side new : TimeState) (hand : Option Order) (is_halted 
         over = λ halts. cc (is.over halts, on);
       })
 
-  by_over : (b : Bool) → is_told_out (place end.setup is.steps) ≡ b → (needs_entry (place end.setup is.steps) && is_none side.held) ≡ false → Stepped
+  by_over : (b : Bool) → is_told_out (place end.setup is.steps) ≡ b → (needs_entry (place end.setup is.steps) && is_none side.telling.held) ≡ false → Stepped
   by_over true over fed = let it = made.rests over in stays (ap order_told it.0) it.1
   by_over false on fed = goes (made.goes fed on) on
 
-  by_lack : (b : Bool) → (needs_entry (place end.setup is.steps) && is_none side.held) ≡ b → Stepped
+  by_lack : (b : Bool) → (needs_entry (place end.setup is.steps) && is_none side.telling.held) ≡ b → Stepped
   by_lack true lacks =
-      let parts = and_parts (needs_entry (place end.setup is.steps)) (is_none side.held) lacks in
-      let it = made.waits parts.0 (none_held side.held parts.1) in
+      let parts = and_parts (needs_entry (place end.setup is.steps)) (is_none side.telling.held) lacks in
+      let it = made.waits parts.0 (none_held side.telling.held parts.1) in
       stays (ap order_told it.0) it.1
   by_lack false fed = by_over (is_told_out (place end.setup is.steps)) refl fed
 
   stepped : Stepped
-  stepped = by_lack (needs_entry (place end.setup is.steps) && is_none side.held) refl
+  stepped = by_lack (needs_entry (place end.setup is.steps) && is_none side.telling.held) refl
 
   -- a step that tells an order
   time_tells : (o : Order) → turn ≡ Ordered o → IsTimeAt end new (Some o) is_halted
@@ -170,24 +170,24 @@ module _ (end : TimeAt) (side new : TimeState) (hand : Option Order) (is_halted 
   time_moves : (what : Turn) → turn ≡ what → order_told what ≡ None → IsTimeAt end new hand is_halted
   time_moves what same told = time_with end new (order_told turn) hand is_halted (ap order_told same ∙ told ∙ sym none) stepped
 
-  halts_over : turn ≡ Halted → (b : Bool) → is_told_out (place end.setup is.steps) ≡ b → (needs_entry (place end.setup is.steps) && is_none side.held) ≡ false → IsTimeAt end new hand true
+  halts_over : turn ≡ Halted → (b : Bool) → is_told_out (place end.setup is.steps) ≡ b → (needs_entry (place end.setup is.steps) && is_none side.telling.held) ≡ false → IsTimeAt end new hand true
   halts_over halts true over fed =
       let it = made.rests over in
       let P : TimeState → Type 0 = λ t. IsTimeAt end t hand true in
       subst P (sym it.1) (record { sound = is.sound; steps = is.steps; stands = is.stands; orders = is.orders; next = is.next; over = λ h. over })
   halts_over halts false on fed = absurd (goes_on _ _ (sym (made.goes fed on).turn_is ∙ halts))
 
-  halts_lack : turn ≡ Halted → (b : Bool) → (needs_entry (place end.setup is.steps) && is_none side.held) ≡ b → IsTimeAt end new hand true
+  halts_lack : turn ≡ Halted → (b : Bool) → (needs_entry (place end.setup is.steps) && is_none side.telling.held) ≡ b → IsTimeAt end new hand true
   halts_lack halts true lacks =
-      let parts = and_parts (needs_entry (place end.setup is.steps)) (is_none side.held) lacks in
-      let it = made.waits parts.0 (none_held side.held parts.1) in
+      let parts = and_parts (needs_entry (place end.setup is.steps)) (is_none side.telling.held) lacks in
+      let it = made.waits parts.0 (none_held side.telling.held parts.1) in
       let e : Want ≡ Halted = sym it.0 ∙ halts in
       cc e
   halts_lack halts false fed = halts_over halts (is_told_out (place end.setup is.steps)) refl fed
 
   -- the run is over
   time_halts : turn ≡ Halted → IsTimeAt end new hand true
-  time_halts halts = halts_lack halts (needs_entry (place end.setup is.steps) && is_none side.held) refl
+  time_halts halts = halts_lack halts (needs_entry (place end.setup is.steps) && is_none side.telling.held) refl
 
 silent_told : (turn : Turn) → is_silent turn ≡ true → order_told turn ≡ None
 silent_told Moved is = refl

@@ -14,16 +14,16 @@ use Rattle.inorder_model.specs.At.{at_in}
 use Rattle.inorder_model.specs.Standing.{InorderStandsFor, wants_in}
 use Rattle.inorder_model.specs.Turning.{over_in}
 
-pub stands_owed : (s : Setup) (k : ℕ) (side : InorderState) → InorderStandsFor s k side → is_none side.owed ≡ ((lane_place s k).owed == 0)
+pub stands_owed : (s : Setup) (k : ℕ) (side : InorderState) → InorderStandsFor s k side → is_none side.telling.owed ≡ ((lane_place s k).owed == 0)
 unfolding lane_held_at
-stands_owed s k side h = owed_none (seen s k) (place_owes s k) side.owed h.owed
+stands_owed s k side h = owed_none (seen s k) (place_owes s k) side.telling.owed h.owed
 
-pub stands_wants : (s : Setup) (k : ℕ) (side : InorderState) → InorderStandsFor s k side → wants_in side ≡ (needs_entry (seen s k) && is_none side.held)
+pub stands_wants : (s : Setup) (k : ℕ) (side : InorderState) → InorderStandsFor s k side → wants_in side ≡ (needs_entry (seen s k) && is_none side.telling.held)
 unfolding wants_in
 stands_wants s k side h =
-    ap (λ (b : Bool). b && is_try (seen_at (at_in side.at)) && is_none side.held) (stands_owed s k side h)
-    ∙ ap (λ (at : LaneAt). ((lane_place s k).owed == 0) && is_try (seen_at at) && is_none side.held) h.at
-    ∙ ap (λ (b : Bool). b && is_none side.held) (and_if ((lane_place s k).owed == 0) (is_try (seen_at (lane_place s k).run.at)))
+    ap (λ (b : Bool). b && is_try (seen_at (at_in side.at)) && is_none side.telling.held) (stands_owed s k side h)
+    ∙ ap (λ (at : LaneAt). ((lane_place s k).owed == 0) && is_try (seen_at at) && is_none side.telling.held) h.at
+    ∙ ap (λ (b : Bool). b && is_none side.telling.held) (and_if ((lane_place s k).owed == 0) (is_try (seen_at (lane_place s k).run.at)))
 
 pub stands_over : (s : Setup) (k : ℕ) (side : InorderState) → InorderStandsFor s k side → over_in side ≡ is_told_out (seen s k)
 stands_over s k side h =

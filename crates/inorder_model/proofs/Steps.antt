@@ -12,7 +12,7 @@ use Rattle.timing_core.specs.declared.orders.Orders.{Orders}
 use Rattle.timing_core.specs.Orders.{newest_first}
 use Rattle.time_model.specs.declared.turn.Turn.{Turn}
 use Rattle.time_model.specs.Standing.{owed_in, is_told_out}
-use Rattle.time_model.specs.Turning.{behind_first, owed_by, epoch_by, kept_by}
+use Rattle.time_model.specs.Telling.{behind_first, kept_by, told_behind}
 use Rattle.time_model.proofs.Steps.{goes_on, held_needed, raised, raised_is, epoch_is, kept_is}
 use Rattle.lane_model.specs.Demand.{LaneAt, lane_place, seen}
 use Rattle.lane_laws.proofs.Owing.{place_owes, place_stepped}
@@ -90,28 +90,32 @@ due_lane s k = sym (tell_lane (turned_at s k).orders) ∙ ap (λ (x : timing.Lan
     tell_lane [] = refl
     tell_lane (o ∷ os) = refl
 
+-- a side behind the first of a turn's orders
+abbrev pub told_side : InorderState → Orders → InorderState
+told_side mid orders = record mid { telling = told_behind orders mid.telling }
+
 -- a step that is made
 pub step_made : (s : Setup) (k : ℕ) (old mid : InorderState) (orders : Orders) (turn : Turn) → IsInorder s → InorderStandsFor s k old → is_told_out (seen s k) ≡ false → IsTold s k old mid orders →
-    mid.epoch ≡ old.epoch → turn ≡ turn_told orders.first (at_in old.at) →
-    IsMade s k old (record mid { owed = owed_by orders; epoch = epoch_by orders.first mid.epoch; held = kept_by orders.first mid.held }) turn
+    mid.telling.epoch ≡ old.telling.epoch → turn ≡ turn_told orders.first (at_in old.at) →
+    IsMade s k old (told_side mid orders) turn
 unfolding lane_held_at
 step_made s k old mid orders turn allowed h on due same turn_is =
     let p = seen s k in
     let q = seen s (suc k) in
     let is = told_step s k mid orders due.made in
     let told_is : orders.first ≡ told_by p q = ap (λ (x : timing.LaneStepped). x.told) is in
-    let held_is : kept_by orders.first mid.held ≡ held_after (told_by p q) p q old.held =
-    ap (λ (m : Option Entry). kept_by orders.first m) due.held ∙ kept_is (opens orders.first) (has_appended p q) old.held
-    ∙ ap (λ (o : Option Order). held_after o p q old.held) told_is in
-    let epoch : mid.epoch ≡ openings (told p) = same ∙ h.epoch in
-    let small : mid.epoch ≤ 2 ^ 44 = omega (arith, epoch, epoch_small s k allowed) in
+    let held_is : kept_by orders.first mid.telling.held ≡ held_after (told_by p q) p q old.telling.held =
+    ap (λ (m : Option Entry). kept_by orders.first m) due.held ∙ kept_is (opens orders.first) (has_appended p q) old.telling.held
+    ∙ ap (λ (o : Option Order). held_after o p q old.telling.held) told_is in
+    let epoch : mid.telling.epoch ≡ openings (told p) = same ∙ h.epoch in
+    let small : mid.telling.epoch ≤ 2 ^ 44 = omega (arith, epoch, epoch_small s k allowed) in
     record {
       stands = record {
         lane = subst (λ (l : LaneTiming). LaneStandsFor s l mid.lane) (due_lane s k) due.made.lane;
         at = due.made.at ∙ ap (λ (x : timing.LaneStepped). x.place.at) is;
         owed = ap (λ (x : timing.LaneStepped). x.place.owed) is;
-        epoch = epoch_is (opens orders.first) mid.epoch small ∙ ap (λ (e : ℕ). raised orders.first e) epoch ∙ ap (λ (x : timing.LaneStepped). x.place.epoch) is;
-        held = λ all. subst (λ (e : Option Entry). IfSome e (λ e. e ≡ needed_entry s q)) (sym held_is) (held_needed s p q (next_stepped s k on) old.held h.held all);
+        epoch = epoch_is (opens orders.first) mid.telling.epoch small ∙ ap (λ (e : ℕ). raised orders.first e) epoch ∙ ap (λ (x : timing.LaneStepped). x.place.epoch) is;
+        held = λ all. subst (λ (e : Option Entry). IfSome e (λ e. e ≡ needed_entry s q)) (sym held_is) (held_needed s p q (next_stepped s k on) old.telling.held h.held all);
       };
       held = held_is;
       turn_is = turn_is ∙ ap (λ (o : Option Order). turn_told o (at_in old.at)) told_is ∙ ap (λ (at : LaneAt). turn_told (told_by p q) at) h.at;

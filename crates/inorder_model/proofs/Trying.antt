@@ -11,7 +11,7 @@ use Rattle.inorder_model.specs.Turning.{MayTry}
 use Rattle.inorder_model.proofs.Numbers.{held_room, held_behind}
 use Rattle.inorder_model.proofs.Sides.{try_holds}
 
-pub may_try : (side : InorderState) → IsStanding side → side.owed ≡ None → wants_in side ≡ false → is_try (seen_at (at_in side.at)) ≡ true → MayTry side
+pub may_try : (side : InorderState) → IsStanding side → side.telling.owed ≡ None → wants_in side ≡ false → is_try (seen_at (at_in side.at)) ≡ true → MayTry side
 may_try side is none free try =
     let s = is.setup in
     let h = is.stands in

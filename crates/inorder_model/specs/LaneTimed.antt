@@ -15,8 +15,8 @@ lane_timed = record {
   run = lane_demand_run;
   stands = InorderStandsFor;
   wants = wants_in;
-  held = λ side. side.held;
-  epoch = λ side. side.epoch;
+  held = λ side. side.telling.held;
+  epoch = λ side. side.telling.epoch;
   rounds = lane_boundary_rounds;
 }
 

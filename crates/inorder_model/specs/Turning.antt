@@ -18,12 +18,12 @@ use Rattle.inorder_model.specs.LaneStandsFor.{LaneStandsFor}
 
 -- the run is over, and all is told
 abbrev pub over_in : InorderState → Bool
-over_in side = is_none side.owed && is_halted (seen_at (at_in side.at))
+over_in side = is_none side.telling.owed && is_halted (seen_at (at_in side.at))
 
 -- the held entry may be tried: the window has room, and the entry follows the youngest slot
 pub record MayTry (side : InorderState) : Type 0 where
   pub entry : Entry
-  pub held : side.held ≡ Some entry
+  pub held : side.telling.held ≡ Some entry
   pub room : length side.lane.core.flight.slots < side.lane.core.flight.capacity
   pub next : IfSome (youngest side.lane.core.flight.slots) (λ last. entry.number ≡ last.number + 1)
 
@@ -44,4 +44,4 @@ turned_at s k = turned_by s (needed_entry s (seen s k)) (lane_held_at s (lane_pl
 
 pub record IsTold (s : Setup) (k : ℕ) (old new : InorderState) (told : Orders) : Type 0 where
   pub made : IsTurned s (turned_at s k) new told
-  pub held : new.held ≡ (if has_appended (seen s k) (seen s (suc k)) then None else old.held)
+  pub held : new.telling.held ≡ (if has_appended (seen s k) (seen s (suc k)) then None else old.telling.held)

@@ -1,8 +1,3 @@
-ghost use Rattle.std.specs.Prelude.{◌≡◌};
-ghost use Rattle.inorder_model.specs.At.{at_in, turn_untold};
-
-use time_model::Turn;
-
 /// Which turn comes next.
 #[derive(Clone, Copy, Debug, PartialEq, Eq)]
 pub enum At {
@@ -24,14 +19,4 @@ pub enum At {
     Stopping,
     /// The run is over.
     Halted,
-}
-
-/// What a step did that was made and told no order, where this turn came next before it.
-pub(crate) fn untold(at: At) -> Turn
-    ensures turn { result ≡ turn_untold (at_in at) }
-{
-    match at {
-        At::Ending => Turn::CycleEnd,
-        _ => Turn::Moved,
-    }
 }

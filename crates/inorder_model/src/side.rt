@@ -5,7 +5,7 @@ use fsim_base::NoMemory;
 use mono_model::{End, Setup, Stats};
 use std::alloc::Global;
 use std::marker::Model;
-use time_model::{Taken, Turn};
+use time_model::{Stepping, Taken, Turn};
 use trace_entry::Entry;
 
 /// No call of [`InorderSide::run`] makes more steps.
@@ -45,7 +45,7 @@ impl InorderSide {
     pub fn new(alloc: Global, setup: &Setup) -> Result<InorderSide, NoMemory>
         requires sound { IsInorder setup.now }
         ensures stands { IfOk result (λ side. InorderStandsFor setup.now 0 side) }
-        ensures empty { IfOk result (λ side. side.held ≡ None) }
+        ensures empty { IfOk result (λ side. side.telling.held ≡ None) }
     {
         let state = InorderState::new(alloc, setup)?;
         Ok(InorderSide { state })
@@ -73,7 +73,7 @@ impl InorderSide {
     pub fn wants(&self) -> bool
         ensures wants { result ≡ wants_in self.now }
         ensures needs { (s : RunSetup) (k : ℕ) → InorderStandsFor s k self.now
-            → result ≡ (needs_entry (seen s k) && is_none self.now.held) }
+            → result ≡ (needs_entry (seen s k) && is_none self.now.telling.held) }
     {
         self.state.wants()
     }
@@ -84,16 +84,16 @@ impl InorderSide {
         requires wants { wants_in self.old ≡ true }
         requires right { IsRight entry.now self.old }
         ensures stands { (s : RunSetup) (k : ℕ) → InorderStandsFor s k self.old
-            → (entry.now.epoch ≡ self.old.epoch → entry.now ≡ needed_entry s (seen s k))
+            → (entry.now.epoch ≡ self.old.telling.epoch → entry.now ≡ needed_entry s (seen s k))
             → InorderStandsFor s k self.new }
-        ensures used { result ≡ Taken.Used → self.new ≡ record self.old { held = Some entry.now } }
+        ensures used { result ≡ Taken.Used → self.new ≡ record self.old { telling = record self.old.telling { held = Some entry.now } } }
         ensures dropped { result ≡ Taken.Dropped → self.new ≡ self.old }
-        ensures by_epoch { (result ≡ Taken.Used) ↔ (entry.now.epoch ≡ self.old.epoch) }
+        ensures by_epoch { (result ≡ Taken.Used) ↔ (entry.now.epoch ≡ self.old.telling.epoch) }
     {
-        if entry.epoch != self.state.epoch {
+        if entry.epoch != self.state.telling.epoch {
             return Taken::Dropped;
         }
-        self.state.held = Some(*entry);
+        self.state.telling.held = Some(*entry);
         Taken::Used
     }
 

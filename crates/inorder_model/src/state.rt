@@ -1,13 +1,13 @@
 ghost use Rattle.std.specs.Prelude.{◌≡◌, ◌&&◌, ℕ, true, false, if◌then◌else◌, Some, None, IfOk};
 ghost use Rattle.std.specs.Prelude.{is_none, unwrap_or};
 
-use crate::at::{At, untold};
+use crate::at::At;
 use crate::lane::LaneCore;
 use fsim_base::NoMemory;
 use mono_model::Setup;
 use rollback_cmds::Order;
 use std::alloc::Global;
-use time_model::Turn;
+use time_model::{Stepping, Telling};
 use timing_core::Orders;
 use trace_entry::Entry;
 
@@ -18,12 +18,8 @@ pub struct InorderState {
     pub lane: LaneCore,
     /// The turn that comes next.
     pub at: At,
-    /// The order of the last turn that was not told yet.
-    pub owed: Option<Order>,
-    /// How many orders that open an epoch were told.
-    pub epoch: u64,
-    /// The entry of the instruction to fetch next, once it has arrived.
-    pub held: Option<Entry>,
+    /// What is still to be told, and the entry that has arrived.
+    pub telling: Telling,
 }
 
 impl InorderState {
@@ -34,7 +30,7 @@ impl InorderState {
     ghost use Rattle.mono_model.specs.Split.{is_cycle_start};
     ghost use Rattle.timing_core.specs.Small.{IsSmall};
     ghost use Rattle.timing_core.specs.Orders.{orders_in};
-    ghost use Rattle.time_model.specs.Turning.{held_by, owed_by, epoch_by, kept_by};
+    ghost use Rattle.time_model.specs.Turning.{held_by};
     ghost use Rattle.lane_model.specs.Demand.{seen_at, trying};
     ghost use Rattle.lane_side.specs.Timing.{LaneTiming};
     ghost use Rattle.lane_side.specs.Turn.{timing_lane_turn, at_after_write, at_after_issue};
@@ -43,48 +39,29 @@ impl InorderState {
     ghost use Rattle.inorder_model.specs.LaneStandsFor.{LaneStandsFor};
     ghost use Rattle.inorder_model.specs.Standing.{IsInorder, InorderStandsFor, IsStanding};
     ghost use Rattle.inorder_model.specs.Standing.{wants_in};
-    ghost use Rattle.time_model.specs.Running.{IsRun};
-    ghost use Rattle.inorder_model.specs.At.{turn_untold};
-    ghost use Rattle.inorder_model.specs.Running.{Steps};
     ghost use Rattle.inorder_model.specs.Turning.{MayTry, IsTurned, IsTold, over_in};
 
     /// Before the first step of a run. All memory is taken here.
     pub fn new(alloc: Global, setup: &Setup) -> Result<InorderState, NoMemory>
         requires sound { IsInorder setup.now }
         ensures stands { IfOk result (λ side. InorderStandsFor setup.now 0 side) }
-        ensures empty { IfOk result (λ side. side.held ≡ None) }
+        ensures empty { IfOk result (λ side. side.telling.held ≡ None) }
     {
         let lane = LaneCore::new(alloc, setup)?;
         Ok(InorderState {
             lane,
             at: At::Interrupting,
-            owed: None,
-            epoch: 0,
-            held: None,
+            telling: Telling::new(),
         })
-    }
-
-    /// Whether the step that comes next is a try whose entry is needed.
-    #[tactic(auto, unfolding(crate::specs::Standing::wants_in))]
-    pub fn wants(&self) -> bool
-        ensures wants { result ≡ wants_in self.now }
-    {
-        self.owed.is_none() && matches!(self.at, At::Trying) && self.held.is_none()
-    }
-
-    /// Whether the run is over, and all is told.
-    fn is_told_out(&self) -> bool
-        ensures over { result ≡ over_in self.now }
-    {
-        self.owed.is_none() && matches!(self.at, At::Halted)
     }
 
     /// Whether a cycle starts here, or the run has ended, with all orders told.
     pub fn at_boundary(&self) -> bool
         ensures boundary { result
-            ≡ (is_none self.now.owed && is_cycle_start (seen_at (at_in self.now.at))) }
+            ≡ (is_none self.now.telling.owed && is_cycle_start (seen_at (at_in self.now.at))) }
     {
-        self.owed.is_none() && matches!(self.at, At::Interrupting | At::Stopping | At::Halted)
+        self.telling.owed.is_none()
+            && matches!(self.at, At::Interrupting | At::Stopping | At::Halted)
     }
 
     /// What comes behind Write: where the run has ended the other phases are left out.
@@ -128,20 +105,24 @@ impl InorderState {
         requires tries { MayTry self.old }
         ensures made { (s : RunSetup) (l : LaneTiming) (e : SpecEntry)
             → LaneStandsFor s l self.old.lane
-            → IsSmall l.timing → self.old.held ≡ Some e →
+            → IsSmall l.timing → self.old.telling.held ≡ Some e →
             IsTurned s (timing_lane_turn s e trying l) self.new result }
         ensures held { (s : RunSetup) (l : LaneTiming) (e : SpecEntry)
             → LaneStandsFor s l self.old.lane
-            → IsSmall l.timing → self.old.held ≡ Some e → self.new.held
-            ≡ held_by (timing_lane_turn s e trying l).lane.timing l.timing self.old.held }
+            → IsSmall l.timing → self.old.telling.held ≡ Some e → self.new.telling.held
+            ≡ held_by (timing_lane_turn s e trying l).lane.timing l.timing self.old.telling.held }
         ensures others { self.new
-            ≡ record self.old { lane = self.new.lane; at = self.new.at; held = self.new.held } }
+            ≡ record self.old {
+              lane = self.new.lane;
+              at = self.new.at;
+              telling = record self.old.telling { held = self.new.telling.held };
+            } }
     {
-        let entry = self.held.unwrap();
+        let entry = self.telling.held.unwrap();
         let tried = self.lane.fetch(&entry);
         self.at = At::Ending;
         if tried.appended {
-            self.held = None;
+            self.telling.held = None;
         }
         tried.orders
     }
@@ -152,18 +133,22 @@ impl InorderState {
         ensures made { (s : RunSetup) (l : LaneTiming) (e : SpecEntry)
             → LaneStandsFor s l self.old.lane
             → IsSmall l.timing →
-            (is_try (seen_at (at_in self.old.at)) ≡ true → self.old.held ≡ Some e)
+            (is_try (seen_at (at_in self.old.at)) ≡ true → self.old.telling.held ≡ Some e)
             → IsTurned s (timing_lane_turn s e (at_in self.old.at) l) self.new result }
         ensures held { (s : RunSetup) (l : LaneTiming) (e : SpecEntry)
             → LaneStandsFor s l self.old.lane
             → IsSmall l.timing → is_try (seen_at (at_in self.old.at)) ≡ true
-            → self.old.held ≡ Some e → self.new.held
+            → self.old.telling.held ≡ Some e → self.new.telling.held
             ≡ held_by (timing_lane_turn s e (at_in self.old.at) l).lane.timing l.timing
-            self.old.held }
+            self.old.telling.held }
         ensures keeps { is_try (seen_at (at_in self.old.at)) ≡ false
-            → self.new.held ≡ self.old.held }
+            → self.new.telling.held ≡ self.old.telling.held }
         ensures others { self.new
-            ≡ record self.old { lane = self.new.lane; at = self.new.at; held = self.new.held } }
+            ≡ record self.old {
+              lane = self.new.lane;
+              at = self.new.at;
+              telling = record self.old.telling { held = self.new.telling.held };
+            } }
     {
         match self.at {
             At::Interrupting => {
@@ -217,71 +202,55 @@ impl InorderState {
             ≡ record self.old {
               lane = self.new.lane;
               at = self.new.at;
-              owed = None;
-              held = self.new.held;
+              telling = record self.old.telling { owed = None; held = self.new.telling.held };
             } }
     {
-        match self.owed.take() {
+        match self.telling.owed.take() {
             Some(order) => Orders::one(order),
             None => self.turn(),
         }
     }
+}
 
-    /// Tells the first of a turn's orders, and owes the second. Entries made before an order that
-    /// opens an epoch are of no use behind it, so the held one is dropped.
-    fn tell(&mut self, orders: Orders) -> Option<Order>
-        requires none { self.old.owed ≡ None }
-        ensures told { result ≡ orders.first }
-        ensures owed { self.new
-            ≡ record self.old {
-              owed = owed_by orders;
-              epoch = epoch_by orders.first self.old.epoch;
-              held = kept_by orders.first self.old.held;
-            } }
-    {
-        let order = orders.first?;
-        self.owed = orders.second;
-        if order.opens_epoch() {
-            self.epoch = self.epoch.saturating_add(1);
-            self.held = None;
-        }
-        Some(order)
+impl Stepping for InorderState {
+    ghost use Rattle.inorder_model.specs.At.{at_in, is_ending};
+    ghost use Rattle.inorder_model.specs.Running.{Steps};
+    ghost use Rattle.inorder_model.specs.Standing.{IsStanding, wants_in};
+    ghost use Rattle.inorder_model.specs.Turning.{over_in};
+
+    type At = At;
+
+    ghost stands = { IsStanding };
+
+    ghost steps = { Steps };
+
+    ghost waits = { wants_in };
+
+    ghost rests = { over_in };
+
+    ghost turn_next = { λ side. side.at };
+
+    ghost ends_cycle = { λ at. is_ending (at_in at) };
+
+    #[tactic(auto, unfolding(crate::specs::Standing::wants_in))]
+    fn wants(&self) -> bool {
+        self.telling.owed.is_none() && matches!(self.at, At::Trying) && self.telling.held.is_none()
     }
 
-    /// Makes one step of the demand run, if the entry that it needs is held. The result is what it
-    /// did, and None where it was made and told no order.
-    fn step(&mut self) -> Option<Turn>
-        requires standing { IsStanding self.old }
-        ensures made { Steps self.old self.new
-            (unwrap_or result (turn_untold (at_in self.old.at))) }
-    {
-        if self.wants() {
-            return Some(Turn::Want);
-        }
-        if self.is_told_out() {
-            return Some(Turn::Halted);
-        }
+    fn is_told_out(&self) -> bool {
+        self.telling.owed.is_none() && matches!(self.at, At::Halted)
+    }
+
+    fn advance(&mut self) -> Option<Order> {
         let orders = self.due();
-        let order = self.tell(orders)?;
-        Some(Turn::Ordered(order))
+        self.telling.tell(orders)
     }
 
-    /// Makes steps of the demand run, at least one and at most so many, up to the first that isn't
-    /// made or tells an order.
-    pub fn run(&mut self, most: u32) -> Turn
-        requires some { 0 < most }
-        requires standing { IsStanding self.old }
-        ensures made { IsRun Steps self.old self.new result }
-        ensures single { most ≡ 1 → Steps self.old self.new result }
-        ensures standing { IsStanding self.new }
-    {
-        let mut at = self.at;
-        for _ in 0..most {
-            at = self.at;
-            if let Some(turn) = self.step() {
-                return turn;
-            }
-        }
-        untold(at)
+    fn at(&self) -> At {
+        self.at
+    }
+
+    fn ends_cycle(at: At) -> bool {
+        matches!(at, At::Ending)
     }
 }

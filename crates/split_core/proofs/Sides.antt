@@ -39,7 +39,7 @@ right_on entry side is = record { setup = is.setup; sound = is.allowed; steps = 
 
 -- the side stands where it stood behind an entry that was taken
 taken_stands : (s : Setup) (k : ℕ) (entry : Entry) (old taken : TimeState) (answer : Taken) → (answer ≡ Used → taken ≡ holding entry old) → (answer ≡ Dropped → taken ≡ old) →
-    ((answer ≡ Used) ↔ (entry.epoch ≡ old.epoch)) → TimeSideStandsFor s k old → (entry.epoch ≡ old.epoch → entry ≡ needed_entry s (place s k)) → TimeSideStandsFor s k taken
+    ((answer ≡ Used) ↔ (entry.epoch ≡ old.telling.epoch)) → TimeSideStandsFor s k old → (entry.epoch ≡ old.telling.epoch → entry ≡ needed_entry s (place s k)) → TimeSideStandsFor s k taken
 taken_stands s k entry old taken Used used dropped by_epoch h right = subst (TimeSideStandsFor s k) (sym (used refl)) (holding_stands s k entry old h (right (by_epoch.0 refl)))
 taken_stands s k entry old taken Dropped used dropped by_epoch h right = subst (TimeSideStandsFor s k) (sym (dropped refl)) h
 
@@ -48,7 +48,7 @@ fed_on entry old new turn is = record {
   answer = is.answer;
   taken = is.taken;
   stands = λ s k h right. taken_stands s k entry old is.taken is.answer is.used is.dropped is.by_epoch h right;
-  used = λ answer. ap (λ (side : TimeState). side.held) (is.used answer);
+  used = λ answer. ap (λ (side : TimeState). side.telling.held) (is.used answer);
   dropped = is.dropped;
   by_epoch = is.by_epoch;
   run = runs_on is.taken new turn is.run;

@@ -13,7 +13,7 @@ mono_timed = record {
   run = mono_run;
   stands = TimeSideStandsFor;
   wants = wants_in;
-  held = λ side. side.held;
-  epoch = λ side. side.epoch;
+  held = λ side. side.telling.held;
+  epoch = λ side. side.telling.epoch;
   rounds = boundary_rounds;
 }

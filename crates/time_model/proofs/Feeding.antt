@@ -23,16 +23,16 @@ use Rattle.time_model.specs.At.{at_in}
 use Rattle.time_model.specs.Turns.{turn_told}
 use Rattle.time_model.specs.Running.{IsRun, start, more, Steps, is_silent}
 use Rattle.time_model.specs.Standing.{TimeSideStandsFor, IsStanding, IsRight, wants_in}
-use Rattle.time_model.specs.Turning.{IsTurned, IsTold, over_in, held_by, owed_by, epoch_by, kept_by}
+use Rattle.time_model.specs.Turning.{IsTurned, IsTold, over_in, held_by}
 use Rattle.time_model.specs.Feeding.{holding, IsFed}
 use Rattle.time_model.proofs.Small.{seen_small}
-use Rattle.time_model.proofs.Steps.{step_made}
+use Rattle.time_model.proofs.Steps.{told_side, step_made}
 use Rattle.time_model.proofs.Sides.{waiting_step, going_step, try_holds, turned_due}
 
 pub holding_stands : (s : Setup) (k : ℕ) (e : Entry) (side : TimeState) → TimeSideStandsFor s k side → e ≡ needed_entry s (place s k) → TimeSideStandsFor s k (holding e side)
 holding_stands s k e side h needed = record { core = h.core; at = h.at; owed = h.owed; epoch = h.epoch; held = λ all. needed }
 
-pub holding_standing : (e : Entry) (side : TimeState) → IsRight e side → e.epoch ≡ side.epoch → IsStanding (holding e side)
+pub holding_standing : (e : Entry) (side : TimeState) → IsRight e side → e.epoch ≡ side.telling.epoch → IsStanding (holding e side)
 holding_standing e side is same = record {
   setup = is.setup;
   sound = is.sound;
@@ -43,8 +43,8 @@ holding_standing e side is same = record {
 -- where an entry is wanted, the next turn is a try, all is told and none is held
 pub record IsWanting (side : TimeState) : Type 0 where
   pub try : is_try (at_in side.at) ≡ true
-  pub told : side.owed ≡ None
-  pub none : side.held ≡ None
+  pub told : side.telling.owed ≡ None
+  pub none : side.telling.held ≡ None
 
 empty : {A : Type 0} (o : Option A) → is_none o ≡ true → o ≡ None
 empty None is = refl
@@ -53,9 +53,9 @@ empty (Some a) is = cc
 pub wanting : (side : TimeState) → wants_in side ≡ true → IsWanting side
 unfolding wants_in
 wanting side wants =
-    let parts = and_parts (is_none side.owed && is_try (at_in side.at)) (is_none side.held) wants in
-    let rest = and_parts (is_none side.owed) (is_try (at_in side.at)) parts.0 in
-    record { try = rest.1; told = empty side.owed rest.0; none = empty side.held parts.1 }
+    let parts = and_parts (is_none side.telling.owed && is_try (at_in side.at)) (is_none side.telling.held) wants in
+    let rest = and_parts (is_none side.telling.owed) (is_try (at_in side.at)) parts.0 in
+    record { try = rest.1; told = empty side.telling.owed rest.0; none = empty side.telling.held parts.1 }
 
 -- with the entry held it wants none
 and_none : (b : Bool) → (b && false) ≡ false
@@ -64,7 +64,7 @@ and_none false = refl
 
 pub holding_free : (e : Entry) (side : TimeState) → wants_in (holding e side) ≡ false
 unfolding wants_in
-holding_free e side = and_none (is_none side.owed && is_try (at_in side.at))
+holding_free e side = and_none (is_none side.telling.owed && is_try (at_in side.at))
 
 try_goes : (at : At) → is_try at ≡ true → is_halted at ≡ false
 try_goes interrupting try = cc
@@ -95,7 +95,7 @@ and_not true b is = is
 and_not false b is = refl
 
 pub holding_goes : (e : Entry) (side : TimeState) → is_try (at_in side.at) ≡ true → over_in (holding e side) ≡ false
-holding_goes e side try = and_not (is_none side.owed) (is_halted (at_in side.at)) (try_goes (at_in side.at) try)
+holding_goes e side try = and_not (is_none side.telling.owed) (is_halted (at_in side.at)) (try_goes (at_in side.at) try)
 
 same_held : (e f : Entry) → ◌≡◌ {A = Option Entry} (Some e) (Some f) → e ≡ f
 same_held e f is = cc
@@ -112,12 +112,8 @@ held_else false held e none is = cc
 -- a try was made with the entry, with so many allowed behind it
 pub record IsAttempted (e : Entry) (old mid : TimeState) (allowed : ℕ) (orders : Orders) : Type 0 where
   pub made : (s : Setup) (t : Timing) → CoreStandsFor s t old.core → IsSmall t → IsTurned s (timing_turn s e (trying allowed) t) mid orders
-  pub held : (s : Setup) (t : Timing) → CoreStandsFor s t old.core → IsSmall t → mid.held ≡ held_by (timing_turn s e (trying allowed) t).timing t (Some e)
-  pub epoch : mid.epoch ≡ old.epoch
-
--- behind it the first order is told and the second owed
-abbrev pub told_behind : TimeState → Orders → TimeState
-told_behind mid orders = record mid { owed = owed_by orders; epoch = epoch_by orders.first mid.epoch; held = kept_by orders.first mid.held }
+  pub held : (s : Setup) (t : Timing) → CoreStandsFor s t old.core → IsSmall t → mid.telling.held ≡ held_by (timing_turn s e (trying allowed) t).timing t (Some e)
+  pub epoch : mid.telling.epoch ≡ old.telling.epoch
 
 module _ (e : Entry) (old mid : TimeState) (allowed : ℕ) (orders : Orders) (wants : wants_in old ≡ true) (trial : at_in old.at ≡ trying allowed) (is : IsAttempted e old mid allowed orders) where
   due : (s : Setup) (k : ℕ) → is_setup s ≡ true → TimeSideStandsFor s k (holding e old) → IsTold s k (holding e old) mid orders
@@ -130,20 +126,20 @@ module _ (e : Entry) (old mid : TimeState) (allowed : ℕ) (orders : Orders) (wa
       let turned : IsTurned s (timing_turn s n (at_in old.at) t) mid orders =
       subst (λ (at : At). IsTurned s (timing_turn s n at t) mid orders) (sym trial)
       (subst (λ (x : Entry). IsTurned s (timing_turn s x (trying allowed) t) mid orders) same (is.made s t h.core small)) in
-      let held : mid.held ≡ held_by (timing_turn s n (at_in old.at) t).timing t (Some e) =
-      subst (λ (at : At). mid.held ≡ held_by (timing_turn s n at t).timing t (Some e)) (sym trial)
-      (subst (λ (x : Entry). mid.held ≡ held_by (timing_turn s x (trying allowed) t).timing t (Some e)) same (is.held s t h.core small)) in
+      let held : mid.telling.held ≡ held_by (timing_turn s n (at_in old.at) t).timing t (Some e) =
+      subst (λ (at : At). mid.telling.held ≡ held_by (timing_turn s n at t).timing t (Some e)) (sym trial)
+      (subst (λ (x : Entry). mid.telling.held ≡ held_by (timing_turn s x (trying allowed) t).timing t (Some e)) same (is.held s t h.core small)) in
       turned_due s k (holding e old) mid orders h (holding_free e old) (holding_goes e old w.try) w.told turned (λ try. held) (λ off. absurd (no w.try off))
     where
       no : is_try (at_in old.at) ≡ true → is_try (at_in old.at) ≡ false → ⊥
       no try off = cc
 
-  pub fed_step : (told : Option Order) → told ≡ orders.first → Steps (holding e old) (told_behind mid orders) (turn_told told (trying allowed))
+  pub fed_step : (told : Option Order) → told ≡ orders.first → Steps (holding e old) (told_side mid orders) (turn_told told (trying allowed))
   fed_step told first = λ s k sound h.
       let w = wanting old wants in
       let turn_is : turn_told told (trying allowed) ≡ turn_told orders.first (at_in old.at) =
       ap (λ (o : Option Order). turn_told o (trying allowed)) first ∙ ap (λ (at : At). turn_told orders.first at) (sym trial) in
-      going_step s k (holding e old) h (told_behind mid orders) (turn_told told (trying allowed)) (holding_free e old) (holding_goes e old w.try)
+      going_step s k (holding e old) h (told_side mid orders) (turn_told told (trying allowed)) (holding_free e old) (holding_goes e old w.try)
       (λ on. step_made s k (holding e old) mid orders (turn_told told (trying allowed)) sound h on (due s k sound h) is.epoch turn_is)
 
 -- a run of one step, or of one that is followed by one that wants an entry
@@ -155,7 +151,7 @@ run_wants old new turn step silent wants =
     record { behind = new; silent = more old new turn start step silent; last = λ s k sound h. waiting_step s k new h wants }
 
 -- an entry of the side's epoch, and one of another
-pub fed_used : (e : Entry) (old new : TimeState) (turn : Turn) → e.epoch ≡ old.epoch → IsRun Steps (holding e old) new turn → IsFed e old new turn
+pub fed_used : (e : Entry) (old new : TimeState) (turn : Turn) → e.epoch ≡ old.telling.epoch → IsRun Steps (holding e old) new turn → IsFed e old new turn
 fed_used e old new turn same run = record {
   answer = Used;
   taken = holding e old;
@@ -168,7 +164,7 @@ fed_used e old new turn same run = record {
     no : Used ≡ Dropped → ⊥
     no is = cc
 
-pub fed_dropped : (e : Entry) (old : TimeState) → wants_in old ≡ true → (e.epoch ≡ old.epoch → ⊥) → IsFed e old old Want
+pub fed_dropped : (e : Entry) (old : TimeState) → wants_in old ≡ true → (e.epoch ≡ old.telling.epoch → ⊥) → IsFed e old old Want
 fed_dropped e old wants other = record {
   answer = Dropped;
   taken = old;

@@ -22,16 +22,16 @@ owed_none p (owes_one is m q os orders opens on) None e =
 owed_none p (owes_one is m q os orders opens on) (Some o) e = sym (ne_eqb p.owed 0 (λ none. omega arith))
 
 -- what a side owes, wants and has over is what the place has
-pub stands_owed : (s : Setup) (k : ℕ) (side : TimeState) → TimeSideStandsFor s k side → is_none side.owed ≡ ((place s k).owed == 0)
+pub stands_owed : (s : Setup) (k : ℕ) (side : TimeState) → TimeSideStandsFor s k side → is_none side.telling.owed ≡ ((place s k).owed == 0)
 unfolding seen_at
-stands_owed s k side h = owed_none (place s k) (place_owes s k) side.owed h.owed
+stands_owed s k side h = owed_none (place s k) (place_owes s k) side.telling.owed h.owed
 
-pub stands_wants : (s : Setup) (k : ℕ) (side : TimeState) → TimeSideStandsFor s k side → wants_in side ≡ (needs_entry (place s k) && is_none side.held)
+pub stands_wants : (s : Setup) (k : ℕ) (side : TimeState) → TimeSideStandsFor s k side → wants_in side ≡ (needs_entry (place s k) && is_none side.telling.held)
 unfolding wants_in
 stands_wants s k side h =
-    ap (λ (b : Bool). b && is_try (at_in side.at) && is_none side.held) (stands_owed s k side h)
-    ∙ ap (λ (at : At). ((place s k).owed == 0) && is_try at && is_none side.held) h.at
-    ∙ ap (λ (b : Bool). b && is_none side.held) (and_if ((place s k).owed == 0) (is_try (place s k).run.at))
+    ap (λ (b : Bool). b && is_try (at_in side.at) && is_none side.telling.held) (stands_owed s k side h)
+    ∙ ap (λ (at : At). ((place s k).owed == 0) && is_try at && is_none side.telling.held) h.at
+    ∙ ap (λ (b : Bool). b && is_none side.telling.held) (and_if ((place s k).owed == 0) (is_try (place s k).run.at))
 
 pub stands_over : (s : Setup) (k : ℕ) (side : TimeState) → TimeSideStandsFor s k side → over_in side ≡ is_told_out (place s k)
 stands_over s k side h =

@@ -24,6 +24,7 @@ use Rattle.time_model.specs.declared.turn.Turn.{Turn}
 use Rattle.time_model.specs.declared.turn.Turn.TheVariants as turn
 use Rattle.time_model.specs.At.{at_in}
 use Rattle.time_model.specs.Standing.{TimeSideStandsFor, IsStanding, owed_in, wants_in, is_told_out, IsMade, IsStep}
+use Rattle.time_model.specs.Telling.{telling_start}
 use Rattle.time_model.specs.Turning.{MayTry, IsTurned, IsTold, over_in, held_by, turned_by}
 use Rattle.time_model.proofs.Bool.{if_not}
 use Rattle.time_model.proofs.Owing.{stands_owed, stands_wants, stands_over}
@@ -32,7 +33,7 @@ use Rattle.time_model.proofs.Steps.{none_appended, due_timing}
 
 -- the start of a run
 pub start_stands : (s : Setup) (core : TimingCore) → CoreStandsFor s timing_start core →
-    TimeSideStandsFor s 0 (record { core = core; at = code.Interrupting; owed = None; epoch = 0; held = None })
+    TimeSideStandsFor s 0 (record { core = core; at = code.Interrupting; telling = telling_start })
 unfolding place seen_at timing_place_start
 start_stands s core is = record {
   core = subst (λ (p : TimingPlace). CoreStandsFor s p.timing core) (sym (starts s)) is;
@@ -43,14 +44,14 @@ start_stands s core is = record {
 }
 
 -- the boundaries
-pub stands_boundary : (s : Setup) (k : ℕ) (side : TimeState) → TimeSideStandsFor s k side → (is_none side.owed && is_cycle_start (at_in side.at)) ≡ is_place_boundary (place s k)
+pub stands_boundary : (s : Setup) (k : ℕ) (side : TimeState) → TimeSideStandsFor s k side → (is_none side.telling.owed && is_cycle_start (at_in side.at)) ≡ is_place_boundary (place s k)
 stands_boundary s k side h =
     ap (λ (b : Bool). b && is_cycle_start (at_in side.at)) (stands_owed s k side h) ∙ ap (λ (at : At). ((place s k).owed == 0) && is_cycle_start at) h.at
 
 -- What a step says and leaves, where it waits, rests and goes on.
 module _ (s : Setup) (k : ℕ) (side : TimeState) (h : TimeSideStandsFor s k side) where
   needs_of : wants_in side ≡ true → needs_entry (place s k) ≡ true
-  needs_of wants = (and_parts (needs_entry (place s k)) (is_none side.held) (sym (stands_wants s k side h) ∙ wants)).0
+  needs_of wants = (and_parts (needs_entry (place s k)) (is_none side.telling.held) (sym (stands_wants s k side h) ∙ wants)).0
 
   not_over : needs_entry (place s k) ≡ true → is_told_out (place s k) ≡ false
   not_over needs = ap (λ (b : Bool). b && (place s k).owed == 0) (needs_on (place s k) needs)
@@ -76,13 +77,13 @@ module _ (s : Setup) (k : ℕ) (side : TimeState) (h : TimeSideStandsFor s k sid
     goes = λ more still. made still;
   }
     where
-      wanting : needs_entry (place s k) ≡ true → side.held ≡ None → (needs_entry (place s k) && is_none side.held) ≡ false → ⊥
-      wanting needs none free = let absent : is_none side.held ≡ true = ap (λ (o : Option Entry). is_none o) none in
-          let both : (needs_entry (place s k) && is_none side.held) ≡ true = (λ i. needs i && absent i) in cc
+      wanting : needs_entry (place s k) ≡ true → side.telling.held ≡ None → (needs_entry (place s k) && is_none side.telling.held) ≡ false → ⊥
+      wanting needs none free = let absent : is_none side.telling.held ≡ true = ap (λ (o : Option Entry). is_none o) none in
+          let both : (needs_entry (place s k) && is_none side.telling.held) ≡ true = (λ i. needs i && absent i) in cc
 
 -- a side stands behind each step
 pub stands_after : (old new : TimeState) (what : Turn) → IsStanding old → ((s : Setup) (k : ℕ) → is_setup s ≡ true → TimeSideStandsFor s k old → IsStep s k old new what) → IsStanding new
-stands_after old new what is step = by_tests (needs_entry p) refl (is_none old.held) refl (is_told_out p) refl
+stands_after old new what is step = by_tests (needs_entry p) refl (is_none old.telling.held) refl (is_told_out p) refl
   where
     s : Setup
     s = is.setup
@@ -100,9 +101,9 @@ stands_after old new what is step = by_tests (needs_entry p) refl (is_none old.h
     none_held None e = refl
     none_held (Some e) none = cc
 
-    by_tests : (a : Bool) → needs_entry (place is.setup is.steps) ≡ a → (b : Bool) → is_none old.held ≡ b → (c : Bool) → is_told_out (place is.setup is.steps) ≡ c → IsStanding new
+    by_tests : (a : Bool) → needs_entry (place is.setup is.steps) ≡ a → (b : Bool) → is_none old.telling.held ≡ b → (c : Bool) → is_told_out (place is.setup is.steps) ≡ c → IsStanding new
     by_tests a needs b none true over = same (made.rests over).1
-    by_tests true needs true none false on = same (made.waits needs (none_held old.held none)).1
+    by_tests true needs true none false on = same (made.waits needs (none_held old.telling.held none)).1
     by_tests true needs false none false on = record { setup = is.setup; sound = is.sound; steps = suc is.steps; stands = (made.goes (λ i. needs i && none i) on).stands }
     by_tests false needs b none false on = record { setup = is.setup; sound = is.sound; steps = suc is.steps; stands = (made.goes (λ i. needs i && none i) on).stands }
 
@@ -111,15 +112,15 @@ pub holds_by : (needed : Entry) (held : Option Entry) → IfSome held (λ e. e �
 holds_by needed None right some = cc
 holds_by needed (Some e) right some = ap Some right
 
-pub try_holds : (s : Setup) (k : ℕ) (side : TimeState) → TimeSideStandsFor s k side → side.owed ≡ None → wants_in side ≡ false → is_try (at_in side.at) ≡ true →
-    side.held ≡ Some (needed_entry s (place s k))
+pub try_holds : (s : Setup) (k : ℕ) (side : TimeState) → TimeSideStandsFor s k side → side.telling.owed ≡ None → wants_in side ≡ false → is_try (at_in side.at) ≡ true →
+    side.telling.held ≡ Some (needed_entry s (place s k))
 unfolding wants_in
 try_holds s k side h none free try =
     let all : (place s k).owed ≡ 0 = eqb-true (place s k).owed 0 (sym (stands_owed s k side h) ∙ ap (λ (o : Option Order). is_none o) none) in
-    let some : is_none side.held ≡ false = (λ i. is_none (sym none i) && sym try i && is_none side.held) ∙ free in
-    holds_by (needed_entry s (place s k)) side.held (h.held all) some
+    let some : is_none side.telling.held ≡ false = (λ i. is_none (sym none i) && sym try i && is_none side.telling.held) ∙ free in
+    holds_by (needed_entry s (place s k)) side.telling.held (h.held all) some
 
-pub may_try : (side : TimeState) → IsStanding side → side.owed ≡ None → wants_in side ≡ false → is_try (at_in side.at) ≡ true → MayTry side
+pub may_try : (side : TimeState) → IsStanding side → side.telling.owed ≡ None → wants_in side ≡ false → is_try (at_in side.at) ≡ true → MayTry side
 may_try side is none free try =
     let s = is.setup in
     let h = is.stands in
@@ -132,8 +133,8 @@ may_try side is none free try =
     }
 
 -- The orders that stand to be told: the owed one.
-pub owed_due : (s : Setup) (k : ℕ) (old : TimeState) (o : Order) (behind : Option Order) (told : Orders) → TimeSideStandsFor s k old → over_in old ≡ false → old.owed ≡ Some o → orders_in told ≡ o ∷ [] →
-    IsTold s k old (record old { owed = behind }) told
+pub owed_due : (s : Setup) (k : ℕ) (old : TimeState) (o : Order) (behind : Option Order) (told : Orders) → TimeSideStandsFor s k old → over_in old ≡ false → old.telling.owed ≡ Some o → orders_in told ≡ o ∷ [] →
+    IsTold s k old (record old { telling = record old.telling { owed = behind } }) told
 unfolding seen_at
 owed_due s k old o behind told h on some one =
     let p = seen_at s (place s k) in
@@ -143,16 +144,16 @@ owed_due s k old o behind told h on some one =
     let free : needs_entry (place s k) ≡ false = ap (λ (b : Bool). if b then is_try (place s k).run.at else false) owes in
     let still = none_appended s k (sym (stands_over s k old h) ∙ on) free in
     record {
-      made = subst (λ (os : List Order). IsTurned s (turned_by s e p os) (record old { owed = behind }) told) (sym is)
+      made = subst (λ (os : List Order). IsTurned s (turned_by s e p os) (record old { telling = record old.telling { owed = behind } }) told) (sym is)
           (record { core = h.core; at = h.at; orders = one });
-      held = ap (λ (b : Bool). if b then None else old.held) (sym still);
+      held = ap (λ (b : Bool). if b then None else old.telling.held) (sym still);
     }
 
 -- or those of the turn that is made
-pub turned_due : (s : Setup) (k : ℕ) (old new : TimeState) (told : Orders) → TimeSideStandsFor s k old → wants_in old ≡ false → over_in old ≡ false → old.owed ≡ None →
+pub turned_due : (s : Setup) (k : ℕ) (old new : TimeState) (told : Orders) → TimeSideStandsFor s k old → wants_in old ≡ false → over_in old ≡ false → old.telling.owed ≡ None →
     IsTurned s (timing_turn s (needed_entry s (place s k)) (at_in old.at) (seen_at s (place s k)).timing) new told →
-    (is_try (at_in old.at) ≡ true → new.held ≡ held_by (timing_turn s (needed_entry s (place s k)) (at_in old.at) (seen_at s (place s k)).timing).timing (seen_at s (place s k)).timing old.held) →
-    (is_try (at_in old.at) ≡ false → new.held ≡ old.held) →
+    (is_try (at_in old.at) ≡ true → new.telling.held ≡ held_by (timing_turn s (needed_entry s (place s k)) (at_in old.at) (seen_at s (place s k)).timing).timing (seen_at s (place s k)).timing old.telling.held) →
+    (is_try (at_in old.at) ≡ false → new.telling.held ≡ old.telling.held) →
     IsTold s k old new told
 unfolding seen_at seen
 turned_due s k old new told h free on none turned tried keeps =
@@ -165,11 +166,11 @@ turned_due s k old new told h free on none turned tried keeps =
       held = by_try (is_try (at_in old.at)) refl;
     }
   where
-    by_try : (b : Bool) → is_try (at_in old.at) ≡ b → new.held ≡ (if has_appended (place s k) (place s (suc k)) then None else old.held)
+    by_try : (b : Bool) → is_try (at_in old.at) ≡ b → new.telling.held ≡ (if has_appended (place s k) (place s (suc k)) then None else old.telling.held)
     by_try false not_try =
         let calm : needs_entry (place s k) ≡ false = needs_not ((place s k).owed == 0) (is_try (place s k).run.at) (ap is_try (sym h.at) ∙ not_try) in
         let still = none_appended s k (sym (stands_over s k old h) ∙ on) calm in
-        keeps not_try ∙ ap (λ (b : Bool). if b then None else old.held) (sym still)
+        keeps not_try ∙ ap (λ (b : Bool). if b then None else old.telling.held) (sym still)
       where
         needs_not : (a b : Bool) → b ≡ false → (if a then b else false) ≡ false
         needs_not true b e = e
@@ -180,5 +181,5 @@ turned_due s k old new told h free on none turned tried keeps =
         let is : p.owed ≡ [] = sym h.owed ∙ ap owed_in none in
         let behind : (timing_turn s e (at_in old.at) p.timing).timing ≡ (seen_at s (place s (suc k))).timing =
         ap (λ (at : At). (timing_turn s e at p.timing).timing) h.at ∙ ap (λ (os : List Order). (turned_by s e p os).timing) (sym is) ∙ due_timing s k in
-        tried try ∙ ap (λ (t : Timing). held_by t p.timing old.held) behind
-        ∙ if_not ((place s (suc k)).run.demand.machine.counts.fetched == (place s k).run.demand.machine.counts.fetched) old.held None
+        tried try ∙ ap (λ (t : Timing). held_by t p.timing old.telling.held) behind
+        ∙ if_not ((place s (suc k)).run.demand.machine.counts.fetched == (place s k).run.demand.machine.counts.fetched) old.telling.held None

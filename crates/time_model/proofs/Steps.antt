@@ -30,7 +30,8 @@ use Rattle.time_model.specs.declared.turn.Turn.{Turn}
 use Rattle.time_model.specs.At.{at_in}
 use Rattle.time_model.specs.Turns.{turn_told}
 use Rattle.time_model.specs.Standing.{TimeSideStandsFor, owed_in, is_told_out, IsMade}
-use Rattle.time_model.specs.Turning.{IsTurned, IsTold, turned_by, turned_at, behind_first, owed_by, epoch_by, kept_by}
+use Rattle.time_model.specs.Telling.{behind_first, kept_by, told_behind}
+use Rattle.time_model.specs.Turning.{IsTurned, IsTold, turned_by, turned_at}
 use Rattle.machine_laws.proofs.Owing.{place_owes}
 use Rattle.time_model.proofs.Small.{epoch_small}
 
@@ -171,28 +172,32 @@ kept_is true b h = refl
 kept_is false true h = refl
 kept_is false false h = refl
 
+-- a side behind the first of a turn's orders
+abbrev pub told_side : TimeState → Orders → TimeState
+told_side mid orders = record mid { telling = told_behind orders mid.telling }
+
 -- a step that is made
 pub step_made : (s : Setup) (k : ℕ) (old mid : TimeState) (orders : Orders) (turn : Turn) → is_setup s ≡ true → TimeSideStandsFor s k old → is_told_out (place s k) ≡ false → IsTold s k old mid orders →
-    mid.epoch ≡ old.epoch → turn ≡ turn_told orders.first (at_in old.at) →
-    IsMade s k old (record mid { owed = owed_by orders; epoch = epoch_by orders.first mid.epoch; held = kept_by orders.first mid.held }) turn
+    mid.telling.epoch ≡ old.telling.epoch → turn ≡ turn_told orders.first (at_in old.at) →
+    IsMade s k old (told_side mid orders) turn
 unfolding seen_at
 step_made s k old mid orders turn sound h on due same turn_is =
     let p = place s k in
     let q = place s (suc k) in
     let is = told_step s k mid orders due.made in
     let told_is : orders.first ≡ told_by p q = ap (λ (x : timing.Stepped). x.told) is in
-    let held_is : kept_by orders.first mid.held ≡ held_after (told_by p q) p q old.held =
-    ap (λ (m : Option Entry). kept_by orders.first m) due.held ∙ kept_is (opens orders.first) (has_appended p q) old.held
-    ∙ ap (λ (o : Option Order). held_after o p q old.held) told_is in
-    let epoch : mid.epoch ≡ openings (told p) = same ∙ h.epoch in
-    let small : mid.epoch ≤ 2 ^ 44 = omega (arith, epoch, epoch_small s k sound) in
+    let held_is : kept_by orders.first mid.telling.held ≡ held_after (told_by p q) p q old.telling.held =
+    ap (λ (m : Option Entry). kept_by orders.first m) due.held ∙ kept_is (opens orders.first) (has_appended p q) old.telling.held
+    ∙ ap (λ (o : Option Order). held_after o p q old.telling.held) told_is in
+    let epoch : mid.telling.epoch ≡ openings (told p) = same ∙ h.epoch in
+    let small : mid.telling.epoch ≤ 2 ^ 44 = omega (arith, epoch, epoch_small s k sound) in
     record {
       stands = record {
         core = subst (λ (t : Timing). CoreStandsFor s t mid.core) (due_timing s k) due.made.core;
         at = due.made.at ∙ ap (λ (x : timing.Stepped). x.place.at) is;
         owed = ap (λ (x : timing.Stepped). x.place.owed) is;
-        epoch = epoch_is (opens orders.first) mid.epoch small ∙ ap (λ (e : ℕ). raised orders.first e) epoch ∙ ap (λ (x : timing.Stepped). x.place.epoch) is;
-        held = λ all. subst (λ (e : Option Entry). IfSome e (λ e. e ≡ needed_entry s q)) (sym held_is) (held_needed s p q (next_stepped s k on) old.held h.held all);
+        epoch = epoch_is (opens orders.first) mid.telling.epoch small ∙ ap (λ (e : ℕ). raised orders.first e) epoch ∙ ap (λ (x : timing.Stepped). x.place.epoch) is;
+        held = λ all. subst (λ (e : Option Entry). IfSome e (λ e. e ≡ needed_entry s q)) (sym held_is) (held_needed s p q (next_stepped s k on) old.telling.held h.held all);
       };
       held = held_is;
       turn_is = turn_is ∙ ap (λ (o : Option Order). turn_told o (at_in old.at)) told_is ∙ ap (λ (at : At). turn_told (told_by p q) at) h.at;

@@ -9,7 +9,7 @@ use Rattle.time_model.specs.Running.{IsRun, Steps}
 
 -- a side with this entry held
 abbrev pub holding : Entry → TimeState → TimeState
-holding entry side = record side { held = Some entry }
+holding entry side = record side { telling = record side.telling { held = Some entry } }
 
 -- An entry of the side's epoch was held and any other dropped, and from the side behind that some steps were made, the
 -- last of which did this.
@@ -18,5 +18,5 @@ pub record IsFed (entry : Entry) (old new : TimeState) (turn : Turn) : Type 0 wh
   pub taken : TimeState
   pub used : answer ≡ Used → taken ≡ holding entry old
   pub dropped : answer ≡ Dropped → taken ≡ old
-  pub by_epoch : (answer ≡ Used) ↔ (entry.epoch ≡ old.epoch)
+  pub by_epoch : (answer ≡ Used) ↔ (entry.epoch ≡ old.telling.epoch)
   pub run : IsRun Steps taken new turn

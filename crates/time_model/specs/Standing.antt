@@ -25,9 +25,9 @@ owed_in (Some o) = o ∷ []
 pub record TimeSideStandsFor (s : Setup) (k : ℕ) (side : TimeState) : Type 0 where
   pub core : CoreStandsFor s (seen_at s (place s k)).timing side.core
   pub at : at_in side.at ≡ (place s k).run.at
-  pub owed : owed_in side.owed ≡ (seen_at s (place s k)).owed
-  pub epoch : side.epoch ≡ openings (told (place s k))
-  pub held : (place s k).owed ≡ 0 → IfSome side.held (λ e. e ≡ needed_entry s (place s k))
+  pub owed : owed_in side.telling.owed ≡ (seen_at s (place s k)).owed
+  pub epoch : side.telling.epoch ≡ openings (told (place s k))
+  pub held : (place s k).owed ≡ 0 → IfSome side.telling.held (λ e. e ≡ needed_entry s (place s k))
 
 -- it stands behind some steps of the run of a setup that is allowed
 pub record IsStanding (side : TimeState) : Type 0 where
@@ -38,7 +38,7 @@ pub record IsStanding (side : TimeState) : Type 0 where
 
 -- the entry of the instruction to fetch next is needed: the next step is a try, and none is held
 unfoldable pub wants_in : TimeState → Bool
-wants_in side = is_none side.owed && is_try (at_in side.at) && is_none side.held
+wants_in side = is_none side.telling.owed && is_try (at_in side.at) && is_none side.telling.held
 
 -- the run is over and all is told
 abbrev pub is_told_out : Place → Bool
@@ -47,15 +47,15 @@ is_told_out p = is_halted p.run.at && p.owed == 0
 -- one step of the demand run was made
 pub record IsMade (s : Setup) (k : ℕ) (old new : TimeState) (turn : Turn) : Type 0 where
   pub stands : TimeSideStandsFor s (suc k) new
-  pub held : new.held ≡ held_after (told_by (place s k) (place s (suc k))) (place s k) (place s (suc k)) old.held
+  pub held : new.telling.held ≡ held_after (told_by (place s k) (place s (suc k))) (place s k) (place s (suc k)) old.telling.held
   pub turn_is : turn ≡ turn_told (told_by (place s k) (place s (suc k))) (place s k).run.at
 
 -- What a step makes of the side: nothing while the entry that its place needs isn't held, nothing where the run is over,
 -- and in every other case one step of the demand run.
 pub record IsStep (s : Setup) (k : ℕ) (old new : TimeState) (turn : Turn) : Type 0 where
-  pub waits : needs_entry (place s k) ≡ true → old.held ≡ None → (turn ≡ Want) × (new ≡ old)
+  pub waits : needs_entry (place s k) ≡ true → old.telling.held ≡ None → (turn ≡ Want) × (new ≡ old)
   pub rests : is_told_out (place s k) ≡ true → (turn ≡ Halted) × (new ≡ old)
-  pub goes : (needs_entry (place s k) && is_none old.held) ≡ false → is_told_out (place s k) ≡ false → IsMade s k old new turn
+  pub goes : (needs_entry (place s k) && is_none old.telling.held) ≡ false → is_told_out (place s k) ≡ false → IsMade s k old new turn
 
 -- an entry may be handed to a side: where it is of the side's epoch, it is the one that the side's place needs
 pub record IsRight (entry : Entry) (side : TimeState) : Type 0 where
@@ -63,4 +63,4 @@ pub record IsRight (entry : Entry) (side : TimeState) : Type 0 where
   pub sound : is_setup setup ≡ true
   pub steps : ℕ
   pub stands : TimeSideStandsFor setup steps side
-  pub needed : entry.epoch ≡ side.epoch → entry ≡ needed_entry setup (place setup steps)
+  pub needed : entry.epoch ≡ side.telling.epoch → entry ≡ needed_entry setup (place setup steps)

@@ -1,11 +1,11 @@
 -- A turn in its parts: the phase that it makes, and the order that is told of it.
-use Rattle.std.specs.Prelude.{◌≡◌, ◌<◌, ◌^◌, ℕ, suc, ◌+◌, ◌-◌, ◌==◌, ◌&&◌, min, if◌then◌else◌, is_none, IfSome, Bool, Option, Some, None, List, [], ◌∷◌, length}
+use Rattle.std.specs.Prelude.{◌≡◌, ◌<◌, ℕ, suc, ◌+◌, ◌==◌, ◌&&◌, if◌then◌else◌, is_none, IfSome, Bool, Option, Some, None, List, [], ◌∷◌, length}
 use Rattle.rollback_cmds.specs.declared.order.Order.{Order}
 use Rattle.trace_entry.specs.declared.Entry.{Entry}
 use Rattle.reorder_buffer.specs.Window.{youngest}
 use Rattle.mono_model.specs.declared.setup.Setup.{Setup}
 use Rattle.mono_model.specs.Demand.{place, needed_entry}
-use Rattle.mono_model.specs.Split.{is_halted, has_appended, opens}
+use Rattle.mono_model.specs.Split.{is_halted, has_appended}
 use Rattle.timing_side.specs.Timing.{Timing}
 use Rattle.timing_side.specs.Turn.{Turned, timing_turn}
 use Rattle.timing_side.specs.Step.{TimingPlace}
@@ -18,12 +18,12 @@ use Rattle.time_model.specs.At.{at_in}
 
 -- the run is over, and all is told
 abbrev pub over_in : TimeState → Bool
-over_in side = is_none side.owed && is_halted (at_in side.at)
+over_in side = is_none side.telling.owed && is_halted (at_in side.at)
 
 -- the held entry may be tried: the window has room, and the entry follows the youngest slot
 pub record MayTry (side : TimeState) : Type 0 where
   pub entry : Entry
-  pub held : side.held ≡ Some entry
+  pub held : side.telling.held ≡ Some entry
   pub room : length side.core.flight.slots < side.core.flight.capacity
   pub next : IfSome (youngest side.core.flight.slots) (λ last. entry.number ≡ last.number + 1)
 
@@ -48,20 +48,4 @@ turned_at s k = turned_by s (needed_entry s (place s k)) (seen_at s (place s k))
 
 pub record IsTold (s : Setup) (k : ℕ) (old new : TimeState) (told : Orders) : Type 0 where
   pub made : IsTurned s (turned_at s k) new told
-  pub held : new.held ≡ (if has_appended (place s k) (place s (suc k)) then None else old.held)
-
--- the order that stays owed, where a first one is told
-abbrev pub behind_first : Option Order → Option Order → Option Order
-behind_first None second = None
-behind_first (Some first) second = second
-
-abbrev pub owed_by : Orders → Option Order
-owed_by orders = behind_first orders.first orders.second
-
--- the epoch behind an order: one more where it opens one, in 64 bits
-abbrev pub epoch_by : Option Order → ℕ → ℕ
-epoch_by told epoch = if opens told then min (epoch + 1) (2 ^ 64 - 1) else epoch
-
--- the held entry behind an order: dropped where it opens an epoch
-abbrev pub kept_by : Option Order → Option Entry → Option Entry
-kept_by told held = if opens told then None else held
+  pub held : new.telling.held ≡ (if has_appended (place s k) (place s (suc k)) then None else old.telling.held)

@@ -5,7 +5,11 @@
 mod at;
 mod side;
 mod state;
+mod stepping;
+mod telling;
 mod turn;
 
 pub use side::{Taken, TimeSide};
+pub use stepping::Stepping;
+pub use telling::Telling;
 pub use turn::Turn;

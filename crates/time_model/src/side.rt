@@ -1,6 +1,7 @@
 ghost use Rattle.std.specs.Prelude.{◌≡◌, ◌↔◌, ◌&&◌, ℕ, true, Some, None, IfOk, is_none};
 
 use crate::state::TimeState;
+use crate::stepping::Stepping;
 use crate::turn::Turn;
 use fsim_base::NoMemory;
 use mono_model::{End, Setup, Stats};
@@ -46,7 +47,7 @@ impl TimeSide {
     ghost use Rattle.mono_model.specs.Demand.{place, next, needs_entry, needed_entry};
     ghost use Rattle.mono_model.specs.Split.{is_place_boundary};
     ghost use Rattle.time_model.specs.Running.{IsRun, Steps};
-    ghost use Rattle.time_model.specs.Feeding.{IsFed};
+    ghost use Rattle.time_model.specs.Feeding.{IsFed, holding};
     ghost use Rattle.time_model.specs.Standing.{TimeSideStandsFor, IsStep, IsRight, wants_in};
 
     /// The timing side before the first step of a run. It takes all its memory here, and want of it
@@ -54,7 +55,7 @@ impl TimeSide {
     pub fn new(alloc: Global, setup: &Setup) -> Result<TimeSide, NoMemory>
         requires sound { is_setup setup.now ≡ true }
         ensures stands { IfOk result (λ side. TimeSideStandsFor setup.now 0 side) }
-        ensures empty { IfOk result (λ side. side.held ≡ None) }
+        ensures empty { IfOk result (λ side. side.telling.held ≡ None) }
     {
         let state = TimeState::new(alloc, setup)?;
         Ok(TimeSide { state })
@@ -82,7 +83,7 @@ impl TimeSide {
     pub fn wants(&self) -> bool
         ensures wants { result ≡ wants_in self.now }
         ensures needs { (s : RunSetup) (k : ℕ) → TimeSideStandsFor s k self.now
-            → result ≡ (needs_entry (place s k) && is_none self.now.held) }
+            → result ≡ (needs_entry (place s k) && is_none self.now.telling.held) }
     {
         self.state.wants()
     }
@@ -93,16 +94,16 @@ impl TimeSide {
         requires wants { wants_in self.old ≡ true }
         requires right { IsRight entry.now self.old }
         ensures stands { (s : RunSetup) (k : ℕ) → TimeSideStandsFor s k self.old
-            → (entry.now.epoch ≡ self.old.epoch → entry.now ≡ needed_entry s (place s k))
+            → (entry.now.epoch ≡ self.old.telling.epoch → entry.now ≡ needed_entry s (place s k))
             → TimeSideStandsFor s k self.new }
-        ensures used { result ≡ Taken.Used → self.new ≡ record self.old { held = Some entry.now } }
+        ensures used { result ≡ Taken.Used → self.new ≡ holding entry.now self.old }
         ensures dropped { result ≡ Taken.Dropped → self.new ≡ self.old }
-        ensures by_epoch { (result ≡ Taken.Used) ↔ (entry.now.epoch ≡ self.old.epoch) }
+        ensures by_epoch { (result ≡ Taken.Used) ↔ (entry.now.epoch ≡ self.old.telling.epoch) }
     {
-        if entry.epoch != self.state.epoch {
+        if entry.epoch != self.state.telling.epoch {
             return Taken::Dropped;
         }
-        self.state.held = Some(*entry);
+        self.state.telling.held = Some(*entry);
         Taken::Used
     }
 
@@ -114,7 +115,7 @@ impl TimeSide {
         requires right { IsRight entry.now self.old }
         ensures fed { IsFed entry.now self.old self.new result }
     {
-        if entry.epoch == self.state.epoch {
+        if entry.epoch == self.state.telling.epoch {
             self.state.feed(entry)
         } else {
             Turn::Want

@@ -2,7 +2,9 @@ ghost use Rattle.std.specs.Prelude.{◌≡◌, ◌&&◌, ℕ, true, false, if◌
 ghost use Rattle.std.specs.Prelude.{is_none, unwrap_or};
 
 use crate::at::At;
-use crate::turn::{Turn, untold};
+use crate::stepping::Stepping;
+use crate::telling::Telling;
+use crate::turn::Turn;
 use fsim_base::NoMemory;
 use mono_model::Setup;
 use rollback_cmds::Order;
@@ -17,12 +19,8 @@ pub struct TimeState {
     pub core: TimingCore,
     /// The turn that comes next.
     pub at: At,
-    /// The order of the last turn that was not told yet.
-    pub owed: Option<Order>,
-    /// How many orders that open an epoch were told.
-    pub epoch: u64,
-    /// The entry of the instruction to fetch next, once it has arrived.
-    pub held: Option<Entry>,
+    /// What is still to be told, and the entry that has arrived.
+    pub telling: Telling,
 }
 
 impl TimeState {
@@ -39,49 +37,31 @@ impl TimeState {
     ghost use Rattle.timing_core.specs.Small.{IsSmall};
     ghost use Rattle.timing_core.specs.Orders.{orders_in};
     ghost use Rattle.time_model.specs.At.{at_in};
-    ghost use Rattle.time_model.specs.Standing.{TimeSideStandsFor, IsStanding, IsStep, wants_in};
+    ghost use Rattle.time_model.specs.Standing.{TimeSideStandsFor, IsStanding, wants_in};
     ghost use Rattle.time_model.specs.Running.{IsRun, Steps};
     ghost use Rattle.time_model.specs.Feeding.{holding};
-    ghost use Rattle.time_model.specs.Turns.{turn_untold};
-    ghost use Rattle.time_model.specs.Turning.{MayTry, IsTurned, IsTold, over_in, held_by, owed_by};
-    ghost use Rattle.time_model.specs.Turning.{epoch_by, kept_by};
+    ghost use Rattle.time_model.specs.Turning.{MayTry, IsTurned, IsTold, over_in, held_by};
 
     /// Before the first step of a run. All memory is taken here.
     pub fn new(alloc: Global, setup: &Setup) -> Result<TimeState, NoMemory>
         requires sound { is_setup setup.now ≡ true }
         ensures stands { IfOk result (λ side. TimeSideStandsFor setup.now 0 side) }
-        ensures empty { IfOk result (λ side. side.held ≡ None) }
+        ensures empty { IfOk result (λ side. side.telling.held ≡ None) }
     {
         let core = TimingCore::new(alloc, setup)?;
         Ok(TimeState {
             core,
             at: At::Interrupting,
-            owed: None,
-            epoch: 0,
-            held: None,
+            telling: Telling::new(),
         })
-    }
-
-    /// Whether the step that comes next is a try whose entry is needed.
-    #[tactic(auto, unfolding(crate::specs::Standing::wants_in))]
-    pub fn wants(&self) -> bool
-        ensures wants { result ≡ wants_in self.now }
-    {
-        self.owed.is_none() && matches!(self.at, At::Trying(_)) && self.held.is_none()
-    }
-
-    /// Whether the run is over, and all is told.
-    fn is_told_out(&self) -> bool
-        ensures over { result ≡ over_in self.now }
-    {
-        self.owed.is_none() && matches!(self.at, At::Halted)
     }
 
     /// Whether a cycle starts here, or the run has ended, with all orders told.
     pub fn at_boundary(&self) -> bool
-        ensures boundary { result ≡ (is_none self.now.owed && is_cycle_start (at_in self.now.at)) }
+        ensures boundary { result ≡ (is_none self.now.telling.owed && is_cycle_start (at_in self.now.at)) }
     {
-        self.owed.is_none() && matches!(self.at, At::Interrupting | At::Stopping | At::Halted)
+        self.telling.owed.is_none()
+            && matches!(self.at, At::Interrupting | At::Stopping | At::Halted)
     }
 
     /// A try of fetch where one may be made and is allowed, else the end of the cycle.
@@ -136,19 +116,23 @@ impl TimeState {
     fn attempt(&mut self, allowed: u32) -> Orders
         requires tries { MayTry self.old }
         ensures made { (s : RunSetup) (t : Timing) (e : SpecEntry) → CoreStandsFor s t self.old.core
-            → IsSmall t → self.old.held ≡ Some e →
+            → IsSmall t → self.old.telling.held ≡ Some e →
             IsTurned s (timing_turn s e (trying allowed) t) self.new result }
         ensures held { (s : RunSetup) (t : Timing) (e : SpecEntry) → CoreStandsFor s t self.old.core
-            → IsSmall t → self.old.held ≡ Some e →
-            self.new.held ≡ held_by (timing_turn s e (trying allowed) t).timing t self.old.held }
+            → IsSmall t → self.old.telling.held ≡ Some e →
+            self.new.telling.held ≡ held_by (timing_turn s e (trying allowed) t).timing t self.old.telling.held }
         ensures others { self.new
-            ≡ record self.old { core = self.new.core; at = self.new.at; held = self.new.held } }
+            ≡ record self.old {
+              core = self.new.core;
+              at = self.new.at;
+              telling = record self.old.telling { held = self.new.telling.held };
+            } }
     {
-        let entry = self.held.as_ref().unwrap();
+        let entry = self.telling.held.as_ref().unwrap();
         let tried = self.core.fetch(entry);
         self.at = self.at_after_try(tried.goes_on, allowed);
         if tried.appended {
-            self.held = None;
+            self.telling.held = None;
         }
         tried.orders
     }
@@ -156,20 +140,24 @@ impl TimeState {
     /// Tries to fetch the instruction of an entry that isn't held yet, with so many tries allowed
     /// behind it. It is held where it wasn't appended.
     fn attempt_at_once(&mut self, entry: &Entry, allowed: u32) -> Orders
-        requires none { self.old.held ≡ None }
+        requires none { self.old.telling.held ≡ None }
         requires tries { MayTry (holding entry.now self.old) }
         ensures made { (s : RunSetup) (t : Timing) → CoreStandsFor s t self.old.core → IsSmall t
             → IsTurned s (timing_turn s entry.now (trying allowed) t) self.new result }
         ensures held { (s : RunSetup) (t : Timing) → CoreStandsFor s t self.old.core → IsSmall t
-            → self.new.held
+            → self.new.telling.held
             ≡ held_by (timing_turn s entry.now (trying allowed) t).timing t (Some entry.now) }
         ensures others { self.new
-            ≡ record self.old { core = self.new.core; at = self.new.at; held = self.new.held } }
+            ≡ record self.old {
+              core = self.new.core;
+              at = self.new.at;
+              telling = record self.old.telling { held = self.new.telling.held };
+            } }
     {
         let tried = self.core.fetch(entry);
         self.at = self.at_after_try(tried.goes_on, allowed);
         if !tried.appended {
-            self.held = Some(*entry);
+            self.telling.held = Some(*entry);
         }
         tried.orders
     }
@@ -179,14 +167,18 @@ impl TimeState {
         requires tries { is_try (at_in self.old.at) ≡ true → MayTry self.old }
         ensures made { (s : RunSetup) (t : Timing) (e : SpecEntry) → CoreStandsFor s t self.old.core
             → IsSmall t →
-            (is_try (at_in self.old.at) ≡ true → self.old.held ≡ Some e)
+            (is_try (at_in self.old.at) ≡ true → self.old.telling.held ≡ Some e)
             → IsTurned s (timing_turn s e (at_in self.old.at) t) self.new result }
         ensures held { (s : RunSetup) (t : Timing) (e : SpecEntry) → CoreStandsFor s t self.old.core
-            → IsSmall t → is_try (at_in self.old.at) ≡ true → self.old.held ≡ Some e →
-            self.new.held ≡ held_by (timing_turn s e (at_in self.old.at) t).timing t self.old.held }
-        ensures keeps { is_try (at_in self.old.at) ≡ false → self.new.held ≡ self.old.held }
+            → IsSmall t → is_try (at_in self.old.at) ≡ true → self.old.telling.held ≡ Some e →
+            self.new.telling.held ≡ held_by (timing_turn s e (at_in self.old.at) t).timing t self.old.telling.held }
+        ensures keeps { is_try (at_in self.old.at) ≡ false → self.new.telling.held ≡ self.old.telling.held }
         ensures others { self.new
-            ≡ record self.old { core = self.new.core; at = self.new.at; held = self.new.held } }
+            ≡ record self.old {
+              core = self.new.core;
+              at = self.new.at;
+              telling = record self.old.telling { held = self.new.telling.held };
+            } }
     {
         match self.at {
             At::Interrupting => {
@@ -235,57 +227,16 @@ impl TimeState {
             ≡ record self.old {
               core = self.new.core;
               at = self.new.at;
-              owed = None;
-              held =
-                  self.new.held;
+              telling = record self.old.telling { owed = None; held = self.new.telling.held };
             } }
     {
-        match self.owed {
+        match self.telling.owed {
             Some(order) => {
-                self.owed = None;
+                self.telling.owed = None;
                 Orders::one(order)
             }
             None => self.turn(),
         }
-    }
-
-    /// Tells the first of a turn's orders, and owes the second. Entries made before an order that
-    /// opens an epoch are of no use behind it, so the held one is dropped.
-    fn tell(&mut self, orders: Orders) -> Option<Order>
-        requires none { self.old.owed ≡ None }
-        ensures told { result ≡ orders.first }
-        ensures owed { self.new
-            ≡ record self.old {
-              owed = owed_by orders;
-              epoch = epoch_by orders.first self.old.epoch;
-              held = kept_by orders.first self.old.held;
-            } }
-    {
-        let order = orders.first?;
-        self.owed = orders.second;
-        if order.opens_epoch() {
-            self.epoch = self.epoch.saturating_add(1);
-            self.held = None;
-        }
-        Some(order)
-    }
-
-    /// Makes one step of the demand run, if the entry that it needs is held. The result is what it
-    /// did, and None where it was made and told no order.
-    fn step(&mut self) -> Option<Turn>
-        requires standing { IsStanding self.old }
-        ensures made { Steps self.old self.new
-            (unwrap_or result (turn_untold (at_in self.old.at))) }
-    {
-        if self.wants() {
-            return Some(Turn::Want);
-        }
-        if self.is_told_out() {
-            return Some(Turn::Halted);
-        }
-        let orders = self.due();
-        let order = self.tell(orders)?;
-        Some(Turn::Ordered(order))
     }
 
     /// Makes the try that comes next with the entry that it needs, as if that were held; and tells
@@ -303,7 +254,7 @@ impl TimeState {
             return Turn::Want;
         };
         let orders = self.attempt_at_once(entry, allowed);
-        if let Some(order) = self.tell(orders) {
+        if let Some(order) = self.telling.tell(orders) {
             return Turn::Ordered(order);
         }
         if self.wants() {
@@ -311,23 +262,50 @@ impl TimeState {
         }
         Turn::Moved
     }
+}
 
-    /// Makes steps of the demand run, at least one and at most so many, up to the first that isn't
-    /// made or tells an order.
-    pub fn run(&mut self, most: u32) -> Turn
-        requires some { 0 < most }
-        requires standing { IsStanding self.old }
-        ensures made { IsRun Steps self.old self.new result }
-        ensures single { most ≡ 1 → Steps self.old self.new result }
-        ensures standing { IsStanding self.new }
-    {
-        let mut at = self.at;
-        for _ in 0..most {
-            at = self.at;
-            if let Some(turn) = self.step() {
-                return turn;
-            }
-        }
-        untold(at)
+impl Stepping for TimeState {
+    ghost use Rattle.time_model.specs.At.{at_in};
+    ghost use Rattle.time_model.specs.Turns.{is_ending};
+    ghost use Rattle.time_model.specs.Running.{Steps};
+    ghost use Rattle.time_model.specs.Standing.{IsStanding, wants_in};
+    ghost use Rattle.time_model.specs.Turning.{over_in};
+
+    type At = At;
+
+    ghost stands = { IsStanding };
+
+    ghost steps = { Steps };
+
+    ghost waits = { wants_in };
+
+    ghost rests = { over_in };
+
+    ghost turn_next = { λ side. side.at };
+
+    ghost ends_cycle = { λ at. is_ending (at_in at) };
+
+    #[tactic(auto, unfolding(crate::specs::Standing::wants_in))]
+    fn wants(&self) -> bool {
+        self.telling.owed.is_none()
+            && matches!(self.at, At::Trying(_))
+            && self.telling.held.is_none()
+    }
+
+    fn is_told_out(&self) -> bool {
+        self.telling.owed.is_none() && matches!(self.at, At::Halted)
+    }
+
+    fn advance(&mut self) -> Option<Order> {
+        let orders = self.due();
+        self.telling.tell(orders)
+    }
+
+    fn at(&self) -> At {
+        self.at
+    }
+
+    fn ends_cycle(at: At) -> bool {
+        matches!(at, At::Ending)
     }
 }

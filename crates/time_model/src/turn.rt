@@ -1,8 +1,3 @@
-ghost use Rattle.std.specs.Prelude.{◌≡◌};
-ghost use Rattle.time_model.specs.At.{at_in};
-ghost use Rattle.time_model.specs.Turns.{turn_untold};
-
-use crate::at::At;
 use rollback_cmds::Order;
 
 /// What a step did.
@@ -18,14 +13,4 @@ pub enum Turn {
     CycleEnd,
     /// Nothing, since the run is over and its last order told.
     Halted,
-}
-
-/// What a step did that was made and told no order, where this turn came next before it.
-pub fn untold(at: At) -> Turn
-    ensures turn { result ≡ turn_untold (at_in at) }
-{
-    match at {
-        At::Ending => Turn::CycleEnd,
-        _ => Turn::Moved,
-    }
 }

@@ -14,23 +14,23 @@ use Rattle.inorder_model.proofs.Turns.{IsTried, try_turned, try_held}
 use Rattle.inorder_model.proofs.state.InorderState.attempt.Goals as goal
 use Rattle.inorder_model.proofs.state.InorderState.attempt.Goals.{then-tried, else-tried}
 
-same_entry : (c : goal.After-result-1) (e : Entry) → c.args.self.now.held ≡ Some e → c.unwrap-entry.result ≡ e
+same_entry : (c : goal.After-result-1) (e : Entry) → c.args.self.now.telling.held ≡ Some e → c.unwrap-entry.result ≡ e
 same_entry c e held = let is : Some c.unwrap-entry.result ≡ Some e = sym c.unwrap-entry.ensures ∙ held in cc
 
 -- the side with this entry held
 abbrev with_held : goal.After-result-1 → Option Entry → InorderState
-with_held c held = record c.args.self.now { lane = c.fetch-tried.new.self; at = code.Ending; held = held }
+with_held c held = record c.args.self.now { lane = c.fetch-tried.new.self; at = code.Ending; telling = record c.args.self.now.telling { held = held } }
 
-left : (c : goal.After-result-1) → c.if-tried.self ≡ with_held c (if c.fetch-tried.result.appended then None else c.args.self.now.held)
+left : (c : goal.After-result-1) → c.if-tried.self ≡ with_held c (if c.fetch-tried.result.appended then None else c.args.self.now.telling.held)
 left c = elim c.if-tried.branch [
-  | then-tried w ↦ w.self-is ∙ ap (λ (b : Bool). with_held c (if b then None else c.args.self.now.held)) (sym w.if-tried.true)
-  | else-tried w ↦ w.self-is ∙ ap (λ (b : Bool). with_held c (if b then None else c.args.self.now.held)) (sym w.if-tried.false)
+  | then-tried w ↦ w.self-is ∙ ap (λ (b : Bool). with_held c (if b then None else c.args.self.now.telling.held)) (sym w.if-tried.true)
+  | else-tried w ↦ w.self-is ∙ ap (λ (b : Bool). with_held c (if b then None else c.args.self.now.telling.held)) (sym w.if-tried.false)
 ]
 
 is_tried : (c : goal.After-result-1) (s : Setup) (l : LaneTiming) → LaneStandsFor s l c.args.self.now.lane → IsSmall l.timing →
     IsTried s l c.unwrap-entry.result c.fetch-tried.result c.if-tried.self
 is_tried c s l h small =
-    let tried : IsTried s l c.unwrap-entry.result c.fetch-tried.result (with_held c (if c.fetch-tried.result.appended then None else c.args.self.now.held)) = record {
+    let tried : IsTried s l c.unwrap-entry.result c.fetch-tried.result (with_held c (if c.fetch-tried.result.appended then None else c.args.self.now.telling.held)) = record {
       lane = c.fetch-tried.ensures.kept s l h small;
       orders = c.fetch-tried.ensures.orders s l h small;
       appended = c.fetch-tried.ensures.appended s l h small;
@@ -45,6 +45,6 @@ returns-clause-made c = λ s l e h small held.
 
 pub returns-clause-held : goal.returns-clause-held
 returns-clause-held c = λ s l e h small held.
-    ap (λ (side : InorderState). side.held) (left c)
-    ∙ subst (λ (x : Entry). (if c.fetch-tried.result.appended then None else c.args.self.now.held) ≡ held_by (timing_lane_turn s x trying l).lane.timing l.timing c.args.self.now.held) (same_entry c e held)
-    (try_held s l c.unwrap-entry.result c.fetch-tried.result c.if-tried.self c.args.self.now.held (is_tried c s l h small))
+    ap (λ (side : InorderState). side.telling.held) (left c)
+    ∙ subst (λ (x : Entry). (if c.fetch-tried.result.appended then None else c.args.self.now.telling.held) ≡ held_by (timing_lane_turn s x trying l).lane.timing l.timing c.args.self.now.telling.held) (same_entry c e held)
+    (try_held s l c.unwrap-entry.result c.fetch-tried.result c.if-tried.self c.args.self.now.telling.held (is_tried c s l h small))

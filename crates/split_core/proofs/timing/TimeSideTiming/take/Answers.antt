@@ -7,4 +7,4 @@ pub take-requires-clause-right : goal.take-requires-clause-right
 take-requires-clause-right c = right_on c.args.entry.now c.args.self.now c.requires.right
 
 pub returns-clause-used : goal.returns-clause-used
-returns-clause-used c = λ is. ap (λ (t : TimeState). t.held) (c.take.ensures.used is)
+returns-clause-used c = λ is. ap (λ (t : TimeState). t.telling.held) (c.take.ensures.used is)

@@ -14,24 +14,24 @@ use Rattle.time_model.proofs.Turns.{IsTried, try_turned, try_held}
 use Rattle.time_model.proofs.state.TimeState.attempt.Goals as goal
 use Rattle.time_model.proofs.state.TimeState.attempt.Goals.{then-tried, else-tried}
 
-same_entry : (c : goal.After-result-1) (e : Entry) → c.args.self.now.held ≡ Some e → c.unwrap-entry.result.now ≡ e
+same_entry : (c : goal.After-result-1) (e : Entry) → c.args.self.now.telling.held ≡ Some e → c.unwrap-entry.result.now ≡ e
 same_entry c e held = let is : Some c.unwrap-entry.result.now ≡ Some e = sym (ap option_copied c.unwrap-entry.ensures) ∙ c.as_ref.ensures.value ∙ held in cc
 
 -- the side with this entry held
 abbrev with_held : goal.After-result-1 → Option Entry → TimeState
-with_held c held = record c.args.self.now { core = c.fetch-tried.new.self; at = c.at_after_try-self.result; held = held }
+with_held c held = record c.args.self.now { core = c.fetch-tried.new.self; at = c.at_after_try-self.result; telling = record c.args.self.now.telling { held = held } }
 
-left : (c : goal.After-result-1) → c.if-tried.self ≡ with_held c (if c.fetch-tried.result.appended then None else c.args.self.now.held)
+left : (c : goal.After-result-1) → c.if-tried.self ≡ with_held c (if c.fetch-tried.result.appended then None else c.args.self.now.telling.held)
 left c = elim c.if-tried.branch [
-  | then-tried w ↦ w.self-is ∙ ap (λ (b : Bool). with_held c (if b then None else c.args.self.now.held)) (sym w.if-tried.true)
-  | else-tried w ↦ w.self-is ∙ ap (λ (b : Bool). with_held c (if b then None else c.args.self.now.held)) (sym w.if-tried.false)
+  | then-tried w ↦ w.self-is ∙ ap (λ (b : Bool). with_held c (if b then None else c.args.self.now.telling.held)) (sym w.if-tried.true)
+  | else-tried w ↦ w.self-is ∙ ap (λ (b : Bool). with_held c (if b then None else c.args.self.now.telling.held)) (sym w.if-tried.false)
 ]
 
 is_tried : (c : goal.After-result-1) (s : Setup) (t : Timing) → CoreStandsFor s t c.args.self.now.core → IsSmall t →
     IsTried s t c.args.allowed c.unwrap-entry.result.now c.fetch-tried.result c.if-tried.self
 is_tried c s t h small =
     let kept = c.fetch-tried.ensures.kept s t h small in
-    let tried : IsTried s t c.args.allowed c.unwrap-entry.result.now c.fetch-tried.result (with_held c (if c.fetch-tried.result.appended then None else c.args.self.now.held)) = record {
+    let tried : IsTried s t c.args.allowed c.unwrap-entry.result.now c.fetch-tried.result (with_held c (if c.fetch-tried.result.appended then None else c.args.self.now.telling.held)) = record {
       core = kept;
       orders = c.fetch-tried.ensures.orders s t h small;
       goes_on = c.fetch-tried.ensures.goes_on s t h small;
@@ -47,6 +47,6 @@ returns-clause-made c = λ s t e h small held.
 
 pub returns-clause-held : goal.returns-clause-held
 returns-clause-held c = λ s t e h small held.
-    ap (λ (side : TimeState). side.held) (left c)
-    ∙ subst (λ (x : Entry). (if c.fetch-tried.result.appended then None else c.args.self.now.held) ≡ held_by (timing_turn s x (trying c.args.allowed) t).timing t c.args.self.now.held) (same_entry c e held)
-    (try_held s t c.args.allowed c.unwrap-entry.result.now c.fetch-tried.result c.if-tried.self c.args.self.now.held (is_tried c s t h small))
+    ap (λ (side : TimeState). side.telling.held) (left c)
+    ∙ subst (λ (x : Entry). (if c.fetch-tried.result.appended then None else c.args.self.now.telling.held) ≡ held_by (timing_turn s x (trying c.args.allowed) t).timing t c.args.self.now.telling.held) (same_entry c e held)
+    (try_held s t c.args.allowed c.unwrap-entry.result.now c.fetch-tried.result c.if-tried.self c.args.self.now.telling.held (is_tried c s t h small))

@@ -13,12 +13,12 @@ use Rattle.time_model.proofs.state.TimeState.attempt_at_once.Goals.{then-not-tri
 
 -- the side with this entry held
 abbrev with_held : goal.After-result-1 → Option Entry → TimeState
-with_held c held = record c.args.self.now { core = c.fetch-tried.new.self; at = c.at_after_try-self.result; held = held }
+with_held c held = record c.args.self.now { core = c.fetch-tried.new.self; at = c.at_after_try-self.result; telling = record c.args.self.now.telling { held = held } }
 
 left : (c : goal.After-result-1) → c.if-not-tried.self ≡ with_held c (if c.fetch-tried.result.appended then None else Some c.args.entry.now)
 left c = elim c.if-not-tried.branch [
   | then-not-tried w ↦ w.self-is ∙ ap (with_held c) (held_then c.fetch-tried.result.appended c.args.entry.now w.if-not-tried.true)
-  | else-not-tried w ↦ w.self-is ∙ ap (with_held c) (held_else c.fetch-tried.result.appended c.args.self.now.held c.args.entry.now c.requires.none w.if-not-tried.false)
+  | else-not-tried w ↦ w.self-is ∙ ap (with_held c) (held_else c.fetch-tried.result.appended c.args.self.now.telling.held c.args.entry.now c.requires.none w.if-not-tried.false)
 ]
 
 is_tried : (c : goal.After-result-1) (s : Setup) (t : Timing) → CoreStandsFor s t c.args.self.now.core → IsSmall t →
@@ -40,5 +40,5 @@ returns-clause-made c = λ s t h small.
 
 pub returns-clause-held : goal.returns-clause-held
 returns-clause-held c = λ s t h small.
-    ap (λ (side : TimeState). side.held) (left c)
+    ap (λ (side : TimeState). side.telling.held) (left c)
     ∙ try_held s t c.args.allowed c.args.entry.now c.fetch-tried.result c.if-not-tried.self (Some c.args.entry.now) (is_tried c s t h small)

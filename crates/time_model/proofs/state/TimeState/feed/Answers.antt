@@ -2,6 +2,7 @@ use Rattle.std.proofs.Common.{◌≡◌, Option, Some, None, refl, ap, sym, ◌�
 use Rattle.rollback_cmds.specs.declared.order.Order.{Order}
 use Rattle.mono_model.specs.Demand.{trying}
 use Rattle.time_model.specs.declared.state.TimeState.{TimeState}
+use Rattle.time_model.specs.declared.telling.Telling.{Telling}
 use Rattle.time_model.specs.declared.turn.Turn.{Turn}
 use Rattle.time_model.specs.declared.turn.Turn.TheVariants.{Moved, Ordered}
 use Rattle.time_model.specs.At.{at_in}
@@ -27,31 +28,35 @@ attempt_at_once-orders-requires-clause-tries c =
 
 pub tell-requires : goal.tell-requires
 tell-requires c = record {
-  none = ap (λ (side : TimeState). side.owed) c.attempt_at_once-orders.ensures.others ∙ (wanting c.args.self.now c.requires.wants).told;
+  none = ap (λ (side : TimeState). side.telling.owed) c.attempt_at_once-orders.ensures.others ∙ (wanting c.args.self.now c.requires.wants).told;
 }
+
+-- the side behind the try, with its order told
+abbrev behind : After-tell → TimeState
+behind c = record c.attempt_at_once-orders.new.self { telling = c.tell.new.self }
 
 -- the try that was made, by the order that was told
 stepped : (c : After-tell) (told : Option Order) → told ≡ c.attempt_at_once-orders.result.first →
-    Steps (holding c.args.entry.now c.args.self.now) c.tell.new.self (turn_told told (trying c.in-Trying.allowed))
+    Steps (holding c.args.entry.now c.args.self.now) (behind c) (turn_told told (trying c.in-Trying.allowed))
 stepped c told first =
     let mid = c.attempt_at_once-orders.new.self in
     let orders = c.attempt_at_once-orders.result in
     let is : IsAttempted c.args.entry.now c.args.self.now mid c.in-Trying.allowed orders = record {
       made = c.attempt_at_once-orders.ensures.made;
       held = c.attempt_at_once-orders.ensures.held;
-      epoch = ap (λ (side : TimeState). side.epoch) c.attempt_at_once-orders.ensures.others;
+      epoch = ap (λ (side : TimeState). side.telling.epoch) c.attempt_at_once-orders.ensures.others;
     } in
-    subst (λ (new : TimeState). Steps (holding c.args.entry.now c.args.self.now) new (turn_told told (trying c.in-Trying.allowed))) (sym c.tell.ensures.owed)
+    subst (λ (t : Telling). Steps (holding c.args.entry.now c.args.self.now) (record mid { telling = t }) (turn_told told (trying c.in-Trying.allowed))) (sym c.tell.ensures.behind)
     (fed_step c.args.entry.now c.args.self.now mid c.in-Trying.allowed orders c.requires.wants (ap at_in c.in-Trying.is) is told first)
 
-stands : (c : After-tell) (turn : Turn) → Steps (holding c.args.entry.now c.args.self.now) c.tell.new.self turn → IsStanding c.tell.new.self
-stands c turn = stands_after (holding c.args.entry.now c.args.self.now) c.tell.new.self turn c.requires.standing
+stands : (c : After-tell) (turn : Turn) → Steps (holding c.args.entry.now c.args.self.now) (behind c) turn → IsStanding (behind c)
+stands c turn = stands_after (holding c.args.entry.now c.args.self.now) (behind c) turn c.requires.standing
 
 pub returns-in-Some : goal.returns-in-Some
 returns-in-Some c =
     let made = stepped (goal.at.returns-in-Some c).After-tell (Some c.in-Some.order) (sym c.in-Some.is ∙ c.tell.ensures.told) in
     record {
-      made = run_once (holding c.args.entry.now c.args.self.now) c.tell.new.self (Ordered c.in-Some.order) made;
+      made = run_once (holding c.args.entry.now c.args.self.now) (behind (goal.at.returns-in-Some c).After-tell) (Ordered c.in-Some.order) made;
       standing = stands (goal.at.returns-in-Some c).After-tell (Ordered c.in-Some.order) made;
     }
 
@@ -59,7 +64,7 @@ pub returns-then-wants : goal.returns-then-wants
 returns-then-wants c =
     let made = stepped (goal.at.returns-then-wants c).After-tell None (sym c.in_default-tell.is ∙ c.tell.ensures.told) in
     record {
-      made = run_wants (holding c.args.entry.now c.args.self.now) c.tell.new.self Moved made refl (sym c.wants.ensures.wants ∙ c.if-wants.true);
+      made = run_wants (holding c.args.entry.now c.args.self.now) (behind (goal.at.returns-then-wants c).After-tell) Moved made refl (sym c.wants.ensures.wants ∙ c.if-wants.true);
       standing = stands (goal.at.returns-then-wants c).After-tell Moved made;
     }
 
@@ -67,6 +72,6 @@ pub returns : goal.returns
 returns c =
     let made = stepped (goal.at.returns c).After-tell None (sym c.in_default-tell.is ∙ c.tell.ensures.told) in
     record {
-      made = run_once (holding c.args.entry.now c.args.self.now) c.tell.new.self Moved made;
+      made = run_once (holding c.args.entry.now c.args.self.now) (behind (goal.at.returns c).After-tell) Moved made;
       standing = stands (goal.at.returns c).After-tell Moved made;
     }
