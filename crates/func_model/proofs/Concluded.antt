@@ -1,5 +1,5 @@
 -- The end of a store, by what it does outside its device.
-use Rattle.std.proofs.Common.{◌≡◌, ℕ, Bool, false, nat_le, List, [], ◌∷◌, ◌++◌, length, Option, None, refl, ap, sym, subst, ◌∙◌}
+use Rattle.std.proofs.Common.{◌≡◌, ℕ, Bool, false, nat_le, List, [], ◌∷◌, ◌++◌, length, Option, Some, None, is_some, refl, ap, sym, subst, ◌∙◌}
 use Rattle.fsim_base.specs.declared.instruction.Halt.{Halt}
 use Rattle.device_bus.specs.declared.undo.Note.{Note}
 use Rattle.device_bus.specs.declared.undo.Note.TheVariants as note
@@ -8,7 +8,7 @@ use Rattle.fsim_base.specs.declared.access.RamRange.{RamRange}
 use Rattle.rv_exec.specs.declared.outcome.Outcome.{Outcome}
 use Rattle.rv_exec.specs.declared.outcome.Reach.TheVariants as reach
 use Rattle.fsim_base.specs.declared.access.Width.{Width}
-use Rattle.mono_model.specs.Result.{Seen, Result, spot_of, loaded_at, resulting, failing_access}
+use Rattle.mono_model.specs.Result.{Seen, Result, spot_of, loaded_at, stored_at, resulting, failing_access}
 use Rattle.fsim_base.specs.declared.access.Access.{Access}
 use Rattle.fsim_base.specs.declared.access.Access.TheVariants as access
 use Rattle.fsim_base.specs.declared.cause.Cause.{Cause}
@@ -55,3 +55,12 @@ pub told_failed : (limit next : ℕ) (tried : Access) (cause : Cause) (mtval : �
 told_failed limit next tried cause mtval before a done is =
     let P : Performed → Type 0 = λ x. Told limit (failing_access next tried cause mtval) a x in
     subst P (sym is) (record { stepped = refl; sent = refl; access = refl; cause = refl })
+
+-- what a store comes to, by its outcome
+pub store_result : (range : RamRange) (e : Seen) (o : Outcome) (addr : ℕ) (width : Width) (value : ℕ) → o.cause ≡ None → o.reach ≡ reach.Store addr width value →
+    stored_at o.next addr width value (spot_of range addr width) ≡ outcome_result range e o
+store_result range e o addr width value none there = rw (none, there) refl
+
+pub none_caused : (cause : Option (Cause × ℕ)) → is_some cause ≡ false → cause ≡ None
+none_caused None is = refl
+none_caused (Some why) is = cc

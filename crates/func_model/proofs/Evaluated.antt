@@ -12,8 +12,9 @@ use Rattle.rv_exec.specs.declared.outcome.Reach.TheVariants as reach
 use Rattle.rv_exec.specs.Eval.{eval_of, branched}
 use Rattle.rv_exec.specs.Branch.{branch_taken}
 use Rattle.fsim_base.specs.Number.{wrap_sum}
+use Rattle.mono_model.specs.Found.{is_csr_insn, is_mret_insn}
 use Rattle.func_model.specs.Hart.{IsDestination}
-use Rattle.func_model.specs.Steps.{AlignedBy, IsAlignedReach}
+use Rattle.func_model.specs.Steps.{AlignedBy, IsAlignedReach, is_transfer}
 
 aligned_zero : (n : ℕ) → (n == 0) ≡ true → n ≡ 0
 aligned_zero n is = grind (arith, common_steps)
@@ -106,3 +107,12 @@ stores_write_none insn.Ebreak addr a b = tt
 stores_write_none insn.Mret addr a b = tt
 stores_write_none insn.Wfi addr a b = tt
 stores_write_none (insn.Csr kind rd rs1 csr) addr a b = tt
+
+-- a load or a store is nothing else
+pub transfer_no_csr : (i : Insn) → is_transfer i ≡ true → is_csr_insn i ≡ false
+transfer_no_csr (insn.Csr kind rd rs1 csr) is = cc
+transfer_no_csr i is = refl
+
+pub transfer_no_mret : (i : Insn) → is_transfer i ≡ true → is_mret_insn i ≡ false
+transfer_no_mret insn.Mret is = cc
+transfer_no_mret i is = refl

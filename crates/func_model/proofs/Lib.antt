@@ -19,6 +19,7 @@ pub mod Running
 pub mod Stepping
 pub mod Stores
 pub mod System
+pub mod Telling
 pub mod TakenBack
 pub mod Trailing
 pub mod Trails

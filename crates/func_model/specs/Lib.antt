@@ -2,6 +2,7 @@ pub mod Hart
 pub mod Undo
 pub mod Steps
 pub mod Contents
+pub mod Telling
 pub mod History
 pub mod Walk
 pub mod Trail

@@ -161,6 +161,12 @@ reaches_out insn.Mret = true
 reaches_out (insn.Csr kind rd rs1 csr) = true
 reaches_out other = false
 
+-- a load or a store
+abbrev pub is_transfer : Insn → Bool
+is_transfer (insn.Load kind rd rs1 imm) = true
+is_transfer (insn.Store kind rs1 rs2 imm) = true
+is_transfer other = false
+
 -- the outcome of an instruction at an address, with the values of the registers
 abbrev pub outcome_at : Insn → ℕ → (ℕ → ℕ) → Outcome
 outcome_at i addr regs = eval_of i addr (register_value regs (sources_of i).0) (register_value regs (sources_of i).1)

@@ -7,17 +7,18 @@ ghost use Rattle.mono_model.specs.Arch.{compare_of};
 ghost use Rattle.func_model.specs.Undo.{ended_in, is_device};
 
 use crate::found::Fetched;
-use crate::hart::{Hart, compare, trap_before};
-use crate::performed::{Interrupted, Made, PastStep, Stepped};
+use crate::hart::{Hart, compare, plain, trap_before};
+use crate::performed::{Interrupted, Made, PastStep, Performed, Stepped};
 use device_bus::{Bus, Device};
-use fsim_base::{Access, Halt, NoMemory, RamRange, Width};
+use fsim_base::{Access, Class, Halt, NoMemory, RamRange, Width};
 use known_words::KnownWords;
 use machine_csr::Csrs;
 use mono_model::{End, Final, Setup, Stats, end_of};
 use phys_mem::Ram;
+use rv_decode::Insn;
 use std::alloc::Global;
 use trace_entry::Entry;
-use undo_journal::{Change, Past};
+use undo_journal::{Change, OldRegister, Past};
 
 /// The cause number of the machine timer interrupt: the interrupt bit and code 7.
 const TIMER_INTERRUPT: u32 = 0x8000_0007;
@@ -73,6 +74,18 @@ fn compare_behind<D: Device>(bus: &Bus<D>, change: Change, before: u64) -> u64
     }
 }
 
+/// What an entry and an undo step tell of an instruction before it is executed.
+#[derive(Clone, Copy)]
+struct Named {
+    number: u64,
+    epoch: u64,
+    addr: u32,
+    word: u32,
+    class: Class,
+    /// The register that it writes, as it is before.
+    reg: OldRegister,
+}
+
 /// What a functional side holds of the machine: the hart with its memory and output, and the
 /// devices.
 #[derive(Drop)]
@@ -99,7 +112,10 @@ impl<D: Device> Contents<D> {
     ghost use Rattle.func_model.specs.Undo.{undone, IsRestorable};
     ghost use Rattle.func_model.specs.History.{resumed, step_undone, step_seq};
     ghost use Rattle.func_model.specs.History.{instruction_in, IsMade};
+    ghost use Rattle.rv_decode.specs.Fits.{Fits};
+    ghost use Rattle.mono_model.specs.Found.{known};
     ghost use Rattle.func_model.specs.Hart.{FetchedFits, next_found};
+    ghost use Rattle.func_model.specs.Telling.{named_at, entry_by, past_by};
 
     /// Executes the next instruction with a time, and says how it leaves the run.
     fn advance(&mut self, time: u64, limit: u32) -> Stepped
@@ -269,13 +285,66 @@ impl<D: Device> Contents<D> {
         Ok(Contents { hart, bus, cmp })
     }
 
-    /// Executes what was fetched at the next address, with its number and epoch, where that changes
-    /// at most a register and the next address: what is told of it, and what takes it back. None,
-    /// and nothing done, where it is anything else.
+    /// What was fetched at the next address, as its entry and its undo step name it.
     #[inline(always)]
-    pub fn compute(&mut self, fetched: Fetched, number: u64, epoch: u64) -> Option<(Entry, Past)>
-        requires found { found_in fetched ≡ next_found self.old.hart }
+    fn named(&self, fetched: Fetched, number: u64, epoch: u64) -> Named
         requires fits { FetchedFits fetched }
+        ensures named { result ≡ named_at self.now.hart (found_in fetched) number epoch }
+    {
+        Named {
+            number,
+            epoch,
+            addr: self.hart.pc,
+            word: fetched.word(),
+            class: fetched.class(),
+            reg: self.hart.before(fetched.destination()),
+        }
+    }
+
+    /// What is told of an instruction that did this, and what takes it back.
+    #[inline(always)]
+    fn told(&self, named: Named, done: Performed, unserved: bool) -> (Entry, Past)
+        ensures entry { result.0 ≡ entry_by named done unserved self.now.hart self.now.cmp }
+        ensures past { result.1 ≡ past_by named done }
+    {
+        let entry = Entry {
+            number: named.number,
+            epoch: named.epoch,
+            addr: named.addr,
+            word: named.word,
+            access: done.access,
+            next: self.hart.pc,
+            cause: done.cause,
+            class: named.class,
+            unserved,
+            out: done.sent,
+            halt: halt_in(done.stepped),
+            irq_on: takes_interrupts(&self.hart.csrs),
+            cmp: self.cmp,
+        };
+        let past = Past {
+            number: named.number,
+            addr: named.addr,
+            reg: named.reg,
+            change: done.change,
+            out: done.sent.is_some(),
+        };
+        (entry, past)
+    }
+
+    /// Executes the instruction at the next address, with its number and epoch, where that changes
+    /// at most a register and the next address: what is told of it, and what takes it back. None,
+    /// and nothing done, of any other.
+    #[inline(always)]
+    pub fn compute(
+        &mut self,
+        word: u32,
+        insn: Insn,
+        number: u64,
+        epoch: u64,
+    ) -> Option<(Entry, Past)>
+        requires found { known word insn ≡ next_found self.old.hart }
+        requires fits { Fits insn }
         requires count { retired_in self.old < 2 ^ 64 - 1 }
         ensures none { IfNone result (self.new ≡ self.old) }
         ensures stands { IfSome result (λ told. (s : Setup) (time : Option ℕ) (a : Arch)
@@ -289,37 +358,44 @@ impl<D: Device> Contents<D> {
         ensures restorable { IfSome result (λ told. IsRestorable told.1) }
         ensures room { self.new.hart.room ≡ self.old.hart.room }
     {
-        let Fetched::Known(word, insn) = fetched else {
-            return None;
-        };
         let outcome = self.hart.computed(insn)?;
-        let addr = self.hart.pc;
-        let destination = insn.dest();
-        let reg = self.hart.before(destination);
-        self.hart.finish(destination, outcome.value, outcome.next);
-        let entry = Entry {
-            number,
-            epoch,
-            addr,
-            word,
-            access: Access::Nothing,
-            next: outcome.next,
-            cause: None,
-            class: insn.class(),
-            unserved: false,
-            out: None,
-            halt: None,
-            irq_on: takes_interrupts(&self.hart.csrs),
-            cmp: self.cmp,
-        };
-        let past = Past {
-            number,
-            addr,
-            reg,
-            change: Change::Nothing,
-            out: false,
-        };
-        Some((entry, past))
+        let named = self.named(Fetched::Known(word, insn), number, epoch);
+        self.hart.finish(insn.dest(), outcome.value, outcome.next);
+        Some(self.told(named, plain(Change::Nothing), false))
+    }
+
+    /// Executes the instruction at the next address, with its number, epoch and time or none, where
+    /// it is a load or store of RAM: what is told of it, and what takes it back. None, and nothing
+    /// done, of any other.
+    #[inline(always)]
+    pub fn transfer(
+        &mut self,
+        word: u32,
+        insn: Insn,
+        number: u64,
+        epoch: u64,
+        time: Option<u64>,
+    ) -> Option<(Entry, Past)>
+        requires found { known word insn ≡ next_found self.old.hart }
+        requires fits { Fits insn }
+        requires count { retired_in self.old < 2 ^ 64 - 1 }
+        ensures none { IfNone result (self.new ≡ self.old) }
+        ensures stands { IfSome result (λ told. (s : Setup) (a : Arch)
+            → ContentsStandFor s a self.old → ContentsStandFor s (seq s time a) self.new) }
+        ensures entry { IfSome result (λ told. (s : Setup) (a : Arch)
+            → ContentsStandFor s a self.old → told.0 ≡ entry_at s time a number epoch) }
+        ensures back { IfSome result (λ told. (s : Setup) (a : Arch)
+            → ContentsStandFor s a self.old
+            → undone (ram_range s.params) told.1 (seq s time a) ≡ a) }
+        ensures number { IfSome result (λ told. told.1.number ≡ number) }
+        ensures restorable { IfSome result (λ told. IsRestorable told.1) }
+        ensures room { self.new.hart.room ≡ self.old.hart.room }
+    {
+        let fetched = Fetched::Known(word, insn);
+        let named = self.named(fetched, number, epoch);
+        let done = self.hart.transfer(insn)?;
+        let unserved = is_unserved(fetched, done.access, time);
+        Some(self.told(named, done, unserved))
     }
 
     /// Executes what was fetched at the next address, with its number, epoch and time or none: what
@@ -347,34 +423,12 @@ impl<D: Device> Contents<D> {
         ensures restorable { IsRestorable result.1 }
         ensures room { self.new.hart.room ≡ self.old.hart.room }
     {
-        let addr = self.hart.pc;
-        let reg = self.hart.before(fetched.destination());
+        let named = self.named(fetched, number, epoch);
         let room = self.hart.room;
         let done = self.hart.execute(&mut self.bus, fetched, time, room);
         self.cmp = compare_behind(&self.bus, done.change, self.cmp);
-        let entry = Entry {
-            number,
-            epoch,
-            addr,
-            word: fetched.word(),
-            access: done.access,
-            next: self.hart.pc,
-            cause: done.cause,
-            class: fetched.class(),
-            unserved: is_unserved(fetched, done.access, time),
-            out: done.sent,
-            halt: halt_in(done.stepped),
-            irq_on: takes_interrupts(&self.hart.csrs),
-            cmp: self.cmp,
-        };
-        let past = Past {
-            number,
-            addr,
-            reg,
-            change: done.change,
-            out: done.sent.is_some(),
-        };
-        (entry, past)
+        let unserved = is_unserved(fetched, done.access, time);
+        self.told(named, done, unserved)
     }
 
     /// Takes an instruction back.

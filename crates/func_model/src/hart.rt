@@ -1,10 +1,11 @@
 ghost use Rattle.std.specs.Prelude.{◌≡◌, ◌≤◌, ◌<◌, ◌^◌, ◌+◌, ◌-◌, ◌%◌, ℕ, None, Some, false};
 ghost use Rattle.std.specs.Prelude.{length, slice_index, vec_capacity, unwrap_or, if◌then◌else◌};
+ghost use Rattle.std.specs.Prelude.{Option, IfSome, IfNone};
 ghost use Rattle.mono_model.specs.Arch.{compare_of};
 ghost use Rattle.mono_model.specs.Found.{is_csr_insn, is_mret_insn};
 ghost use Rattle.mono_model.specs.Result.{attempted, csr_value};
 ghost use Rattle.mono_model.specs.Sequence.{byte_in};
-ghost use Rattle.func_model.specs.Steps.{plain_with, reaches_out};
+ghost use Rattle.func_model.specs.Steps.{plain_with, reaches_out, is_transfer};
 ghost use Rattle.func_model.specs.Undo.{csr_back, flags_before, trap_before};
 ghost use Rattle.machine_csr.specs.Csr.{csr_written};
 
@@ -87,6 +88,13 @@ fn reaches_out(insn: Insn) -> bool
     )
 }
 
+/// Whether the instruction is a load or a store.
+fn is_transfer(insn: Insn) -> bool
+    ensures transfer { result ≡ is_transfer insn }
+{
+    matches!(insn, Insn::Load { .. } | Insn::Store { .. })
+}
+
 /// The timer's place on the bus, and the numbers that are the halves of its mtimecmp.
 const TIMER: u32 = 1;
 
@@ -143,7 +151,7 @@ fn csr_value(insn: Insn, time: Option<u64>, value: u32) -> u32
 }
 
 /// What an instruction did that reached neither memory nor a device.
-fn plain(change: Change) -> Performed
+pub fn plain(change: Change) -> Performed
     ensures done { result ≡ plain_with change }
 {
     Performed {
@@ -415,6 +423,45 @@ impl Hart {
         }
     }
 
+    /// An aligned load of RAM, with the register that it writes. None, and nothing done, where it
+    /// isn't inside RAM.
+    #[tactic(auto, unfolding(crate::specs::Hart::arch_of))]
+    #[inline(always)]
+    fn load_ram(
+        &mut self,
+        destination: Option<u8>,
+        next: u32,
+        addr: u32,
+        width: Width,
+        signed: bool,
+    ) -> Option<Performed>
+        requires exists { IsDestination destination }
+        requires count { self.old.csrs.retired < 2 ^ 64 - 1 }
+        requires aligned { addr % width_bytes width ≡ 0 }
+        ensures none { IfNone result (self.new ≡ self.old) }
+        ensures told { IfSome result (λ done. (limit : ℕ) (time : Option ℕ) (d : Devices)
+            → Told limit (loaded_at next addr width signed (seen_in time (arch_of self.old d))
+            (spot_of (range_of self.old.memory) addr width)) (arch_of self.old d) done) }
+        ensures arch { IfSome result (λ done. (time : Option ℕ) (d : Devices)
+            → arch_of self.new d
+            ≡ load_made (range_of self.old.memory) destination next addr width signed time
+            (arch_of self.old d)) }
+        ensures back { IfSome result (λ done. (d : Devices)
+            → TakesBack (range_of self.old.memory) done (arch_of self.old d)
+            (arch_of self.new d)) }
+        ensures memory { self.new.memory ≡ self.old.memory }
+        ensures room { self.new.room ≡ self.old.room }
+    {
+        let raw = self.memory.get(addr, width)?;
+        let value = extend(raw, width, signed);
+        self.finish(destination, value, next);
+        let spot = Spot::Ram;
+        Some(Performed {
+            access: Access::Load { addr, width, spot },
+            ..plain(Change::Nothing)
+        })
+    }
+
     /// Ends a store that does this outside its device: sends a byte, if there is room for it, or
     /// ends the run.
     #[tactic(auto, unfolding(crate::specs::Hart::arch_of))]
@@ -503,6 +550,36 @@ impl Hart {
         }
     }
 
+    /// An aligned store to RAM. None, and nothing done, where it isn't inside RAM.
+    #[tactic(auto, unfolding(crate::specs::Hart::arch_of))]
+    #[inline(always)]
+    fn store_ram(&mut self, next: u32, addr: u32, width: Width, value: u32) -> Option<Performed>
+        requires count { self.old.csrs.retired < 2 ^ 64 - 1 }
+        requires aligned { addr % width_bytes width ≡ 0 }
+        ensures none { IfNone result (self.new ≡ self.old) }
+        ensures told { IfSome result (λ done. (limit : ℕ) (d : Devices)
+            → Told limit (stored_at next addr width value
+            (spot_of (range_of self.old.memory) addr width)) (arch_of self.old d) done) }
+        ensures arch { IfSome result (λ done. (limit : ℕ) (d : Devices)
+            → arch_of self.new d
+            ≡ store_made (range_of self.old.memory) limit next addr width value
+            (arch_of self.old d)) }
+        ensures back { IfSome result (λ done. (d : Devices)
+            → TakesBack (range_of self.old.memory) done (arch_of self.old d)
+            (arch_of self.new d)) }
+        ensures range { range_of self.new.memory ≡ range_of self.old.memory }
+        ensures exec { exec_of self.new.memory ≡ exec_of self.old.memory }
+        ensures room { self.new.room ≡ self.old.room }
+    {
+        let old = self.memory.set(addr, width, value)?;
+        self.finish(None, 0, next);
+        let spot = Spot::Ram;
+        Some(Performed {
+            access: Access::Store { addr, width, spot },
+            ..plain(Change::Memory { addr, width, old })
+        })
+    }
+
     /// Does what an instruction does whose outcome this is, with an output limit.
     #[tactic(auto, unfolding(crate::specs::Hart::arch_of))]
     #[inline(always)]
@@ -559,6 +636,44 @@ impl Hart {
                     value,
                 };
                 self.store(bus, access, limit)
+            }
+        }
+    }
+
+    /// Does what an instruction does whose outcome this is, where that is a load or store of RAM.
+    /// None, and nothing done, of any other outcome.
+    #[inline(always)]
+    fn reach_ram(&mut self, destination: Option<u8>, outcome: Outcome) -> Option<Performed>
+        requires exists { IsDestination destination }
+        requires count { self.old.csrs.retired < 2 ^ 64 - 1 }
+        requires aligned { AlignedBy outcome.cause outcome.reach }
+        ensures none { IfNone result (self.new ≡ self.old) }
+        ensures told { IfSome result (λ done. (limit : ℕ) (time : Option ℕ) (d : Devices)
+            → Told limit (outcome_result (range_of self.old.memory)
+            (seen_in time (arch_of self.old d)) outcome) (arch_of self.old d) done) }
+        ensures arch { IfSome result (λ done. (limit : ℕ) (time : Option ℕ) (d : Devices)
+            → arch_of self.new d
+            ≡ outcome_made (range_of self.old.memory) limit destination outcome time
+            (arch_of self.old d)) }
+        ensures back { IfSome result (λ done. (d : Devices)
+            → TakesBack (range_of self.old.memory) done (arch_of self.old d)
+            (arch_of self.new d)) }
+        ensures range { range_of self.new.memory ≡ range_of self.old.memory }
+        ensures exec { exec_of self.new.memory ≡ exec_of self.old.memory }
+        ensures room { self.new.room ≡ self.old.room }
+    {
+        if outcome.cause.is_some() {
+            return None;
+        }
+        match outcome.reach {
+            Reach::Nothing => None,
+            Reach::Load {
+                addr,
+                width,
+                signed,
+            } => self.load_ram(destination, outcome.next, addr, width, signed),
+            Reach::Store { addr, width, value } => {
+                self.store_ram(outcome.next, addr, width, value)
             }
         }
     }
@@ -635,6 +750,38 @@ impl Hart {
             None => Some(outcome),
             Some(_) => None,
         }
+    }
+
+    /// Makes a load or store of RAM, at whatever time. None, and nothing done, where the instruction
+    /// is none, traps, or reaches a device.
+    #[inline(always)]
+    pub fn transfer(&mut self, insn: Insn) -> Option<Performed>
+        requires fits { Fits insn }
+        requires count { self.old.csrs.retired < 2 ^ 64 - 1 }
+        ensures none { IfNone result (self.new ≡ self.old) }
+        ensures told { IfSome result (λ done.
+            (word limit : ℕ) (time : Option ℕ) (d : Devices)
+            → Told limit (result_of (range_of self.old.memory) (known word insn) time
+            (arch_of self.old d)) (arch_of self.old d) done) }
+        ensures arch { IfSome result (λ done.
+            (word limit : ℕ) (time : Option ℕ) (d : Devices)
+            → arch_of self.new d
+            ≡ behind limit (known word insn)
+            (result_of (range_of self.old.memory) (known word insn) time (arch_of self.old d)) time
+            (arch_of self.old d)) }
+        ensures back { IfSome result (λ done. (d : Devices)
+            → TakesBack (range_of self.old.memory) done (arch_of self.old d)
+            (arch_of self.new d)) }
+        ensures range { range_of self.new.memory ≡ range_of self.old.memory }
+        ensures exec { exec_of self.new.memory ≡ exec_of self.old.memory }
+        ensures room { self.new.room ≡ self.old.room }
+    {
+        if !is_transfer(insn) {
+            return None;
+        }
+        let (first, second) = insn.sources();
+        let outcome = eval(insn, self.pc, self.operand(first), self.operand(second));
+        self.reach_ram(insn.dest(), outcome)
     }
 
     /// Executes an instruction with a time or none and an output limit.

@@ -93,10 +93,20 @@ impl<D: Device> Walk<D> {
         ensures others { IsSameBut self.old self.new }
     {
         let fetched = self.contents.hart.fetch();
-        let computed = self.contents.compute(fetched, self.position, self.epoch);
-        if let Some((entry, past)) = computed {
-            self.note(past);
-            return entry;
+        if let Fetched::Known(word, insn) = fetched {
+            let computed = self.contents.compute(word, insn, self.position, self.epoch);
+            if let Some((entry, past)) = computed {
+                self.note(past);
+                return entry;
+            }
+            let time = self.time();
+            let moved = self
+                .contents
+                .transfer(word, insn, self.position, self.epoch, time);
+            if let Some((entry, past)) = moved {
+                self.note(past);
+                return entry;
+            }
         }
         self.carry_out(fetched)
     }
@@ -204,7 +214,10 @@ impl<D: Device> Walk<D> {
         self.committed = n;
     }
 
+    // The orders below stay calls: they are rare beside Commit, which then needs no frame of theirs.
+
     /// Instruction `n` stands at `addr`.
+    #[inline(never)]
     pub fn set(&mut self, n: u64, addr: u32)
         requires able { CanGoTo n self.old }
         requires epoch { self.old.epoch < 2 ^ 63 }
@@ -218,6 +231,7 @@ impl<D: Device> Walk<D> {
     }
 
     /// The timer interrupt is taken before instruction `n`, and committed.
+    #[inline(never)]
     pub fn interrupt(&mut self, n: u64)
         requires able { CanGoTo n self.old }
         requires epoch { self.old.epoch < 2 ^ 63 }
@@ -234,6 +248,7 @@ impl<D: Device> Walk<D> {
     }
 
     /// Instruction `n` is given a time.
+    #[inline(never)]
     pub fn serve(&mut self, n: u64, time: u64)
         requires able { CanGoTo n self.old }
         requires epoch { self.old.epoch < 2 ^ 63 }
@@ -247,6 +262,7 @@ impl<D: Device> Walk<D> {
     }
 
     /// The run has ended before instruction `n`.
+    #[inline(never)]
     pub fn stop(&mut self, n: u64)
         requires able { CanGoTo n self.old }
         requires epoch { self.old.epoch < 2 ^ 63 }
@@ -260,6 +276,7 @@ impl<D: Device> Walk<D> {
     }
 
     /// Fetch sees memory as it stands before instruction `n`, which is committed.
+    #[inline(never)]
     pub fn sync(&mut self, n: u64)
         requires able { CanGoTo n self.old }
         requires epoch { self.old.epoch < 2 ^ 63 }

@@ -1,5 +1,5 @@
 ghost use Rattle.std.specs.Prelude.{◌≡◌, ◌+◌, ◌*◌, ◌/◌, ◌%◌, ◌==◌, ◌||◌, ◌≤◌, ◌<◌, false, All};
-ghost use Rattle.std.specs.Prelude.{AllPairs, IfOk, OnOk, IfSome, length};
+ghost use Rattle.std.specs.Prelude.{AllPairs, IfOk, OnOk, IfSome, IfNone, length};
 ghost use Rattle.fsim_base.specs.Range.{IsInside};
 ghost use Rattle.fsim_base.specs.Memory.{put_byte};
 ghost use Rattle.fsim_base.specs.Width.{width_bytes};
@@ -191,6 +191,7 @@ impl Ram {
             ≡ stored (range_of self.old) (ram_of self.old) addr width value }
         ensures back { IfSome result (λ old.
             stored (range_of self.old) (ram_of self.new) addr width old ≡ ram_of self.old) }
+        ensures none { IfNone result (self.new ≡ self.old) }
 
         // The text stays as it was.
         ensures text { text_of self.new ≡ text_of self.old }

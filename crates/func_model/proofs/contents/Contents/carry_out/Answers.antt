@@ -1,21 +1,19 @@
-use Rattle.std.proofs.Common.{◌≡◌, ◌&&◌, slice_index, is_none, ap, ◌∙◌}
+use Rattle.std.proofs.Common.{◌≡◌, ◌∙◌}
 use Rattle.mono_model.specs.declared.setup.Setup.{Setup}
 use Rattle.mono_model.specs.Arch.{Arch, compare_of}
-use Rattle.mono_model.specs.Found.{word_in, class_in}
-use Rattle.mono_model.specs.Result.{is_time_read}
 use Rattle.phys_mem.specs.Ram.{exec_of, range_of}
 use Rattle.func_model.specs.Hart.{arch_of, found_in}
 use Rattle.func_model.specs.Steps.{result_of}
-use Rattle.func_model.specs.Undo.{past_of, register_before, ended_in}
 use Rattle.func_model.specs.Contents.{ContentsStandFor}
 use Rattle.func_model.proofs.Advance.{met_found}
 use Rattle.func_model.proofs.Compared.{compare_kept, compare_in, compare_for}
-use Rattle.func_model.proofs.Stepping.{Executed, executed_at, executed_seq, entry_told, back_from}
+use Rattle.func_model.proofs.Stepping.{Executed, executed_at, executed_seq, back_from}
+use Rattle.func_model.proofs.Telling.{told_entry, told_past}
 use Rattle.func_model.proofs.contents.Contents.carry_out.Given as given
 use Rattle.func_model.proofs.contents.Contents.carry_out.Goals as goal
 
 -- the instruction as it was executed at the state that the contents stand for
-executed : (g : given.Over) (c : goal.After-is_some g) (s : Setup) (a : Arch) → ContentsStandFor s a c.args.self.now →
+executed : (g : given.Over) (c : goal.After-told g) (s : Setup) (a : Arch) → ContentsStandFor s a c.args.self.now →
     Executed s c.args.time c.args.self.now.hart.room a (found_in c.args.fetched) c.execute-done.result (arch_of c.execute-done.new.self c.execute-done.new.bus)
 unfolding arch_of
 executed g c s a h =
@@ -25,24 +23,11 @@ executed g c s a h =
     c.execute-done.ensures.told c.execute-done.ensures.arch c.requires.room
 
 -- mtimecmp behind it
-compared : (g : given.Over) (c : goal.After-is_some g) (s : Setup) (a : Arch) → ContentsStandFor s a c.args.self.now → c.compare_behind-self.result ≡ compare_of c.execute-done.new.bus
+compared : (g : given.Over) (c : goal.After-told g) (s : Setup) (a : Arch) → ContentsStandFor s a c.args.self.now → c.compare_behind-self.result ≡ compare_of c.execute-done.new.bus
 unfolding arch_of
 compared g c s a h =
     compare_kept c.execute-done.result.change c.args.self.now.cmp c.compare_behind-self.result c.args.self.now.bus c.execute-done.new.bus c.execute-done.ensures.back.devices
     (compare_in c.args.self.now.cmp (arch_of c.args.self.now.hart c.args.self.now.bus) a h.arch h.compare) c.compare_behind-self.ensures.compare
-
--- the undo step, whole
-past_is : (g : given.Over) (c : goal.After-is_some g) →
-    (record { number = c.args.number; addr = c.args.self.now.hart.pc; reg = c.before-reg.result; change = c.execute-done.result.change; out = c.is_some.result })
-    ≡ past_of c.args.number (found_in c.args.fetched) (arch_of c.args.self.now.hart c.args.self.now.bus) c.execute-done.result
-unfolding arch_of
-past_is g c = λ i. record {
-  number = c.args.number;
-  addr = c.args.self.now.hart.pc;
-  reg = (c.before-reg.ensures.before ∙ ap (λ d. register_before d (λ r. slice_index c.args.self.now.hart.regs r)) c.destination.ensures.register) i;
-  change = c.execute-done.result.change;
-  out = c.is_some.ensures i;
-}
 
 pub returns-clause-stands : goal.returns-clause-stands
 unfolding arch_of
@@ -60,41 +45,14 @@ unfolding arch_of
 returns-clause-back g c = λ s a h.
     back_from s c.args.time c.args.self.now.hart.room c.args.number (range_of c.args.self.now.hart.memory) (found_in c.args.fetched)
     (result_of (range_of c.args.self.now.hart.memory) (found_in c.args.fetched) c.args.time (arch_of c.args.self.now.hart c.args.self.now.bus))
-    (arch_of c.args.self.now.hart c.args.self.now.bus) a (arch_of c.execute-done.new.self c.execute-done.new.bus) c.execute-done.result _ h.arch h.range (past_is g c)
+    (arch_of c.args.self.now.hart c.args.self.now.bus) a (arch_of c.execute-done.new.self c.execute-done.new.bus) c.execute-done.result _ h.arch h.range
+    (c.told.ensures.past ∙ told_past c.args.number c.args.epoch (found_in c.args.fetched) c.execute-done.result c.args.self.now.hart c.args.self.now.bus c.named-named.result c.named-named.ensures.named)
     c.execute-done.ensures.told c.execute-done.ensures.arch c.execute-done.ensures.back c.requires.room
     (executed_seq s c.args.time c.args.self.now.hart.room a (found_in c.args.fetched) c.execute-done.result (arch_of c.execute-done.new.self c.execute-done.new.bus) (executed g c s a h))
 
 pub returns-clause-entry : goal.returns-clause-entry
-unfolding arch_of
 returns-clause-entry g c = λ s a h.
-    let same : _ ≡ record {
-      number = c.args.number;
-      epoch = c.args.epoch;
-      addr = a.pc;
-      word = word_in (found_in c.args.fetched);
-      access = c.execute-done.result.access;
-      next = c.execute-done.new.self.pc;
-      cause = c.execute-done.result.cause;
-      class = class_in (found_in c.args.fetched);
-      unserved = is_time_read (found_in c.args.fetched) c.execute-done.result.access && is_none c.args.time;
-      out = c.execute-done.result.sent;
-      halt = ended_in c.execute-done.result.stepped;
-      irq_on = c.execute-done.new.self.csrs.mie && c.execute-done.new.self.csrs.mtie;
-      cmp = compare_of c.execute-done.new.bus;
-    } = λ i. record {
-      number = c.args.number;
-      epoch = c.args.epoch;
-      addr = (ap (λ (x : Arch). x.pc) h.arch) i;
-      word = c.word.ensures.word i;
-      access = c.execute-done.result.access;
-      next = c.execute-done.new.self.pc;
-      cause = c.execute-done.result.cause;
-      class = c.class.ensures.class i;
-      unserved = c.is_unserved.ensures.unserved i;
-      out = c.execute-done.result.sent;
-      halt = c.halt_in.ensures.halt i;
-      irq_on = c.takes_interrupts.ensures.on i;
-      cmp = compared g c s a h i;
-    } in
-    same ∙ entry_told s c.args.time c.args.self.now.hart.room c.args.number c.args.epoch a (found_in c.args.fetched) c.execute-done.result
-    (arch_of c.execute-done.new.self c.execute-done.new.bus) (executed g c s a h)
+    c.told.ensures.entry
+    ∙ told_entry s c.args.time c.args.self.now.hart.room c.args.number c.args.epoch a (found_in c.args.fetched) c.execute-done.result c.args.self.now.hart c.execute-done.new.self
+    c.args.self.now.bus c.execute-done.new.bus c.named-named.result c.is_unserved-unserved.result c.compare_behind-self.result (executed g c s a h) h.arch c.named-named.ensures.named
+    c.is_unserved-unserved.ensures.unserved (compared g c s a h)
