@@ -752,8 +752,8 @@ impl Hart {
         }
     }
 
-    /// Makes a load or store of RAM, at whatever time. None, and nothing done, where the instruction
-    /// is none, traps, or reaches a device.
+    /// Makes a load or store of RAM, at whatever time. None, and nothing done, where the
+    /// instruction is none, traps, or reaches a device.
     #[inline(always)]
     pub fn transfer(&mut self, insn: Insn) -> Option<Performed>
         requires fits { Fits insn }

@@ -214,7 +214,7 @@ impl<D: Device> Walk<D> {
         self.committed = n;
     }
 
-    // The orders below stay calls: they are rare beside Commit, which then needs no frame of theirs.
+    // The orders below stay calls: beside Commit they are rare, and it needs no frame of theirs.
 
     /// Instruction `n` stands at `addr`.
     #[inline(never)]

@@ -86,7 +86,9 @@ impl InorderSide {
         ensures stands { (s : RunSetup) (k : ℕ) → InorderStandsFor s k self.old
             → (entry.now.epoch ≡ self.old.telling.epoch → entry.now ≡ needed_entry s (seen s k))
             → InorderStandsFor s k self.new }
-        ensures used { result ≡ Taken.Used → self.new ≡ record self.old { telling = record self.old.telling { held = Some entry.now } } }
+        ensures used { result ≡ Taken.Used
+            → self.new ≡ record self.old
+            { telling = record self.old.telling { held = Some entry.now } } }
         ensures dropped { result ≡ Taken.Dropped → self.new ≡ self.old }
         ensures by_epoch { (result ≡ Taken.Used) ↔ (entry.now.epoch ≡ self.old.telling.epoch) }
     {

@@ -1,5 +1,5 @@
-ghost use Rattle.std.specs.Prelude.{◌≡◌, ◌&&◌, ℕ, true, false, if◌then◌else◌, Some, None, IfOk};
-ghost use Rattle.std.specs.Prelude.{is_none, unwrap_or};
+ghost use Rattle.std.specs.Prelude.{◌≡◌, ◌&&◌, ℕ, true, false, Some, None, IfOk};
+ghost use Rattle.std.specs.Prelude.{is_none};
 
 use crate::at::At;
 use crate::lane::LaneCore;
@@ -29,7 +29,6 @@ impl InorderState {
     ghost use Rattle.mono_model.specs.Demand.{is_try};
     ghost use Rattle.mono_model.specs.Split.{is_cycle_start};
     ghost use Rattle.timing_core.specs.Small.{IsSmall};
-    ghost use Rattle.timing_core.specs.Orders.{orders_in};
     ghost use Rattle.time_model.specs.Turning.{held_by};
     ghost use Rattle.lane_model.specs.Demand.{seen_at, trying};
     ghost use Rattle.lane_side.specs.Timing.{LaneTiming};

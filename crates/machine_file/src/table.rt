@@ -37,7 +37,10 @@ pub(crate) const FIRST_COUNT: usize = 28;
 
 /// A row with the names of its key, the kind and range of its numbers, and its default.
 macro_rules! row {
-    ($top:literal, $inside:literal, $wanted:ident, $low:literal, $high:literal, $default:literal) => {
+    (
+        $top:literal, $inside:literal, $wanted:ident, $low:literal, $high:literal,
+        $default:literal
+    ) => {
         Row {
             key: Key {
                 top: $top,

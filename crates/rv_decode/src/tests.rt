@@ -37,18 +37,21 @@ static WORDS: [(u32, Insn); 75] = table! {
     0xabf8_2523 = Store { kind: 2, rs1: 16, rs2: 31, imm: 0xffff_faaa }, // sw x31, -1366(x16)
     0x0000_afa3 = Store { kind: 2, rs1: 1, rs2: 0, imm: 0x0000_001f }, // sw x0, 31(x1)
     0x0000_0013 = OpImm { kind: 0, alt: false, rd: 0, rs1: 0, imm: 0 }, // addi x0, x0, 0
-    0x8001_0093 = OpImm { kind: 0, alt: false, rd: 1, rs1: 2, imm: 0xffff_f800 }, // addi x1, x2, -2048
-    0x7fff_0f93 = OpImm { kind: 0, alt: false, rd: 31, rs1: 30, imm: 0x0000_07ff }, // addi x31, x30, 2047
+    // addi x1, x2, -2048
+    0x8001_0093 = OpImm { kind: 0, alt: false, rd: 1, rs1: 2, imm: 0xffff_f800 },
+    0x7fff_0f93 = OpImm { kind: 0, alt: false, rd: 31, rs1: 30, imm: 0x7ff }, // addi x31, x30, 2047
     0xfff2_2193 = OpImm { kind: 2, alt: false, rd: 3, rs1: 4, imm: 0xffff_ffff }, // slti x3, x4, -1
-    0xfff3_3293 = OpImm { kind: 3, alt: false, rd: 5, rs1: 6, imm: 0xffff_ffff }, // sltiu x5, x6, -1
-    0x5554_4393 = OpImm { kind: 4, alt: false, rd: 7, rs1: 8, imm: 0x0000_0555 }, // xori x7, x8, 1365
-    0xaaa5_6493 = OpImm { kind: 6, alt: false, rd: 9, rs1: 10, imm: 0xffff_faaa }, // ori x9, x10, -1366
-    0x0ff6_7593 = OpImm { kind: 7, alt: false, rd: 11, rs1: 12, imm: 0x0000_00ff }, // andi x11, x12, 255
+    // sltiu x5, x6, -1
+    0xfff3_3293 = OpImm { kind: 3, alt: false, rd: 5, rs1: 6, imm: 0xffff_ffff },
+    0x5554_4393 = OpImm { kind: 4, alt: false, rd: 7, rs1: 8, imm: 0x555 }, // xori x7, x8, 1365
+    // ori x9, x10, -1366
+    0xaaa5_6493 = OpImm { kind: 6, alt: false, rd: 9, rs1: 10, imm: 0xffff_faaa },
+    0x0ff6_7593 = OpImm { kind: 7, alt: false, rd: 11, rs1: 12, imm: 0xff }, // andi x11, x12, 255
     0x0007_1693 = OpImm { kind: 1, alt: false, rd: 13, rs1: 14, imm: 0 }, // slli x13, x14, 0
-    0x01f7_1693 = OpImm { kind: 1, alt: false, rd: 13, rs1: 14, imm: 0x0000_001f }, // slli x13, x14, 31
-    0x01f8_5793 = OpImm { kind: 5, alt: false, rd: 15, rs1: 16, imm: 0x0000_001f }, // srli x15, x16, 31
+    0x01f7_1693 = OpImm { kind: 1, alt: false, rd: 13, rs1: 14, imm: 0x1f }, // slli x13, x14, 31
+    0x01f8_5793 = OpImm { kind: 5, alt: false, rd: 15, rs1: 16, imm: 0x1f }, // srli x15, x16, 31
     0x4019_5893 = OpImm { kind: 5, alt: true, rd: 17, rs1: 18, imm: 1 }, // srai x17, x18, 1
-    0x41f9_5893 = OpImm { kind: 5, alt: true, rd: 17, rs1: 18, imm: 0x0000_001f }, // srai x17, x18, 31
+    0x41f9_5893 = OpImm { kind: 5, alt: true, rd: 17, rs1: 18, imm: 0x1f }, // srai x17, x18, 31
     0x01a5_8cb3 = Op { kind: 0, alt: false, rd: 25, rs1: 11, rs2: 26 }, // add x25, x11, x26
     0x4058_0033 = Op { kind: 0, alt: true, rd: 0, rs1: 16, rs2: 5 }, // sub x0, x16, x5
     0x010a_93b3 = Op { kind: 1, alt: false, rd: 7, rs1: 21, rs2: 16 }, // sll x7, x21, x16
@@ -71,9 +74,11 @@ static WORDS: [(u32, Insn); 75] = table! {
     0x0210_000f = Fence { rd: 0, rs1: 0, upper: 0x021, fetch: false }, // fence r, w
     0x0f40_000f = Fence { rd: 0, rs1: 0, upper: 0x0f4, fetch: false }, // fence iorw, o
     0x8330_000f = Fence { rd: 0, rs1: 0, upper: 0x833, fetch: false }, // fence.tso
-    0x1233_028f = Fence { rd: 5, rs1: 6, upper: 0x123, fetch: false }, // .insn i 0x0f, 0, x5, x6, 0x123
+    // .insn i 0x0f, 0, x5, x6, 0x123
+    0x1233_028f = Fence { rd: 5, rs1: 6, upper: 0x123, fetch: false },
     0x0000_100f = Fence { rd: 0, rs1: 0, upper: 0x000, fetch: true }, // fence.i
-    0xfff0_9f8f = Fence { rd: 31, rs1: 1, upper: 0xfff, fetch: true }, // .insn i 0x0f, 1, x31, x1, -1
+    // .insn i 0x0f, 1, x31, x1, -1
+    0xfff0_9f8f = Fence { rd: 31, rs1: 1, upper: 0xfff, fetch: true },
     0x0000_0073 = Ecall {}, // ecall
     0x0010_0073 = Ebreak {}, // ebreak
     0x3020_0073 = Mret {}, // mret

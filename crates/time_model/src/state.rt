@@ -1,5 +1,5 @@
 ghost use Rattle.std.specs.Prelude.{◌≡◌, ◌&&◌, ℕ, true, false, if◌then◌else◌, Some, None, IfOk};
-ghost use Rattle.std.specs.Prelude.{is_none, unwrap_or};
+ghost use Rattle.std.specs.Prelude.{is_none};
 
 use crate::at::At;
 use crate::stepping::Stepping;
@@ -35,7 +35,6 @@ impl TimeState {
     ghost use Rattle.timing_side.specs.Turn.{at_after_cycle};
     ghost use Rattle.timing_core.specs.CoreStandsFor.{CoreStandsFor};
     ghost use Rattle.timing_core.specs.Small.{IsSmall};
-    ghost use Rattle.timing_core.specs.Orders.{orders_in};
     ghost use Rattle.time_model.specs.At.{at_in};
     ghost use Rattle.time_model.specs.Standing.{TimeSideStandsFor, IsStanding, wants_in};
     ghost use Rattle.time_model.specs.Running.{IsRun, Steps};
@@ -58,7 +57,8 @@ impl TimeState {
 
     /// Whether a cycle starts here, or the run has ended, with all orders told.
     pub fn at_boundary(&self) -> bool
-        ensures boundary { result ≡ (is_none self.now.telling.owed && is_cycle_start (at_in self.now.at)) }
+        ensures boundary { result
+            ≡ (is_none self.now.telling.owed && is_cycle_start (at_in self.now.at)) }
     {
         self.telling.owed.is_none()
             && matches!(self.at, At::Interrupting | At::Stopping | At::Halted)
@@ -120,7 +120,8 @@ impl TimeState {
             IsTurned s (timing_turn s e (trying allowed) t) self.new result }
         ensures held { (s : RunSetup) (t : Timing) (e : SpecEntry) → CoreStandsFor s t self.old.core
             → IsSmall t → self.old.telling.held ≡ Some e →
-            self.new.telling.held ≡ held_by (timing_turn s e (trying allowed) t).timing t self.old.telling.held }
+            self.new.telling.held
+            ≡ held_by (timing_turn s e (trying allowed) t).timing t self.old.telling.held }
         ensures others { self.new
             ≡ record self.old {
               core = self.new.core;
@@ -171,8 +172,10 @@ impl TimeState {
             → IsTurned s (timing_turn s e (at_in self.old.at) t) self.new result }
         ensures held { (s : RunSetup) (t : Timing) (e : SpecEntry) → CoreStandsFor s t self.old.core
             → IsSmall t → is_try (at_in self.old.at) ≡ true → self.old.telling.held ≡ Some e →
-            self.new.telling.held ≡ held_by (timing_turn s e (at_in self.old.at) t).timing t self.old.telling.held }
-        ensures keeps { is_try (at_in self.old.at) ≡ false → self.new.telling.held ≡ self.old.telling.held }
+            self.new.telling.held
+            ≡ held_by (timing_turn s e (at_in self.old.at) t).timing t self.old.telling.held }
+        ensures keeps { is_try (at_in self.old.at) ≡ false
+            → self.new.telling.held ≡ self.old.telling.held }
         ensures others { self.new
             ≡ record self.old {
               core = self.new.core;
