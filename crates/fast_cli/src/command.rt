@@ -5,7 +5,7 @@ ghost use Rattle.clap.specs.Words.{app_of, is_simple_and_free, with_rule};
 ghost use Rattle.fast_cli.specs.Words.{AreText, values_in};
 ghost use Rattle.fast_cli.specs.Command.{ReadsAs, command_by, command_of, name_rule, names_rule};
 ghost use Rattle.fast_cli.specs.Command.{option_rule, parsed};
-ghost use Rattle.fast_cli.specs.Command.{values_of, with_rest};
+ghost use Rattle.fast_cli.specs.Command.{values_of};
 ghost use Rattle.fast_cli.specs.Form.{form_of};
 
 use crate::form::Form;

@@ -146,6 +146,10 @@ pub record IsProduced {D : Type 0} (s : Setup) (os : List Order) (old new : Walk
   pub entry_is : IfSome result (λ e. e ≡ entry s os old.position)
   pub stands : WalkStandsFor s os new
 
+-- the entry that a place has, if one was written there
+abbrev pub entry_if : Bool → Entry → Option Entry
+entry_if written place = if written then Some place else None
+
 -- one instruction, by the addresses of RAM and of text alone
 unfoldable pub seq_by : RamRange → (ℕ → Bool) → Option ℕ → Arch → Arch
 seq_by range is_text time a =

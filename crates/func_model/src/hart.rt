@@ -1,5 +1,5 @@
-ghost use Rattle.std.specs.Prelude.{◌≡◌, ◌≤◌, ◌<◌, ◌^◌, ◌+◌, ◌-◌, ◌%◌, ℕ, None, Some, false};
-ghost use Rattle.std.specs.Prelude.{length, slice_index, vec_capacity, unwrap_or, if◌then◌else◌};
+ghost use Rattle.std.specs.Prelude.{◌≡◌, ◌≤◌, ◌<◌, ◌^◌, ◌+◌, ◌-◌, ◌%◌, ℕ, None, Some};
+ghost use Rattle.std.specs.Prelude.{slice_index, vec_capacity, unwrap_or, if◌then◌else◌};
 ghost use Rattle.std.specs.Prelude.{Option, IfSome, IfNone};
 ghost use Rattle.mono_model.specs.Arch.{compare_of};
 ghost use Rattle.mono_model.specs.Found.{is_csr_insn, is_mret_insn};
@@ -210,13 +210,12 @@ impl Hart {
     ghost use Rattle.fsim_base.specs.Cause.{cause_number};
     ghost use Rattle.fsim_base.specs.Width.{width_bytes};
     ghost use Rattle.mono_model.specs.Arch.{Arch, register_value, with_register, trapped};
-    ghost use Rattle.mono_model.specs.Found.{known, destination_in};
-    ghost use Rattle.mono_model.specs.Result.{raw_at, spot_of, loaded_at, stored_at, resulting};
+    ghost use Rattle.mono_model.specs.Found.{known};
+    ghost use Rattle.mono_model.specs.Result.{raw_at, spot_of, loaded_at, stored_at};
     ghost use Rattle.mono_model.specs.Result.{csr_result};
     ghost use Rattle.mono_model.specs.Sequence.{seen_in};
     ghost use Rattle.rv_decode.specs.Fits.{Fits};
     ghost use Rattle.machine_csr.specs.Csr.{csr_access};
-    ghost use Rattle.machine_csr.specs.Trap.{return_address};
     ghost use Rattle.rv_decode.specs.Class.{dest_of};
     ghost use Rattle.phys_mem.specs.Ram.{ram_of, text_of, exec_of, range_of, text_from};
     ghost use Rattle.func_model.specs.Steps.{failed_with, finished, read_devices, load_made};

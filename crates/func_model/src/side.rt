@@ -1,5 +1,5 @@
 ghost use Rattle.std.specs.Prelude.{◌≡◌, ◌↔◌, ◌<◌, ◌≤◌, ◌+◌, ◌^◌, ℕ, Option, Some, None, true};
-ghost use Rattle.std.specs.Prelude.{false, map, IfOk, IfSome, IfNone, IsNone, length};
+ghost use Rattle.std.specs.Prelude.{map, IfOk, IfSome, IfNone, IsNone, length};
 ghost use Rattle.mono_model.specs.declared.setup.Setup.{Setup as RunSetup};
 ghost use Rattle.mono_model.specs.Arch.{Arch as State};
 ghost use Rattle.func_model.specs.Contents.{ContentsStandFor};
@@ -71,7 +71,7 @@ impl<D: Device> FuncSide<D> {
     ghost use Rattle.mono_model.specs.Alone.{alone, alone_final};
     ghost use Rattle.func_model.specs.Contents.{output_in};
     ghost use Rattle.func_model.specs.Walk.{WalkStandsFor, IsFresh, IsForward, IsAtRest};
-    ghost use Rattle.func_model.specs.Walk.{IsProduced, IsObeyed, HasRoom};
+    ghost use Rattle.func_model.specs.Walk.{IsProduced, IsObeyed, HasRoom, entry_if};
     ghost use Rattle.func_model.specs.Side.{arch_in, word_in};
 
     /// The functional side at the start of a run. It takes all memory of the run here: RAM, the
@@ -98,10 +98,30 @@ impl<D: Device> FuncSide<D> {
         ensures none { IsNone result ↔ IsAtRest self.old }
         ensures same { IfNone result (self.new ≡ self.old) }
     {
-        if self.walk.is_stopped || self.walk.journal.is_full() {
-            return None;
+        let mut entry = Entry::BLANK;
+        if self.produce_into(&mut entry) {
+            Some(entry)
+        } else {
+            None
         }
-        Some(self.walk.step())
+    }
+
+    /// The same, with the entry written over another one, where its reader finds it. False where
+    /// none is made.
+    pub fn produce_into(&mut self, to: &mut Entry) -> bool
+        requires position { self.old.position < 2 ^ 62 }
+        requires epoch { self.old.epoch < 2 ^ 62 }
+        ensures produced { (s : RunSetup) (os : List SpecOrder) → WalkStandsFor s os self.old
+            → IsProduced s os self.old self.new (entry_if result to.new) }
+        ensures moved { IfSome (entry_if result to.new) (λ e. IsForward self.old self.new) }
+        ensures none { IsNone (entry_if result to.new) ↔ IsAtRest self.old }
+        ensures same { IfNone (entry_if result to.new) (self.new ≡ self.old) }
+    {
+        if self.walk.is_stopped || self.walk.journal.is_full() {
+            return false;
+        }
+        self.walk.step_into(to);
+        true
     }
 
     /// Obeys an order of the timing side. Each but Commit goes to instruction `n`, backwards by

@@ -1,5 +1,5 @@
 ghost use Rattle.std.specs.Prelude.{◌≡◌, ◌↔◌, ◌≤◌, ◌<◌, ◌+◌, ◌^◌, ℕ, Option, true, false, map};
-ghost use Rattle.std.specs.Prelude.{IfOk, IfNone, IfSome, IsTrue};
+ghost use Rattle.std.specs.Prelude.{IfOk};
 ghost use Rattle.mono_model.specs.Final.{has_ended};
 ghost use Rattle.func_model.specs.History.{end_by};
 

@@ -92,23 +92,44 @@ impl<D: Device> Walk<D> {
         ensures position { self.new.position ≡ self.old.position + 1 }
         ensures others { IsSameBut self.old self.new }
     {
+        let mut entry = Entry::BLANK;
+        self.step_into(&mut entry);
+        entry
+    }
+
+    /// The same, with the entry written over another one, where its reader finds it: the host has
+    /// not to copy what it has just written.
+    pub fn step_into(&mut self, to: &mut Entry)
+        requires standing { IsStanding self.old }
+        requires running { self.old.is_stopped ≡ false }
+        requires room { self.old.position < self.old.committed + self.old.journal.room }
+        requires bounded { self.old.position < 2 ^ 63 }
+        ensures stands { (s : RunSetup) (os : List SpecOrder) → WalkStandsFor s os self.old
+            → WalkStandsFor s os self.new }
+        ensures entry { (s : RunSetup) (os : List SpecOrder) → WalkStandsFor s os self.old
+            → to.new ≡ entry s os self.old.position }
+        ensures position { self.new.position ≡ self.old.position + 1 }
+        ensures others { IsSameBut self.old self.new }
+    {
         let fetched = self.contents.hart.fetch();
         if let Fetched::Known(word, insn) = fetched {
             let computed = self.contents.compute(word, insn, self.position, self.epoch);
-            if let Some((entry, past)) = computed {
+            if let Some((made, past)) = computed {
                 self.note(past);
-                return entry;
+                *to = made;
+                return;
             }
             let time = self.time();
             let moved = self
                 .contents
                 .transfer(word, insn, self.position, self.epoch, time);
-            if let Some((entry, past)) = moved {
+            if let Some((made, past)) = moved {
                 self.note(past);
-                return entry;
+                *to = made;
+                return;
             }
         }
-        self.carry_out(fetched)
+        *to = self.carry_out(fetched);
     }
 
     /// Executes what was fetched at the next address, whatever that is, and notes what takes it

@@ -18,7 +18,7 @@ pub fn cut_stations(window: &Window, stations: &mut Stations, from: u32) -> u32
     let mut divisions = 0;
     for place in (from..window.len()).rev() {
         let (index, slot) = slot_at(window, place);
-        divisions += divisions_in(slot);
+        divisions += divisions_in(&slot);
         stations.cut(index);
     }
     divisions

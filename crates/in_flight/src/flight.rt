@@ -9,6 +9,7 @@ use reorder_buffer::{Slot, SlotState, Window};
 use reservation_stations::Stations;
 use std::alloc::Global;
 use std::marker::Model;
+use trace_entry::Entry;
 
 /// The instructions in flight, the oldest first, with numbers one after the other: each has a slot
 /// in the window and a reservation station, and a store has a place in the store queue (Hennessy
@@ -40,9 +41,9 @@ impl InFlight {
     ghost use Rattle.std.specs.Prelude.{◌≡◌, ◌↔◌, ℕ, ◌+◌, ◌-◌, ◌<◌, ◌≤◌, ◌++◌, ◌∷◌, [], false};
     ghost use Rattle.std.specs.Prelude.{length, take, drop, Some, IsTrue, IfOk, IfSome, IfNone};
     ghost use Rattle.std.specs.Prelude.{slice_get, slice_set};
-    ghost use Rattle.std.specs.Option.{option_copied};
     ghost use Rattle.reorder_buffer.specs.declared.slot.SlotState.TheVariants.{Waiting, Until};
     ghost use Rattle.reorder_buffer.specs.declared.slot.SlotState.TheVariants.{Done};
+    ghost use Rattle.reorder_buffer.specs.Held.{slot_from};
     ghost use Rattle.reorder_buffer.specs.Window.{IsConsecutive, youngest};
     ghost use Rattle.timing_side.specs.Slots.{waiting_count};
     ghost use Rattle.timing_side.specs.Issue.{busy_divisions, are_stores_done};
@@ -103,32 +104,37 @@ impl InFlight {
     }
 
     /// The slot of the oldest instruction; None where there is none.
-    pub fn oldest(&self) -> Option<&Slot>
-        ensures oldest { option_copied result ≡ slice_get self.now.slots 0 }
+    #[inline(always)]
+    pub fn oldest(&self) -> Option<Slot>
+        ensures oldest { result ≡ slice_get self.now.slots 0 }
     {
         self.window.oldest()
     }
 
     /// The slot at a place, counted from the oldest at 0.
-    pub fn at(&self, place: u32) -> &Slot
+    #[inline(always)]
+    pub fn at(&self, place: u32) -> Slot
         requires within { place < length self.now.slots }
-        ensures slot { slice_get self.now.slots place ≡ Some result.now }
+        ensures slot { slice_get self.now.slots place ≡ Some result }
     {
         self.window.slot(place)
     }
 
     /// Adds an instruction that waits, behind the others. There is room, and its number is the one
     /// behind the youngest one's.
-    pub fn append(&mut self, slot: Slot)
+    pub fn append(&mut self, entry: &Entry, predicted: u32, fetched: u64)
         requires room { length self.old.slots < self.old.capacity }
-        requires next { IfSome (youngest self.old.slots) (λ last. slot.number ≡ last.number + 1) }
-        requires waiting { slot.state ≡ Waiting }
-        ensures appended { self.new ≡ record self.old { slots = self.old.slots ++ slot ∷ [] } }
+        requires next { IfSome (youngest self.old.slots)
+            (λ last. entry.now.number ≡ last.number + 1) }
+        ensures appended { self.new
+            ≡ record self.old {
+              slots = self.old.slots ++ slot_from entry.now predicted fetched Waiting ∷ [];
+            } }
     {
         prove!(self.window.len() < 256);
-        let index = self.window.append(slot);
-        put_store(&mut self.stores, &slot);
-        let registers = self.known.told(slot.addr, slot.word);
+        let index = self.window.append(entry, predicted, fetched);
+        put_store(&mut self.stores, entry);
+        let registers = self.known.told(entry.addr, entry.word);
         self.stations
             .enter(index, registers.sources, registers.destination);
     }
@@ -140,9 +146,9 @@ impl InFlight {
         ensures left { self.new ≡ record self.old { slots = drop 1 self.old.slots } }
     {
         let (index, slot) = slot_at(&self.window, 0);
-        self.dividing -= divisions_in(slot);
-        self.stations.retire(index);
         pop_oldest(&mut self.stores, &self.window);
+        self.dividing -= divisions_in(&slot);
+        self.stations.retire(index);
         self.window.pop();
     }
 
@@ -223,7 +229,7 @@ impl InFlight {
         let (index, slot) = slot_at(&self.window, place);
         let begun = Slot {
             state: SlotState::Until(until),
-            ..*slot
+            ..slot
         };
         self.window.mark(place, begun.state);
         self.dividing += divisions_in(&begun);
@@ -241,7 +247,6 @@ impl InFlight {
             { slots = slice_set self.old.slots place (record slot { state = Done }) }) }
     {
         let (index, slot) = slot_at(&self.window, place);
-        let slot = *slot;
         self.window.mark(place, SlotState::Done);
         self.dividing -= divisions_in(&slot);
         self.stations.wake(index, slot.cause.is_some());

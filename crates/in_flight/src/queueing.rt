@@ -1,22 +1,27 @@
 //! What the store queue has of the window's slots, as these change.
-ghost use Rattle.std.specs.Prelude.{◌≡◌, ◌<◌, true, Any, IfSome, length, drop};
+ghost use Rattle.std.specs.Prelude.{◌≡◌, ◌<◌, ℕ, true, Any, IfSome, length, drop};
+ghost use Rattle.reorder_buffer.specs.declared.slot.SlotState.TheVariants.{Waiting};
+ghost use Rattle.reorder_buffer.specs.Held.{slot_from};
 ghost use Rattle.load_store_queue.specs.Queue.{youngest};
 ghost use Rattle.in_flight.specs.Step.{queue_of, is_store, put_in, finished_in};
 
 use crate::reading::{is_store, slot_at};
+use fsim_base::Class;
 use load_store_queue::StoreQueue;
 use reorder_buffer::{Slot, Window};
+use trace_entry::Entry;
 
-/// Puts a slot that isn't done into the queue, if it stores.
-pub fn put_store(stores: &mut StoreQueue, slot: &Slot)
+/// Puts an instruction into the queue, if it stores: as its slot, whatever else that has.
+pub fn put_store(stores: &mut StoreQueue, entry: &Entry)
     requires room { length stores.old.stores < stores.old.capacity }
-    requires above { IfSome (youngest stores.old.stores) (λ last. last.number < slot.now.number) }
-    ensures put { stores.new ≡ record stores.old {
-      stores = put_in slot.now stores.old.stores;
+    requires above { IfSome (youngest stores.old.stores)
+        (λ last. last.number < entry.now.number) }
+    ensures put { (predicted fetched : ℕ) → stores.new ≡ record stores.old {
+      stores = put_in (slot_from entry.now predicted fetched Waiting) stores.old.stores;
     } }
 {
-    if is_store(slot) {
-        stores.put(slot.number);
+    if entry.class == Class::Store {
+        stores.put(entry.number);
     }
 }
 
@@ -27,7 +32,7 @@ pub fn pop_oldest(stores: &mut StoreQueue, window: &Window)
     ensures left { stores.new ≡ queue_of window.now.capacity (drop 1 window.now.slots) }
 {
     let (_, slot) = slot_at(window, 0);
-    if is_store(slot) {
+    if is_store(&slot) {
         stores.pop();
     }
 }

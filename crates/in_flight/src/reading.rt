@@ -26,10 +26,11 @@ pub fn divisions_in(slot: &Slot) -> u32
 
 /// The index and the slot at a place of a window, whose slots have numbers one after the other and
 /// indices of their own.
-pub fn slot_at(window: &Window, place: u32) -> (u32, &Slot)
+#[inline(always)]
+pub fn slot_at(window: &Window, place: u32) -> (u32, Slot)
     requires within { place < length window.now.slots }
-    ensures slot { slice_get window.now.slots place ≡ Some result.1.now }
-    ensures index { result.0 ≡ index_of window.now.capacity result.1.now.number }
+    ensures slot { slice_get window.now.slots place ≡ Some result.1 }
+    ensures index { result.0 ≡ index_of window.now.capacity result.1.number }
     ensures consecutive { IsConsecutive window.now.slots }
     ensures apart { HasOwnIndices window.now.capacity window.now.slots }
     ensures room { length window.now.slots ≤ window.now.capacity }

@@ -28,7 +28,6 @@ impl LaneCore {
     ghost use Rattle.mono_model.specs.declared.setup.Setup.{Setup as RunSetup};
     ghost use Rattle.mono_model.specs.Setup.{is_setup};
     ghost use Rattle.timing_side.specs.Slots.{is_waiting_state};
-    ghost use Rattle.timing_side.specs.Timing.{Timing};
     ghost use Rattle.timing_side.specs.Issue.{has_operands};
     ghost use Rattle.timing_side.specs.Fetch.{timing_try};
     ghost use Rattle.timing_side.specs.Turn.{timing_end_of_cycle};
@@ -209,7 +208,7 @@ impl LaneCore {
             → result ≡ wants_time l.timing }
     {
         match self.core.flight().oldest() {
-            Some(slot) => is_past_fetch(slot, self.core.cycle()) && slot.unserved,
+            Some(slot) => is_past_fetch(&slot, self.core.cycle()) && slot.unserved,
             None => false,
         }
     }
@@ -225,7 +224,7 @@ impl LaneCore {
             return;
         }
         let place = count - 1;
-        let slot = *self.core.flight().at(place);
+        let slot = self.core.flight().at(place);
         if !self.may_issue(place, &slot) {
             return;
         }

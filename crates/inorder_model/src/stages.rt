@@ -28,7 +28,7 @@ pub(crate) fn in_execute(flight: &InFlight) -> Option<Executing>
     let Some(place) = flight.executing(0) else {
         return None;
     };
-    let slot = *flight.at(place);
+    let slot = flight.at(place);
     match slot.state {
         SlotState::Until(from) => Some(Executing { slot, from }),
         SlotState::Waiting | SlotState::Done => None,
@@ -41,7 +41,7 @@ pub(crate) fn done_count(flight: &InFlight) -> u32
 {
     let mut count = 0;
     for place in (0..flight.len()).rev() {
-        count += done_in(flight.at(place));
+        count += done_in(&flight.at(place));
     }
     count
 }

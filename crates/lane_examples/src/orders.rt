@@ -6,7 +6,7 @@ ghost use Rattle.rollback_cmds.specs.declared.order.Order.TheVariants.{Set, Comm
 ghost use Rattle.rollback_cmds.specs.declared.order.Order.TheVariants.{Time, Stop, Sync};
 ghost use Rattle.mono_model.specs.Demand.{told};
 ghost use Rattle.mono_model.specs.Split.{newest, committed};
-ghost use Rattle.worked_examples.specs.Plan.{unanswered, in_turn, names_of};
+ghost use Rattle.worked_examples.specs.Plan.{unanswered, in_turn};
 ghost use Rattle.lane_model.specs.Cycle.{lane};
 ghost use Rattle.lane_model.specs.Demand.{lane_place, seen, halted};
 ghost use Rattle.lane_model.specs.Split.{lane_run};

@@ -9,7 +9,6 @@ ghost use Rattle.worked_examples.specs.Setups.{registers, never};
 ghost use Rattle.worked_examples.specs.Traps.{environment_call};
 ghost use Rattle.worked_examples.specs.Time.{vectored_interrupt_reads_time};
 ghost use Rattle.worked_examples.specs.Fences.{patched_instruction_with_fence};
-ghost use Rattle.worked_examples.specs.Devices.{uart_driver};
 ghost use Rattle.lane_model.specs.Cycle.{lane, lane_final};
 ghost use Rattle.lane_examples.specs.Machines.{in_order_machine};
 

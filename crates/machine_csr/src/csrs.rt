@@ -38,7 +38,7 @@ pub enum CsrWrite {
 
 impl Csrs {
     ghost use Rattle.std.specs.Prelude.{◌≡◌, ◌*◌, ◌/◌, ◌↔◌, IsTrue, IsSome, option_map};
-    ghost use Rattle.machine_csr.specs.Csr.{opening_csrs, Row, shown, row_at, is_legal, csr_access};
+    ghost use Rattle.machine_csr.specs.Csr.{opening_csrs, shown, row_at, is_legal, csr_access};
     ghost use Rattle.machine_csr.specs.Csr.{csr_written};
     ghost use Rattle.machine_csr.specs.Trap.{timer_pending, trap_entered, handler_of, trap_left};
     ghost use Rattle.machine_csr.specs.Trap.{return_address};

@@ -1,7 +1,7 @@
 //! The number that a value stands for.
 ghost use Rattle.std.specs.Prelude.{◌≡◌, ◌≤◌, length, map, option_and_then};
 ghost use Rattle.toml.specs.Data.{as_str};
-ghost use Rattle.toml.specs.View.{table_view, view};
+ghost use Rattle.toml.specs.View.{view};
 ghost use Rattle.machine_file.specs.File.{given, given_by, number_of, place_of};
 ghost use Rattle.machine_file.specs.Code.{held_of, row_of, wanted_of};
 

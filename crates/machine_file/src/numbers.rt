@@ -1,5 +1,5 @@
 //! The numbers that a file gives for the keys, tested row by row.
-ghost use Rattle.std.specs.Prelude.{◌≡◌, IfOk, IfErr, map, pos, Some, None};
+ghost use Rattle.std.specs.Prelude.{◌≡◌, IfOk, IfErr, map, Some, None};
 ghost use Rattle.toml.specs.View.{table_view};
 ghost use Rattle.machine_file.specs.Table.{rows};
 ghost use Rattle.machine_file.specs.File.{first_failing, natural, number_fault, ram_base};

@@ -1,12 +1,15 @@
 -- The slots of a ring: how many they are, which item each is, and what they are after a write, without the oldest, and without the youngest.
 use Rattle.std.proofs.Common.{◌≡◌, ℕ, ◌+◌, ◌-◌, ◌%◌, ◌<◌, ◌≤◌, ◌⊎◌, List, [], ◌∷◌, ◌++◌, length, get_or, take, drop, set, refl, ap, sym, Some, IfSome, slice_get, ◌∙◌, inl, inr, mod-eq_of_lt, arith, length-append, length-drop, length-set, length-take, get_or-drop, get_or-take}
 use Rattle.std.proofs.Math.Nat.{mod-eq-sub-mod, mod-add-mod}
-use Rattle.std.proofs.lemmas.List.{same_lists, take-take, get_or_append_left, get_or-append_right}
+use Rattle.std.proofs.Math.ListN.{get_or-map}
+use Rattle.std.proofs.lemmas.List.{same_lists, take-take, get_or_append_left, get_or-append_right, length-map, map-set}
 use Rattle.std.proofs.lemmas.Bool.{cases_lt}
 use Rattle.std.proofs.lemmas.Grind.{common_steps}
 use Rattle.std.proofs.lemmas.Option.{slice_get_read}
 use Rattle.reorder_buffer.specs.declared.slot.Slot.{Slot}
+use Rattle.reorder_buffer.specs.declared.held.Held.{Held}
 use Rattle.reorder_buffer.specs.declared.window.Window.TheInside.{Inside}
+use Rattle.reorder_buffer.specs.Held.{slot_in, slots_in}
 use Rattle.reorder_buffer.specs.Window.{IsFirst, IsRing, youngest, index_of, ring_slots}
 use Rattle.reorder_buffer.proofs.Consecutive.{IsFirstWith, second_index, rest_of, first_with, one_more, first_of, part_of, first_still, consecutive_still}
 
@@ -96,21 +99,30 @@ pub ring_nothing : (items : List Slot) (first : ℕ) → ring_slots items first 
 unfolding ring_slots
 ring_nothing items first = refl
 
--- the slots of a window with these fields
+-- the slots of all indices of a window with these fields, and those that it holds
+abbrev pub items_of : Inside → List Slot
+items_of w = slots_in w.slots.items
+
 abbrev pub slots_of : Inside → List Slot
-slots_of w = ring_slots w.slots.items w.first w.count
+slots_of w = ring_slots (items_of w) w.first w.count
+
+-- there is one for each index
+long_items : (w : Inside) → w.slots.len ≡ length (items_of w)
+long_items w = w.slots.ok.0 ∙ sym (length-map w.slots.items slot_in)
 
 -- What a window reads, and what it is after each change, where `index` is so many places behind the oldest slot's.
 module _ (w : Inside) (ring : IsRing w.slots.len w.first w.count (slots_of w)) (index : ℕ) where
-  pub slot_at : (place : ℕ) (s : Slot) → place < w.count → index ≡ index_of w.slots.len (w.first + place) → s ≡ get_or w.slots.items index s → slice_get (slots_of w) place ≡ Some s
-  slot_at place s held is read =
-      slice_get_read (slots_of w) w.count place s (sym ring.held) held
-      (read ∙ ap (λ k. get_or w.slots.items k s) is ∙ sym (get_or-ring w.slots.items w.slots.len w.first w.count w.slots.ok.0 ring.within ring.inside place s held))
+  pub slot_at : (place : ℕ) (h : Held) → place < w.count → index ≡ index_of w.slots.len (w.first + place) → h ≡ get_or w.slots.items index h → slice_get (slots_of w) place ≡ Some (slot_in h)
+  slot_at place h held is read =
+      let item : slot_in h ≡ get_or (items_of w) index (slot_in h) = ap slot_in read ∙ sym (get_or-map slot_in w.slots.items index h) in
+      slice_get_read (slots_of w) w.count place (slot_in h) (sym ring.held) held
+      (item ∙ ap (λ k. get_or (items_of w) k (slot_in h)) is
+      ∙ sym (get_or-ring (items_of w) w.slots.len w.first w.count (long_items w) ring.within ring.inside place (slot_in h) held))
 
-  pub popped : 0 < w.count → index ≡ index_of w.slots.len (w.first + 1) → ring_slots w.slots.items index (w.count - 1) ≡ drop 1 (slots_of w)
-  popped some is = rw is (ring-pop w.slots.items w.slots.len w.first w.count w.slots.ok.0 ring.within ring.inside some)
+  pub popped : 0 < w.count → index ≡ index_of w.slots.len (w.first + 1) → ring_slots (items_of w) index (w.count - 1) ≡ drop 1 (slots_of w)
+  popped some is = rw is (ring-pop (items_of w) w.slots.len w.first w.count (long_items w) ring.within ring.inside some)
 
-  pub still_popped : 0 < w.count → index ≡ index_of w.slots.len (w.first + 1) → index < w.slots.len → IsRing w.slots.len index (w.count - 1) (ring_slots w.slots.items index (w.count - 1))
+  pub still_popped : 0 < w.count → index ≡ index_of w.slots.len (w.first + 1) → index < w.slots.len → IsRing w.slots.len index (w.count - 1) (ring_slots (items_of w) index (w.count - 1))
   still_popped some is below =
       let shorter = length-drop 1 (slots_of w) in
       let first_is : IsFirst (drop 1 (slots_of w)) w.slots.len index = rw is (second_index w.slots.len w.first (slots_of w) ring.consecutive ring.first_is) in
@@ -123,47 +135,50 @@ module _ (w : Inside) (ring : IsRing w.slots.len w.first w.count (slots_of w)) (
         consecutive = rest_of (slots_of w) ring.consecutive;
       }
 
-  pub marked : (place : ℕ) (now : Slot) → place < w.count → index ≡ index_of w.slots.len (w.first + place)
-      → ring_slots (set w.slots.items index now) w.first w.count ≡ set (slots_of w) place now
-  marked place now held is = rw is (ring-set w.slots.items w.slots.len w.first w.count w.slots.ok.0 ring.within ring.inside place now held)
+  pub marked : (place : ℕ) (now : Held) → place < w.count → index ≡ index_of w.slots.len (w.first + place)
+      → ring_slots (slots_in (set w.slots.items index now)) w.first w.count ≡ set (slots_of w) place (slot_in now)
+  marked place now held is =
+      ap (λ (items : List Slot). ring_slots items w.first w.count) (map-set slot_in w.slots.items index now)
+      ∙ rw is (ring-set (items_of w) w.slots.len w.first w.count (long_items w) ring.within ring.inside place (slot_in now) held)
 
-  pub still_marked : (place : ℕ) (s now : Slot) → place < w.count → index ≡ index_of w.slots.len (w.first + place) → slice_get (slots_of w) place ≡ Some s → now.number ≡ s.number
-      → IsRing w.slots.len w.first w.count (ring_slots (set w.slots.items index now) w.first w.count)
+  pub still_marked : (place : ℕ) (s : Slot) (now : Held) → place < w.count → index ≡ index_of w.slots.len (w.first + place) → slice_get (slots_of w) place ≡ Some s
+      → now.entry.number ≡ s.number → IsRing w.slots.len w.first w.count (ring_slots (slots_in (set w.slots.items index now)) w.first w.count)
   still_marked place s now held is there same =
       rw (marked place now held is) record {
         fits = ring.fits;
         within = ring.within;
-        held = length-set (slots_of w) place now ∙ ring.held;
+        held = length-set (slots_of w) place (slot_in now) ∙ ring.held;
         inside = ring.inside;
-        first_is = first_still (slots_of w) place s now w.slots.len w.first there same ring.first_is;
-        consecutive = consecutive_still (slots_of w) place s now there same ring.consecutive;
+        first_is = first_still (slots_of w) place s (slot_in now) w.slots.len w.first there same ring.first_is;
+        consecutive = consecutive_still (slots_of w) place s (slot_in now) there same ring.consecutive;
       }
 
-  pub appended : (now : ℕ) (s : Slot) → w.count < w.slots.len → now < w.slots.len → IsFirstWith (slots_of w) w.slots.len w.first s.number now
-      → index ≡ index_of w.slots.len (now + w.count) → ring_slots (set w.slots.items index s) now (w.count + 1) ≡ slots_of w ++ s ∷ []
-  appended now s room below with is =
+  pub appended : (now : ℕ) (h : Held) → w.count < w.slots.len → now < w.slots.len → IsFirstWith (slots_of w) w.slots.len w.first h.entry.number now
+      → index ≡ index_of w.slots.len (now + w.count) → ring_slots (slots_in (set w.slots.items index h)) now (w.count + 1) ≡ slots_of w ++ slot_in h ∷ []
+  appended now h room below with is =
       let none_or_same : (w.count ≡ 0) ⊎ (now ≡ w.first) = elim with [ inl empty ↦ inl (omega (arith, empty, ring.held)) | inr some ↦ inr some.1 ] in
-      let same = same_first w.slots.items w.first now w.count none_or_same in
-      rw is (ring-append w.slots.items w.slots.len now w.count w.slots.ok.0 ring.within (λ positive. below) s room ∙ ap (λ xs. xs ++ s ∷ []) same)
+      let same = same_first (items_of w) w.first now w.count none_or_same in
+      ap (λ (items : List Slot). ring_slots items now (w.count + 1)) (map-set slot_in w.slots.items index h)
+      ∙ rw is (ring-append (items_of w) w.slots.len now w.count (long_items w) ring.within (λ positive. below) (slot_in h) room ∙ ap (λ xs. xs ++ slot_in h ∷ []) same)
 
-  pub still_appended : (now : ℕ) (s : Slot) → w.count < w.slots.len → now < w.slots.len → IsFirstWith (slots_of w) w.slots.len w.first s.number now
-      → index ≡ index_of w.slots.len (now + w.count) → IfSome (youngest (slots_of w)) (λ last. s.number ≡ last.number + 1)
-      → IsRing w.slots.len now (w.count + 1) (ring_slots (set w.slots.items index s) now (w.count + 1))
-  still_appended now s room below with is next =
-      let longer = length-append (slots_of w) (s ∷ []) in
-      rw (appended now s room below with is) record {
+  pub still_appended : (now : ℕ) (h : Held) → w.count < w.slots.len → now < w.slots.len → IsFirstWith (slots_of w) w.slots.len w.first h.entry.number now
+      → index ≡ index_of w.slots.len (now + w.count) → IfSome (youngest (slots_of w)) (λ last. h.entry.number ≡ last.number + 1)
+      → IsRing w.slots.len now (w.count + 1) (ring_slots (slots_in (set w.slots.items index h)) now (w.count + 1))
+  still_appended now h room below with is next =
+      let longer = length-append (slots_of w) (slot_in h ∷ []) in
+      rw (appended now h room below with is) record {
         fits = ring.fits;
         within = omega (arith, room);
         held = omega (arith, ring.held, longer);
         inside = λ positive. below;
-        first_is = first_with (slots_of w) s w.slots.len w.first now ring.first_is with;
-        consecutive = one_more (slots_of w) s ring.consecutive next;
+        first_is = first_with (slots_of w) (slot_in h) w.slots.len w.first now ring.first_is with;
+        consecutive = one_more (slots_of w) (slot_in h) ring.consecutive next;
       }
 
-pub still_cut : (w : Inside) (kept : ℕ) → IsRing w.slots.len w.first w.count (slots_of w) → kept ≤ w.count → IsRing w.slots.len w.first kept (ring_slots w.slots.items w.first kept)
+pub still_cut : (w : Inside) (kept : ℕ) → IsRing w.slots.len w.first w.count (slots_of w) → kept ≤ w.count → IsRing w.slots.len w.first kept (ring_slots (items_of w) w.first kept)
 still_cut w kept ring less =
     let shorter = length-take kept (slots_of w) in
-    rw (ring-cut w.slots.items w.first w.count kept less) record {
+    rw (ring-cut (items_of w) w.first w.count kept less) record {
       fits = ring.fits;
       within = omega (arith, ring.within, less);
       held = omega (arith, ring.held, shorter, less);

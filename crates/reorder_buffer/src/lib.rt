@@ -1,6 +1,7 @@
 //! The reorder buffer: the instructions in the window, in order.
 #![tactic(auto)]
 
+mod held;
 mod slot;
 mod window;
 

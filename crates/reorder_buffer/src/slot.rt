@@ -45,26 +45,3 @@ pub struct Slot {
     pub fetched: u64,
     pub state: SlotState,
 }
-
-impl Slot {
-    /// What an index that was never held has.
-    pub(crate) fn free() -> Slot {
-        Slot {
-            number: 0,
-            addr: 0,
-            word: 0,
-            class: Class::Alu,
-            access: Access::Nothing,
-            next: 0,
-            predicted: 0,
-            cause: None,
-            unserved: false,
-            sends: false,
-            halt: None,
-            irq_on: false,
-            cmp: 0,
-            fetched: 0,
-            state: SlotState::Done,
-        }
-    }
-}

@@ -1,9 +1,10 @@
 ghost use Rattle.std.specs.Prelude.{◌≡◌, ◌+◌, IsTrue, IfSome};
 ghost use Rattle.reorder_buffer.specs.Window.{youngest};
 
-use crate::{Slot, SlotState, Window};
+use crate::{SlotState, Window};
 use fsim_base::{Access, Class};
 use std::test::Fail;
+use trace_entry::Entry;
 
 /// What is done to the window.
 #[derive(Clone, Copy, Debug, PartialEq, Eq)]
@@ -15,26 +16,24 @@ enum Step {
     CutFrom(u64),
 }
 
-/// An instruction that waits.
-fn slot(number: u64) -> Slot
+/// What is told of an instruction.
+fn entry(number: u64) -> Entry
     ensures { result.number ≡ number }
 {
-    Slot {
+    Entry {
         number,
+        epoch: 0,
         addr: 0x8000_0010,
         word: 0x0000_0013,
-        class: Class::Alu,
         access: Access::Nothing,
         next: 0x8000_0014,
-        predicted: 0x8000_0014,
         cause: None,
+        class: Class::Alu,
         unserved: false,
-        sends: false,
+        out: None,
         halt: None,
         irq_on: false,
         cmp: 0,
-        fetched: 1,
-        state: SlotState::Waiting,
     }
 }
 
@@ -56,7 +55,7 @@ fn follows(window: &Window, number: u64) -> bool
 fn play(window: &mut Window, step: Step) -> Option<u32> {
     match step {
         Step::Append(number) if !window.is_full() && follows(window, number) => {
-            Some(window.append(slot(number)))
+            Some(window.append(&entry(number), 0x8000_0014, 1))
         }
         Step::Finish(place) if place < window.len() => {
             window.mark(place, SlotState::Done);

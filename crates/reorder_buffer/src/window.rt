@@ -1,18 +1,20 @@
 ghost use Rattle.std.specs.Prelude.{◌≡◌, ℕ, ◌+◌, ◌<◌, ◌≤◌, ◌^◌};
 ghost use Rattle.reorder_buffer.specs.Window.{index_of};
 
+use crate::held::Held;
 use crate::slot::{Slot, SlotState};
 use fsim_base::NoMemory;
 use std::alloc::Global;
 use std::marker::Model;
+use trace_entry::Entry;
 
 /// The instructions in the window, the oldest first, with numbers one after the other and a fixed
 /// room (Hennessy and Patterson, Computer Architecture, section 3.6, the reorder buffer).
 #[derive(Debug, Drop)]
 pub struct Window {
-    /// A slot for each index. Those that the window holds begin at `first`, and go on at 0 behind
-    /// the last index.
-    slots: Vec<Slot>,
+    /// What each index keeps. What the window holds begins at `first`, and goes on at 0 behind the
+    /// last index.
+    slots: Vec<Held>,
     /// The index of the oldest slot, where there is one.
     first: u32,
     /// How many slots the window holds.
@@ -21,22 +23,27 @@ pub struct Window {
 
 impl Model for Window {
     ghost use Rattle.std.specs.Prelude.{vec_len};
+    ghost use Rattle.reorder_buffer.specs.Held.{slots_in};
     ghost use Rattle.reorder_buffer.specs.Window.{Contents, IsRing, ring_slots};
 
     ghost Value = { Contents };
 
-    ghost view = { λ w. record
-        { capacity = vec_len w.slots; slots = ring_slots w.slots.items w.first w.count } };
+    ghost view = { λ w. record {
+      capacity = vec_len w.slots;
+      slots = ring_slots (slots_in w.slots.items) w.first w.count;
+    } };
 
     ghost invariant = { λ w.
-        IsRing (vec_len w.slots) w.first w.count (ring_slots w.slots.items w.first w.count) };
+        IsRing (vec_len w.slots) w.first w.count
+        (ring_slots (slots_in w.slots.items) w.first w.count) };
 }
 
 impl Window {
     ghost use Rattle.std.specs.Prelude.{◌≡◌, ◌≢◌, ◌↔◌, ◌+◌, ◌<◌, ◌≤◌, ◌++◌, ◌∷◌, [], length, drop};
     ghost use Rattle.std.specs.Prelude.{All, Some, IsTrue, IsNone, IfOk, IfSome, slice_get};
     ghost use Rattle.std.specs.Prelude.{slice_set};
-    ghost use Rattle.std.specs.Option.{option_copied};
+    ghost use Rattle.reorder_buffer.specs.declared.slot.SlotState.TheVariants.{Waiting};
+    ghost use Rattle.reorder_buffer.specs.Held.{slot_from};
     ghost use Rattle.reorder_buffer.specs.Window.{IsConsecutive, HasOwnIndices, youngest, index_of};
     ghost use Rattle.reorder_buffer.specs.Window.{below_number, count_from};
 
@@ -45,7 +52,7 @@ impl Window {
     pub fn new(alloc: Global, capacity: u32) -> Result<Window, NoMemory>
         ensures opening { IfOk result (λ w. w ≡ record { capacity = capacity; slots = [] }) }
     {
-        match vec![in alloc; Slot::free(); capacity as usize] {
+        match vec![in alloc; Held::free(); capacity as usize] {
             Ok(slots) => Ok(Window {
                 slots,
                 first: 0,
@@ -81,45 +88,51 @@ impl Window {
         self.count == self.capacity()
     }
 
-    /// Adds a slot behind the others and gives its index, which no other slot has. There is room,
-    /// and its number is the one behind the youngest slot's.
-    pub fn append(&mut self, s: Slot) -> u32
+    /// Adds the slot of an instruction that waits behind the others and gives its index, which no
+    /// other slot has. There is room, and its number is the one behind the youngest slot's.
+    pub fn append(&mut self, entry: &Entry, predicted: u32, fetched: u64) -> u32
         requires room { length self.old.slots < self.old.capacity }
-        requires next { IfSome (youngest self.old.slots) (λ last. s.number ≡ last.number + 1) }
-        ensures appended { self.new ≡ record self.old { slots = self.old.slots ++ s ∷ [] } }
-        ensures index { result ≡ index_of self.old.capacity s.number }
+        requires next { IfSome (youngest self.old.slots)
+            (λ last. entry.now.number ≡ last.number + 1) }
+        ensures appended { self.new
+            ≡ record self.old {
+              slots = self.old.slots ++ slot_from entry.now predicted fetched Waiting ∷ [];
+            } }
+        ensures index { result ≡ index_of self.old.capacity entry.now.number }
         ensures below { result < self.old.capacity }
         ensures free { All (λ held. index_of self.old.capacity held.number ≢ result)
             self.old.slots }
     {
         let capacity = self.capacity();
         let first = if self.count == 0 {
-            index_in(capacity, s.number)
+            index_in(capacity, entry.number)
         } else {
             self.first
         };
         let index = index_behind(capacity, first, self.count);
-        self.slots[index as usize] = s;
+        self.slots[index as usize].put(entry, predicted, fetched);
         self.first = first;
         self.count += 1;
         index
     }
 
     /// The index and the slot at a place, counted from the oldest at 0.
-    pub fn at(&self, place: u32) -> (u32, &Slot)
+    #[inline(always)]
+    pub fn at(&self, place: u32) -> (u32, Slot)
         requires place { place < length self.now.slots }
-        ensures slot { slice_get self.now.slots place ≡ Some result.1.now }
-        ensures index { result.0 ≡ index_of self.now.capacity result.1.now.number }
+        ensures slot { slice_get self.now.slots place ≡ Some result.1 }
+        ensures index { result.0 ≡ index_of self.now.capacity result.1.number }
         ensures below { result.0 < self.now.capacity }
     {
         let index = index_behind(self.capacity(), self.first, place);
-        (index, &self.slots[index as usize])
+        (index, self.slots[index as usize].slot())
     }
 
     /// The slot at a place, counted from the oldest at 0.
-    pub fn slot(&self, place: u32) -> &Slot
+    #[inline(always)]
+    pub fn slot(&self, place: u32) -> Slot
         requires place { place < length self.now.slots }
-        ensures slot { slice_get self.now.slots place ≡ Some result.now }
+        ensures slot { slice_get self.now.slots place ≡ Some result }
     {
         self.at(place).1
     }
@@ -137,14 +150,15 @@ impl Window {
 
     /// The oldest slot; None where there is none.
     #[tactic(auto, using(crate::proofs::Consecutive::oldest_none))]
-    pub fn oldest(&self) -> Option<&Slot>
-        ensures oldest { option_copied result ≡ slice_get self.now.slots 0 }
+    #[inline(always)]
+    pub fn oldest(&self) -> Option<Slot>
+        ensures oldest { result ≡ slice_get self.now.slots 0 }
         ensures empty { IsNone result ↔ (self.now.slots ≡ []) }
     {
         if self.count == 0 {
             return None;
         }
-        Some(&self.slots[self.first as usize])
+        Some(self.slots[self.first as usize].slot())
     }
 
     /// Removes the oldest slot. There is one.

@@ -1,6 +1,6 @@
-ghost use Rattle.std.specs.Prelude.{◌≡◌, ◌+◌, ◌≤◌, ◌<◌, length, codes, decimal, ◌++◌, slice_index};
+ghost use Rattle.std.specs.Prelude.{◌≡◌, ◌+◌, ◌≤◌, ◌<◌, length, codes, ◌++◌};
 ghost use Rattle.mono_model.specs.Report.{line, count_line, misses_line, status_text};
-ghost use Rattle.mono_model.specs.Report.{register_text, register_line, hex};
+ghost use Rattle.mono_model.specs.Report.{register_text, register_line};
 ghost use Rattle.machine_csr.specs.Csr.{mstatus_of};
 ghost use Rattle.report_text.specs.Lines.{output_line, pc_line, interrupt_csrs_line};
 ghost use Rattle.report_text.specs.Lines.{trap_csrs_line};

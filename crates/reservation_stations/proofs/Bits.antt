@@ -3,8 +3,8 @@ use Rattle.std.proofs.Common.{◌≡◌, ◌≢◌, ℕ, suc, ◌+◌, ◌-◌, 
 use Rattle.std.specs.Prelude.{slice_set, bit_or, bit_and}
 use Rattle.std.specs.Int.{bit_at}
 use Rattle.std.proofs.lemmas.Bool.{cases_eq, cases_lt, ne_eqb}
-use Rattle.std.proofs.lemmas.List.{get_or-set_same, get_or-set_other, get_or_past, length-set}
-use Rattle.std.proofs.lemmas.Nat.Bits.{bit_at_set_same, bit_at_set_other, bit_at_clear_same, bit_at_clear_other, bit_at-zero, bit_at-suc, bit_at_lowest, bit_at_cat_low, bit_at_cat_high}
+use Rattle.std.proofs.lemmas.List.{get_or-set_same, get_or-set_other, get_or_past}
+use Rattle.std.proofs.lemmas.Nat.Bits.{bit_at_set_same, bit_at_set_other, bit_at_clear_same, bit_at_clear_other, bit_at-zero, bit_at-suc, bit_at_lowest, bit_at_cat_low, bit_at_cat_high, bit_at_above}
 
 -- whether a bit is set
 abbrev pub is_set : List ℕ → ℕ → Bool
@@ -101,6 +101,10 @@ module _ (low : ℕ) (high : List ℕ) (three : length high ≡ 3) (index : ℕ)
   four : length (low ∷ high) ≡ 4
   four = omega (arith, three)
 
+  -- a bit of the first word
+  pub low_bit : index < 64 → is_set (low ∷ high) index ≡ (bit_at low index == 1)
+  low_bit below = ap (λ k. bit_at (get_or (low ∷ high) k 0) (index % 64) == 1) (first_word below) ∙ ap (λ i. bit_at low i == 1) (first_bit below)
+
   pub low_with : index < 64 → is_set (bit_or low (1 * 2 ^ index % 18446744073709551616) ∷ high) other ≡ (is_set (low ∷ high) other || (other == index))
   low_with below =
       (λ i. is_set (slice_set (low ∷ high) (sym (first_word below) i) (bit_or (get_or (low ∷ high) (sym (first_word below) i) 0) (1 * 2 ^ (sym (first_bit below) i) % 18446744073709551616))) other)
@@ -186,13 +190,27 @@ each_halved words new four first second third fourth k within = elim (below_four
   ]
 ]
 
--- where only the first word isn't 0, it alone changes
-pub is_set-lowered : (words : List ℕ) → length words ≡ 4 → ((k : ℕ) → get_or words k 0 < 2 ^ 64) → get_or words 1 0 ≡ 0 → get_or words 2 0 ≡ 0 → get_or words 3 0 ≡ 0 →
-    (place : ℕ) → is_set (slice_set words 0 (get_or words 0 0 / 2)) place ≡ is_set words (place + 1)
-is_set-lowered words four fits second third fourth =
-    let new = slice_set words 0 (get_or words 0 0 / 2) in
-    let first = get_or-set_same words 0 (get_or words 0 0 / 2) 0 (omega (arith, four)) in
-    let kept : (k : ℕ) → k ≢ 0 → get_or new k 0 ≡ get_or words k 0 = λ k apart. get_or-set_other words 0 k (get_or words 0 0 / 2) 0 apart in
-    is_set-shifted words new four (length-set words 0 (get_or words 0 0 / 2) ∙ four) fits
-    (each_halved words new four (omega (arith, first, second)) (omega (arith, kept 1 (λ e. omega (arith, e)), second, third))
-    (omega (arith, kept 2 (λ e. omega (arith, e)), third, fourth)) (omega (arith, kept 3 (λ e. omega (arith, e)), fourth)))
+-- where no bit behind the first word is set, that word alone changes
+pub is_set-lowered : (low : ℕ) (high : List ℕ) → low < 2 ^ 64 → ((place : ℕ) → 64 ≤ place → is_set (low ∷ high) place ≡ false) →
+    (place : ℕ) → is_set (low / 2 ∷ high) place ≡ is_set (low ∷ high) (place + 1)
+is_set-lowered low high fits none place = elim (cases_lt place 64) [
+  | inl inside ↦
+      let word : place / 64 ≡ 0 = omega (arith, inside) in
+      let bit : place % 64 ≡ place = omega (arith, inside) in
+      ap (λ k. bit_at (get_or (low / 2 ∷ high) k 0) (place % 64) == 1) word ∙ ap (λ i. bit_at (low / 2) i == 1) bit
+      ∙ elim (cases_lt place 63) [
+        | inl before ↦
+            let same : (place + 1) / 64 ≡ 0 = omega (arith, before) in
+            let next : (place + 1) % 64 ≡ suc place = omega (arith, before) in
+            sym (ap (λ k. bit_at (get_or (low ∷ high) k 0) ((place + 1) % 64) == 1) same ∙ ap (λ i. bit_at low i == 1) next ∙ ap (λ n. n == 1) (bit_at-suc low place))
+        | inr top ↦
+            let half : low / 2 < 2 ^ 63 = omega (arith, fits) in
+            ap (λ n. n == 1) (bit_at_above (low / 2) 63 place half top) ∙ sym (none (place + 1) (omega (arith, top)))
+      ]
+  | inr past ↦
+      let later : place / 64 ≡ suc (place / 64 - 1) = omega (arith, past) in
+      let same : is_set (low / 2 ∷ high) place ≡ is_set (low ∷ high) place =
+      ap (λ k. bit_at (get_or (low / 2 ∷ high) k 0) (place % 64) == 1) later ∙ ap (λ k. bit_at (get_or (low ∷ high) k 0) (place % 64) == 1) (sym later)
+      in
+      same ∙ none place past ∙ sym (none (place + 1) (omega (arith, past)))
+]

@@ -1,16 +1,15 @@
 -- A station enters.
-use Rattle.std.proofs.Common.{◌≡◌, ◌≢◌, ◌↔◌, ℕ, ◌+◌, ◌-◌, ◌^◌, ◌<◌, ◌≤◌, ◌==◌, ◌||◌, Bool, true, false, if◌then◌else◌, Option, Some, None, Result, Ok, Err, List, [], ◌∷◌, ◌++◌, length, reverse, refl, ap, sym, ◌∙◌, inl, inr, arith, eq-eqb, subst, take, length-append}
-use Rattle.std.specs.Prelude.{slice_set, IsNone, IsOk, OnOk}
+use Rattle.std.proofs.Common.{◌≡◌, ◌≢◌, ℕ, ◌+◌, ◌^◌, ◌<◌, ◌≤◌, ◌==◌, ◌||◌, Bool, true, false, if◌then◌else◌, Option, Some, None, List, [], ◌∷◌, ◌++◌, length, reverse, refl, ap, sym, ◌∙◌, inl, inr, arith, eq-eqb, subst}
+use Rattle.std.specs.Prelude.{slice_set, IsNone}
 use Rattle.std.specs.List.{AllByRecursion, IsDistinct, list_any}
 use Rattle.std.proofs.lemmas.Bool.{cases_eq, ne_eqb}
 use Rattle.std.proofs.lemmas.List.{length-set, append-nil, map_push}
 use Rattle.std.proofs.lemmas.Map.Steps.{length-le_from_distinct_below}
-use Rattle.circular_buffer.specs.Buffer.{Buffer, buffer}
 use Rattle.reservation_stations.specs.declared.station.Station.{Station}
 use Rattle.reservation_stations.specs.declared.row.Row.{Row}
 use Rattle.reservation_stations.specs.Mask.{is_index}
 use Rattle.reservation_stations.specs.Waits.{waits_on}
-use Rattle.reservation_stations.specs.Readiness.{Window, is_waiting, is_done, is_register, station_of, youngest_index, waiting_count}
+use Rattle.reservation_stations.specs.Readiness.{Window, is_waiting, is_done, is_register, station_of, waiting_count}
 use Rattle.reservation_stations.specs.AreTables.{AreTables, Each, AreDistinct, IsRow, row_at, stations_at, station_in, producer, producer_of, awaited, is_among, among}
 use Rattle.reservation_stations.specs.Changes.{with_producer}
 use Rattle.reservation_stations.proofs.Indices.{Each-map, Each-push, AreDistinct-push, station_of-free}
@@ -18,7 +17,7 @@ use Rattle.reservation_stations.proofs.Carried.{Changes, AreRows-carried, AreRow
 use Rattle.reservation_stations.proofs.Marking.{row_at-set, Stays, stations_at-same}
 use Rattle.reservation_stations.proofs.Kept.{seen, AreTables-changed, none, or_false, and_true, Carries-none}
 use Rattle.reservation_stations.proofs.Reading.{reverse_seen, Each-reverse}
-use Rattle.reservation_stations.proofs.Leaving.{front_keeps, get_or-with_producer, length-with_producer, waiting_count-push, reverse-push}
+use Rattle.reservation_stations.proofs.Leaving.{get_or-with_producer, length-with_producer, waiting_count-push, reverse-push}
 
 -- indices below a number, no two of them equal, are at most that many
 apart : (index : ℕ) (indices : List ℕ) → Each (λ other. other ≢ index) indices → AllByRecursion (λ other. (index == other) ≡ false) indices
@@ -52,10 +51,6 @@ one_at_most false = omega arith
 waiting_few : (at : ℕ → Row) (indices : List ℕ) → waiting_count (stations_at at indices) ≤ length indices
 waiting_few at [] = omega arith
 waiting_few at (index ∷ indices) = omega (arith, one_at_most (is_waiting (at index).mark), waiting_few at indices)
-
-pushed : {E : Type 0} (r : Result (Unit {0}) E) {A P : Type 0} → IsOk r ↔ A → A → OnOk r P → P
-pushed (Ok x) variant room done = done
-pushed (Err e) variant room done = absurd (cc (variant.1 room))
 
 module _ (capacity : ℕ) (indices : List ℕ) (old : List Row) (producers : List (Option ℕ)) (waiting : ℕ) (keeps : AreTables capacity indices old producers waiting) (index : ℕ) (within : index < capacity) (fresh : Each (λ other. other ≢ index) indices) (row : Row) where
   inside : index < length old
@@ -178,33 +173,36 @@ module _ {capacity : ℕ} {indices : List ℕ} {rows : List Row} {producers : Li
   pub waiting_fits : waiting + 1 < 2 ^ 32
   waiting_fits = omega (arith, room, keeps.limit, keeps.count, waiting_few (row_at rows) indices)
 
-  module _ (row : Row) (order : Buffer ℕ) (r : Result (Unit {0}) ℕ) (variant : IsOk r ↔ (length indices < capacity)) (ok : OnOk r (order ≡ buffer (indices ++ index ∷ []) capacity)) where
-    pub is_pushed : order ≡ buffer (indices ++ index ∷ []) capacity
-    is_pushed = pushed r variant room ok
-
+  module _ (row : Row) where
     pub AreTables-entered : (table : List (Option ℕ)) → ((k : ℕ) → waits_on row.waits k ≡ (is_index k (awaited (reverse w.stations) row.first) || is_index k (awaited (reverse w.stations) row.second))) →
         row.displaced ≡ producer_of (reverse w.stations) row.destination → is_waiting row.mark ≡ true → table ≡ with_producer row.destination (Some index) producers →
-        AreTables order.capacity order.items (slice_set rows index row) table (waiting + 1)
+        AreTables capacity (indices ++ index ∷ []) (slice_set rows index row) table (waiting + 1)
     AreTables-entered table waits displaced is_waits set =
         let is : IsRow (reverse w.stations) row = record {
           waits = waits;
           displaced = ap (among (reverse w.stations)) displaced ∙ among-producer_of (reverse w.stations) row.destination;
         } in
-        rw (is_pushed, set)
+        rw set
         (AreTables-pushed capacity indices rows producers waiting keeps index inside_window is_fresh row
         (subst (λ xs. IsRow xs row) (reverse_seen keeps is_seen) is) is_waits)
 
-    pub seen-entered : seen order.capacity order.items (slice_set rows index row) ≡ record w { stations = w.stations ++ station_in index row ∷ [] }
+    pub seen-entered : seen capacity (indices ++ index ∷ []) (slice_set rows index row) ≡ record w { stations = w.stations ++ station_in index row ∷ [] }
     seen-entered =
-        ap (λ (o : Buffer ℕ). seen o.capacity o.items (slice_set rows index row)) is_pushed
-        ∙ (λ i. record { capacity = capacity; stations = stations_pushed capacity indices rows producers waiting keeps index inside_window is_fresh row i })
+        (λ i. record { capacity = capacity; stations = stations_pushed capacity indices rows producers waiting keeps index inside_window is_fresh row i })
         ∙ ap (λ (v : Window). record v { stations = v.stations ++ station_in index row ∷ [] }) is_seen
 
--- the place of the youngest, once it is cut
-module _ {capacity : ℕ} {indices : List ℕ} {rows : List Row} {producers : List (Option ℕ)} {waiting : ℕ} (keeps : AreTables capacity indices rows producers waiting) {w : Window} (is_seen : seen capacity indices rows ≡ w) (index : ℕ) (youngest : youngest_index w.stations ≡ Some index) where
-  pub place_few : (order : Buffer ℕ) → order ≡ buffer (take (length indices - 1) indices) capacity → (place : ℕ) → place ≡ length order.items → place < 256
-  place_few order popped place is =
-      let front = take (length indices - 1) indices in
-      let rest : length order.items ≡ length front = ap (λ (o : Buffer ℕ). length o.items) popped in
-      let whole = front_keeps keeps is_seen index youngest in
-      omega (arith, is, rest, few capacity (front ++ index ∷ []) whole.distinct whole.within, length-append front (index ∷ []), keeps.limit)
+-- there are at most as many stations as indices
+module _ {capacity : ℕ} {indices : List ℕ} {rows : List Row} {producers : List (Option ℕ)} {waiting : ℕ} (keeps : AreTables capacity indices rows producers waiting) where
+  pub all_room : length indices ≤ capacity
+  all_room = few capacity indices keeps.distinct keeps.within
+
+  pub all_few : length indices ≤ 256
+  all_few = omega (arith, all_room, keeps.limit)
+
+-- rows are as many as indices
+pub own_tables : {capacity : ℕ} {indices : List ℕ} {rows : List Row} {producers : List (Option ℕ)} {waiting : ℕ} → AreTables capacity indices rows producers waiting →
+    AreTables (length rows) indices rows producers waiting
+own_tables {indices = indices} {rows = rows} {producers = producers} {waiting = waiting} keeps = subst (λ n. AreTables n indices rows producers waiting) (sym keeps.every_index) keeps
+
+pub own_seen : (capacity : ℕ) (indices : List ℕ) (rows : List Row) {w : Window} → length rows ≡ capacity → seen capacity indices rows ≡ w → seen (length rows) indices rows ≡ w
+own_seen capacity indices rows same is = ap (λ n. seen n indices rows) same ∙ is

@@ -2,10 +2,8 @@
 use Rattle.std.proofs.Common.{◌≡◌, ◌≢◌, ℕ, ◌+◌, ◌-◌, ◌<◌, ◌≤◌, ◌==◌, ◌||◌, ◌&&◌, not, Bool, true, false, if◌then◌else◌, Option, Some, None, List, [], ◌∷◌, ◌++◌, length, take, drop, get_or, reverse, refl, ap, sym, ◌∙◌, inl, inr, arith, eq-eqb, subst}
 use Rattle.std.specs.Prelude.{slice_get, option_map}
 use Rattle.std.proofs.lemmas.Bool.{cases_eq, ne_eqb, eqb-true, both_ways}
-use Rattle.std.proofs.lemmas.List.{get_or-set_same, get_or-set_other, get_or_read, length-set, append-nil, take-map, drop-map, length-map, reverse-append}
-use Rattle.std.proofs.lemmas.Option.{slice_get-map, same_Some}
-use Rattle.circular_buffer.specs.Buffer.{Buffer, buffer}
-use Rattle.circular_buffer.proofs.Items.{pops_last}
+use Rattle.std.proofs.lemmas.List.{get_or-set_same, get_or-set_other, get_or_read, length-set, append-nil, take-map, drop-map, length-map, reverse-append, take_all, take_more}
+use Rattle.std.proofs.lemmas.Option.{slice_get-map, slice_get-get_or, slice_get_within, same_Some}
 use Rattle.reservation_stations.specs.declared.station.Mark.{Mark}
 use Rattle.reservation_stations.specs.declared.station.Station.{Station}
 use Rattle.reservation_stations.specs.declared.row.Row.{Row}
@@ -89,8 +87,16 @@ module _ {capacity : ℕ} {indices : List ℕ} {rows : List Row} {producers : Li
         (ap (option_map (λ (station : Station). station.index))
         (ap (λ n. option_map (λ s. station_in s (row_at rows s)) (slice_get indices (n - 1))) (sym (length-map indices (λ s. station_in s (row_at rows s)))) ∙ sym found) ∙ there)
 
+    pub cut_some : 0 < length indices
+    cut_some = omega (arith, slice_get_within indices (length indices - 1) index is_last)
+
     pub split : indices ≡ take (length indices - 1) indices ++ index ∷ []
-    split = rw is_last at (pops_last indices)
+    split =
+        let last = length indices - 1 in
+        let within : last < length indices = omega (arith, cut_some) in
+        let all : length indices ≡ last + 1 = omega (arith, cut_some) in
+        let is : get_or indices last 0 ≡ index = same_Some (get_or indices last 0) index (sym (slice_get-get_or indices last 0 within) ∙ is_last) in
+        sym (take_all (length indices) indices (omega arith)) ∙ ap (λ n. take n indices) all ∙ take_more indices last 0 within ∙ ap (λ s. take last indices ++ s ∷ []) is
 
     pub cut_within : index < length rows
     cut_within =
@@ -107,22 +113,20 @@ module _ {capacity : ℕ} {indices : List ℕ} {rows : List Row} {producers : Li
       pub cut_counted : (if is_waiting row.mark then 1 else 0) ≤ waiting
       cut_counted = rw cut_row (omega (arith, front_keeps.count, waiting_count-push (row_at rows) (take (length indices - 1) indices) index))
 
-      pub AreTables-cut : (order : Buffer ℕ) (table : List (Option ℕ)) (waiting' : ℕ) (before : Option ℕ) → order ≡ buffer (take (length indices - 1) indices) capacity →
+      pub AreTables-cut : (table : List (Option ℕ)) (waiting' : ℕ) (before : Option ℕ) →
           before ≡ among (stations_at (row_at rows) (reverse (take (length indices - 1) indices))) row.displaced →
           table ≡ with_producer row.destination before producers → waiting' + (if is_waiting row.mark then 1 else 0) ≡ waiting →
-          AreTables order.capacity order.items rows table waiting'
-      AreTables-cut order table waiting' before popped is_before set left =
+          AreTables capacity (take (length indices - 1) indices) rows table waiting'
+      AreTables-cut table waiting' before is_before set left =
           let left_by : waiting' + (if is_waiting (row_at rows index).mark then 1 else 0) ≡ waiting = subst (λ (e : Row). waiting' + (if is_waiting e.mark then 1 else 0) ≡ waiting) cut_row left in
           let front = take (length indices - 1) indices in
           let back : before ≡ among (stations_at (row_at rows) (reverse front)) (row_at rows index).displaced =
           is_before ∙ ap (λ (e : Row). among (stations_at (row_at rows) (reverse front)) e.displaced) cut_row in
-          rw (popped, set, cut_row) (AreTables-front capacity front index rows producers waiting waiting' before back front_keeps left_by)
+          rw (set, cut_row) (AreTables-front capacity front index rows producers waiting waiting' before back front_keeps left_by)
 
-  pub seen-cut : (order : Buffer ℕ) → order ≡ buffer (take (length indices - 1) indices) capacity →
-      seen order.capacity order.items rows ≡ record w { stations = take (length w.stations - 1) w.stations }
-  seen-cut order popped =
-      ap (λ (o : Buffer ℕ). seen o.capacity o.items rows) popped
-      ∙ (λ i. record {
+  pub seen-cut : seen capacity (take (length indices - 1) indices) rows ≡ record w { stations = take (length w.stations - 1) w.stations }
+  seen-cut =
+      (λ i. record {
         capacity = capacity;
         stations = (sym (take-map (λ s. station_in s (row_at rows s)) (length indices - 1) indices)
             ∙ ap (λ n. take (n - 1) (stations_at (row_at rows) indices)) (sym (length-map indices (λ s. station_in s (row_at rows s))))) i;
@@ -310,6 +314,9 @@ module _ {capacity : ℕ} {indices : List ℕ} {rows : List Row} {producers : Li
   pub first_keeps : AreTables capacity (index ∷ drop 1 indices) rows producers waiting
   first_keeps = subst (λ xs. AreTables capacity xs rows producers waiting) is_first keeps
 
+  pub retire_some : 0 < length indices
+  retire_some = omega (arith, ap length is_first)
+
   pub retire_within : index < length rows
   retire_within = omega (arith, first_keeps.within.0, keeps.every_index)
 
@@ -320,19 +327,17 @@ module _ {capacity : ℕ} {indices : List ℕ} {rows : List Row} {producers : Li
     pub retire_counted : (if is_waiting row.mark then 1 else 0) ≤ waiting
     retire_counted = rw retired_row (omega (arith, first_keeps.count))
 
-    pub AreTables-retired : (order : Buffer ℕ) (new : List Row) (table : List (Option ℕ)) (waiting' : ℕ) → order ≡ buffer (drop 1 indices) capacity →
+    pub AreTables-retired : (new : List Row) (table : List (Option ℕ)) (waiting' : ℕ) →
         EachChanges (Leaves index (row_at rows index).mark) rows new →
         table ≡ with_producer row.destination (without index (producer_at producers row.destination)) producers →
-        waiting' + (if is_waiting row.mark then 1 else 0) ≡ waiting → AreTables order.capacity order.items new table waiting'
-    AreTables-retired order new table waiting' popped each dropped left =
+        waiting' + (if is_waiting row.mark then 1 else 0) ≡ waiting → AreTables capacity (drop 1 indices) new table waiting'
+    AreTables-retired new table waiting' each dropped left =
         let left_by : waiting' + (if is_waiting (row_at rows index).mark then 1 else 0) ≡ waiting = subst (λ (e : Row). waiting' + (if is_waiting e.mark then 1 else 0) ≡ waiting) retired_row left in
-        rw (popped, dropped, retired_row) (AreTables-rest capacity index (drop 1 indices) rows new producers waiting waiting' first_keeps each left_by)
+        rw (dropped, retired_row) (AreTables-rest capacity index (drop 1 indices) rows new producers waiting waiting' first_keeps each left_by)
 
-  pub seen-retired : (order : Buffer ℕ) (new : List Row) → order ≡ buffer (drop 1 indices) capacity → EachChanges (Leaves index (row_at rows index).mark) rows new →
-      seen order.capacity order.items new ≡ record w { stations = drop 1 w.stations }
-  seen-retired order new popped each =
-      ap (λ (o : Buffer ℕ). seen o.capacity o.items new) popped
-      ∙ (λ i. record {
+  pub seen-retired : (new : List Row) → EachChanges (Leaves index (row_at rows index).mark) rows new → seen capacity (drop 1 indices) new ≡ record w { stations = drop 1 w.stations }
+  seen-retired new each =
+      (λ i. record {
         capacity = capacity;
         stations = (stations_behind capacity index (drop 1 indices) rows new producers waiting waiting first_keeps each
             ∙ sym (drop-map (λ s. station_in s (row_at rows s)) 1 indices)) i;

@@ -66,6 +66,50 @@ module _ (R : Row → Row → Type 0) (mask : Mask) (old : List Row) (still : (i
     each_row = λ index within. is.below index (omega (arith, within, all)) within;
   }
 
+taken_out : (was here : Bool) → here ≡ true → (was && not here) ≡ false
+taken_out true here out = ap not out
+taken_out false here out = refl
+
+left_in : (was here : Bool) → here ≡ false → (was && not here) ≡ was
+left_in true here not_here = ap not not_here
+left_in false here not_here = refl
+
+-- what is left of a set once those below a bound are taken out
+pub record LeftFrom (from : ℕ) (all left : Mask) : Type 0 where
+  pub gone : (k : ℕ) → k < from → holds left k ≡ false
+  pub kept : (k : ℕ) → from ≤ k → holds left k ≡ holds all k
+
+pub left_all : (all : Mask) → LeftFrom 0 all all
+left_all all = record { gone = λ k before. absurd (omega (arith, before)); kept = λ k behind. refl }
+
+module _ (from : ℕ) (all left : Mask) (is : LeftFrom from all left) where
+  -- the first of them stands in the set, behind the bound
+  pub left_behind : (first : ℕ) → holds left first ≡ true → from ≤ first
+  left_behind first found = elim (cases_lt first from) [
+    | inl before ↦ let e : true ≡ false = sym found ∙ is.gone first before in absurd cc
+    | inr behind ↦ behind
+  ]
+
+  pub left_held : (first : ℕ) → holds left first ≡ true → holds all first ≡ true
+  left_held first found = sym (is.kept first (left_behind first found)) ∙ found
+
+  -- none of the set stands between the bound and one that none of them is below
+  pub left_none : (upto : ℕ) → ((k : ℕ) → k < upto → holds left k ≡ false) → (k : ℕ) → from ≤ k → k < upto → holds all k ≡ false
+  left_none upto none k behind before = sym (is.kept k behind) ∙ none k before
+
+  -- and it is taken out
+  pub left_next : (first : ℕ) (next : Mask) → holds left first ≡ true → ((k : ℕ) → k < first → holds left k ≡ false) →
+      ((k : ℕ) → holds next k ≡ (holds left k && not (k == first))) → LeftFrom (first + 1) all next
+  left_next first next found none taken = record {
+    gone = λ k before. taken k ∙ elim (cases_eq k first) [
+      | inl same ↦ taken_out (holds left k) (k == first) (eq-eqb k first same)
+      | inr apart ↦ ap (λ b. b && not (k == first)) (none k (omega (arith, before, apart)))
+    ];
+    kept = λ k behind.
+        taken k ∙ left_in (holds left k) (k == first) (ne_eqb k first (λ same. omega (arith, same, behind)))
+        ∙ is.kept k (omega (arith, behind, left_behind first found));
+  }
+
 and_not : (b c : Bool) → (b ≡ true → c ≡ false) → b ≡ (b && not c)
 and_not true true apart = let e = apart refl in cc
 and_not true false apart = refl

@@ -470,12 +470,16 @@ free_idle n row done index = elim (cases_lt index n) [
 ]
 
 -- behind the list there is none
+pub none_past : (Q : Row → Type 0) (indices : List ℕ) (rows : List Row) (mask : Mask) → HoldsPlaces Q indices rows mask → (upto : ℕ) → upto ≡ length indices →
+    (place : ℕ) → upto ≤ place → holds mask place ≡ false
+none_past Q indices rows mask held upto all place past = not_true (holds mask place) (λ is. let w = held.within place is in omega (arith, w, past, all))
+
 pub none_on : (Q : Row → Type 0) (indices : List ℕ) (rows : List Row) (mask : Mask) → HoldsPlaces Q indices rows mask → (o : Option ℕ) (from upto : ℕ) → upto ≡ length indices →
     IfNone o ((k : ℕ) → from ≤ k → k < upto → holds mask k ≡ false) → IfNone o ((k : ℕ) → from ≤ k → holds mask k ≡ false)
 none_on Q indices rows mask held (Some found) from upto all none = tt
 none_on Q indices rows mask held None from upto all none = λ k behind. elim (cases_lt k upto) [
   | inl inside ↦ none k behind inside
-  | inr past ↦ not_true (holds mask k) (λ is. let w = held.within k is in omega (arith, w, past, all))
+  | inr past ↦ none_past Q indices rows mask held upto all k past
 ]
 
 -- tables of no station

@@ -2,7 +2,7 @@
 use Rattle.std.proofs.Common.{◌≡◌, ◌≢◌, ◌↔◌, ℕ, zero, suc, ◌<◌, ◌==◌, ◌||◌, ◌&&◌, Bool, true, false, IsTrue, if◌then◌else◌, Option, Some, None, IfSome, IsSome, is_none, is_some, not, List, [], ◌∷◌, ◌++◌, length, take, get_or, reverse, refl, ap, sym, ◌∙◌, arith, eq-eqb, subst, inl, inr}
 use Rattle.std.specs.Prelude.{slice_get, option_map, All, AllPairs}
 use Rattle.std.proofs.lemmas.Bool.{both_ways, or_parts}
-use Rattle.std.proofs.lemmas.List.{append-nil, take-map, get_or_read}
+use Rattle.std.proofs.lemmas.List.{append-nil, take-map, length-map, get_or_read}
 use Rattle.std.proofs.lemmas.Option.{slice_get-map, slice_get_cases, same_Some}
 use Rattle.reservation_stations.specs.declared.station.Station.{Station}
 use Rattle.reservation_stations.specs.declared.row.Row.{Row}
@@ -178,6 +178,9 @@ AllPairs-from_distinct at (index ∷ indices) distinct (suc i) (suc j) d before 
 module _ {capacity : ℕ} {indices : List ℕ} {rows : List Row} {producers : List (Option ℕ)} {waiting : ℕ} (keeps : AreTables capacity indices rows producers waiting) {w : Window} (is_seen : seen capacity indices rows ≡ w) where
   pub reverse_seen : reverse w.stations ≡ stations_at (row_at rows) (reverse indices)
   reverse_seen = ap (λ (v : Window). reverse v.stations) (sym is_seen) ∙ reverse-stations_at (row_at rows) indices
+
+  pub length_seen : length w.stations ≡ length indices
+  length_seen = ap (λ (v : Window). length v.stations) (sym is_seen) ∙ length-map indices (λ s. station_in s (row_at rows s))
 
   -- the table of producers
   pub producer_seen : (register : ℕ) (found : Option ℕ) → register < 256 → found ≡ get_or producers register found → found ≡ producer (reverse w.stations) register

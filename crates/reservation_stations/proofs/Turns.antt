@@ -1,10 +1,79 @@
--- One row after the other changes.
-use Rattle.std.proofs.Common.{◌≡◌, ℕ, ◌<◌, ◌≤◌, List, length}
-use Rattle.reservation_stations.specs.declared.row.Row.{Row}
-use Rattle.reservation_stations.specs.AreTables.{row_at}
+-- The list of indices that the turns give, as stations enter and leave.
+use Rattle.std.proofs.Common.{◌≡◌, ◌≢◌, ℕ, zero, suc, ◌+◌, ◌-◌, ◌%◌, ◌<◌, ◌≤◌, Some, None, List, [], ◌∷◌, ◌++◌, length, take, drop, get_or, refl, ap, sym, ◌∙◌, arith}
+use Rattle.std.specs.Prelude.{slice_get, slice_set}
+use Rattle.std.proofs.lemmas.List.{get_or-set_same, get_or-set_other, take_at}
+use Rattle.std.proofs.lemmas.Option.{slice_get_past}
+use Rattle.reservation_stations.specs.Turns.{indices_from}
 
--- those below a bound have changed, and the others stand as they were
-pub record ChangesBelow (R : Row → Row → Type 0) (old new : List Row) (bound : ℕ) : Type 0 where
-  pub every_index : length new ≡ length old
-  pub below : (index : ℕ) → index < bound → R (row_at old index) (row_at new index)
-  pub above : (index : ℕ) → bound ≤ index → row_at new index ≡ row_at old index
+pub length-indices : (at_turn : List ℕ) (turn count : ℕ) → length (indices_from at_turn turn count) ≡ count
+length-indices at_turn turn zero = refl
+length-indices at_turn turn (suc count) = ap suc (length-indices at_turn (turn + 1) count)
+
+-- turns are told modulo 256
+indices_same : (at_turn : List ℕ) (turn turn' count : ℕ) → turn % 256 ≡ turn' % 256 → indices_from at_turn turn count ≡ indices_from at_turn turn' count
+indices_same at_turn turn turn' zero same = refl
+indices_same at_turn turn turn' (suc count) same =
+    let next : (turn + 1) % 256 ≡ (turn' + 1) % 256 = omega (arith, same) in
+    λ i. get_or at_turn (same i) 0 ∷ indices_same at_turn (turn + 1) (turn' + 1) count next i
+
+-- one more stands behind the others, at the turn behind theirs
+indices_more : (at_turn : List ℕ) (turn count : ℕ) → indices_from at_turn turn (suc count) ≡ indices_from at_turn turn count ++ get_or at_turn ((turn + count) % 256) 0 ∷ []
+indices_more at_turn turn zero =
+    let e : turn ≡ turn + 0 = omega arith in ap (λ n. get_or at_turn (n % 256) 0 ∷ []) e
+indices_more at_turn turn (suc count) =
+    let e : turn + 1 + count ≡ turn + suc count = omega arith in
+    ap (λ xs. get_or at_turn (turn % 256) 0 ∷ xs) (indices_more at_turn (turn + 1) count
+    ∙ ap (λ n. indices_from at_turn (turn + 1) count ++ get_or at_turn (n % 256) 0 ∷ []) e)
+
+-- an entry at none of their turns
+indices_kept : (at_turn : List ℕ) (place index turn count : ℕ) → ((k : ℕ) → k < count → (turn + k) % 256 ≢ place) →
+    indices_from (slice_set at_turn place index) turn count ≡ indices_from at_turn turn count
+indices_kept at_turn place index turn zero apart = refl
+indices_kept at_turn place index turn (suc count) apart =
+    let here : turn % 256 ≢ place = λ e. apart 0 (omega arith) (omega (arith, e)) in
+    let rest : (k : ℕ) → k < count → (turn + 1 + k) % 256 ≢ place = λ k before e. apart (suc k) (omega (arith, before)) (omega (arith, e)) in
+    λ i. get_or-set_other at_turn place (turn % 256) index 0 here i ∷ indices_kept at_turn place index (turn + 1) count rest i
+
+-- a station enters
+pub indices_entered : (at_turn : List ℕ) (retired count turn index : ℕ) → length at_turn ≡ 256 → count < 256 → turn ≡ (retired + count) % 256 →
+    indices_from (slice_set at_turn turn index) retired (count + 1) ≡ indices_from at_turn retired count ++ index ∷ []
+indices_entered at_turn retired count turn index all few is =
+    let e : count + 1 ≡ suc count = omega arith in
+    let apart : (k : ℕ) → k < count → (retired + k) % 256 ≢ turn = λ k before same. omega (arith, before, same, few, is) in
+    let here : get_or (slice_set at_turn turn index) ((retired + count) % 256) 0 ≡ index =
+    ap (λ n. get_or (slice_set at_turn turn index) n 0) (sym is) ∙ get_or-set_same at_turn turn index 0 (omega (arith, all, is))
+    in
+    ap (indices_from (slice_set at_turn turn index) retired) e ∙ indices_more (slice_set at_turn turn index) retired count
+    ∙ λ i. indices_kept at_turn turn index retired count apart i ++ here i ∷ []
+
+-- the oldest leaves
+pub indices_retired : (at_turn : List ℕ) (retired count : ℕ) → 0 < count → indices_from at_turn ((retired + 1) % 256) (count - 1) ≡ drop 1 (indices_from at_turn retired count)
+indices_retired at_turn retired zero some = absurd (omega (arith, some))
+indices_retired at_turn retired (suc count) some =
+    let e : suc count - 1 ≡ count = omega arith in
+    ap (indices_from at_turn ((retired + 1) % 256)) e ∙ indices_same at_turn ((retired + 1) % 256) (retired + 1) count (omega arith)
+
+-- the youngest leaves
+pub indices_cut : (at_turn : List ℕ) (retired count : ℕ) → 0 < count →
+    indices_from at_turn retired (count - 1) ≡ take (length (indices_from at_turn retired count) - 1) (indices_from at_turn retired count)
+indices_cut at_turn retired zero some = absurd (omega (arith, some))
+indices_cut at_turn retired (suc count) some =
+    let e : suc count - 1 ≡ count = omega arith in
+    let front = indices_from at_turn retired count in
+    let last : List ℕ = get_or at_turn ((retired + count) % 256) 0 ∷ [] in
+    ap (indices_from at_turn retired) e
+    ∙ sym (ap (λ n. take (n - 1) (indices_from at_turn retired (suc count))) (length-indices at_turn retired (suc count))
+    ∙ ap (λ n. take n (indices_from at_turn retired (suc count))) e
+    ∙ ap (take count) (indices_more at_turn retired count) ∙ take_at front last count (length-indices at_turn retired count))
+
+-- the index at a place
+pub index_there : (at_turn : List ℕ) (turn count place : ℕ) → place < count → slice_get (indices_from at_turn turn count) place ≡ Some (get_or at_turn ((turn + place) % 256) 0)
+index_there at_turn turn zero place before = absurd (omega (arith, before))
+index_there at_turn turn (suc count) zero before =
+    let e : turn ≡ turn + 0 = omega arith in ap (λ n. Some (get_or at_turn (n % 256) 0)) e
+index_there at_turn turn (suc count) (suc place) before =
+    let e : turn + 1 + place ≡ turn + suc place = omega arith in
+    index_there at_turn (turn + 1) count place (omega (arith, before)) ∙ ap (λ n. Some (get_or at_turn (n % 256) 0)) e
+
+pub index_past : (at_turn : List ℕ) (turn count place : ℕ) → count ≤ place → slice_get (indices_from at_turn turn count) place ≡ None
+index_past at_turn turn count place past = slice_get_past (indices_from at_turn turn count) place (omega (arith, past, length-indices at_turn turn count))

@@ -52,21 +52,61 @@ impl Mask {
         }
     }
 
-    /// Takes place 0 out of the set, if it is there, and lets all others be one lower.
-    pub fn shift(&mut self)
+    /// Takes place 0 out of the set, if it is there, and lets all others be one lower. All are
+    /// below `upto`.
+    pub fn shift(&mut self, upto: u32)
+        requires within { (place : ℕ) → upto ≤ place → holds self.old place ≡ false }
         ensures shifted { (place : ℕ) → holds self.new place ≡ holds self.old (place + 1) }
     {
-        let [second, third, fourth] = self.high;
-        if second == 0 && third == 0 && fourth == 0 {
+        if upto <= 64 {
+            // The other words are empty.
             self.low /= 2;
             return;
         }
+        let [second, third, fourth] = self.high;
         self.low = halved(self.low, second);
         self.high = [
             halved(second, third),
             halved(third, fourth),
             halved(fourth, 0),
         ];
+    }
+
+    /// Takes the first out of the set, and gives None where there is none below `upto`.
+    #[inline(always)]
+    pub fn take_first(&mut self, upto: u32) -> Option<u32>
+        requires few { upto ≤ 256 }
+        ensures found { IfSome result (λ index. IsTrue (holds self.old index)) }
+        ensures removed { IfSome result (λ index. (other : ℕ) →
+            holds self.new other ≡ (holds self.old other && not (other == index))) }
+        ensures first { IfSome result (λ index. (k : ℕ) → k < index → holds self.old k ≡ false) }
+        ensures none { IfNone result ((k : ℕ) → k < upto → holds self.old k ≡ false) }
+    {
+        if self.low != 0 {
+            let bit = self.low.trailing_zeros();
+            self.low &= !(1 << bit);
+            return Some(bit);
+        }
+        if upto <= 64 {
+            return None;
+        }
+        self.take_high(upto)
+    }
+
+    /// The same where the first word is empty.
+    #[inline(never)]
+    fn take_high(&mut self, upto: u32) -> Option<u32>
+        requires empty { self.old.low ≡ 0 }
+        requires few { upto ≤ 256 }
+        ensures found { IfSome result (λ index. IsTrue (holds self.old index)) }
+        ensures removed { IfSome result (λ index. (other : ℕ) →
+            holds self.new other ≡ (holds self.old other && not (other == index))) }
+        ensures first { IfSome result (λ index. (k : ℕ) → k < index → holds self.old k ≡ false) }
+        ensures none { IfNone result ((k : ℕ) → k < upto → holds self.old k ≡ false) }
+    {
+        let index = self.next_high(64, upto)?;
+        self.remove(index);
+        Some(index)
     }
 
     /// The first in the set from `from` on, and None where there is none below `upto`.

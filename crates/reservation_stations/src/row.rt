@@ -17,8 +17,7 @@ pub struct Row {
 }
 
 impl Row {
-    ghost use Rattle.std.specs.Prelude.{◌≡◌, ◌↔◌, ◌+◌, ◌-◌, ◌%◌, ◌<◌, ℕ, false, IsTrue};
-    ghost use Rattle.reservation_stations.specs.Waits.{waits_on};
+    ghost use Rattle.std.specs.Prelude.{◌≡◌, ◌↔◌, ◌+◌, ◌-◌, ◌%◌, ◌<◌, ℕ, IsTrue};
     ghost use Rattle.reservation_stations.specs.AreTables.{free_row};
     ghost use Rattle.reservation_stations.specs.Changes.{Releases};
     ghost use Rattle.reservation_stations.specs.Places.{IsReady, place_in};

@@ -5,7 +5,6 @@ use crate::tables::{
     drop_producer, leave, note, note_ready, set_producer, standing, tell, uncounted,
 };
 use crate::waits::Waits;
-use circular_buffer::HeapCircularBuffer;
 use fsim_base::NoMemory;
 use std::alloc::Global;
 use std::marker::Model;
@@ -17,8 +16,10 @@ use std::marker::Model;
 /// for the producers of its sources that weren't done when it entered, until they wake it or leave.
 #[derive(Debug, Drop)]
 pub struct Stations {
-    /// The indices of the stations, the oldest first.
-    order: HeapCircularBuffer<u32>,
+    /// For each turn, the index of the station that took it last.
+    at_turn: Vec<u8>,
+    /// How many stations there are. The oldest has the turn `retired`.
+    count: u32,
     /// What each index keeps of the station that holds it.
     rows: Vec<Row>,
     /// For each index, at least those whose stations wait for its own.
@@ -36,7 +37,9 @@ pub struct Stations {
 }
 
 impl Model for Stations {
+    ghost use Rattle.std.specs.Prelude.{◌≡◌, length};
     ghost use Rattle.reservation_stations.specs.Readiness.{Window};
+    ghost use Rattle.reservation_stations.specs.Turns.{indices_from};
     ghost use Rattle.reservation_stations.specs.AreTables.{AreTables, stations_at, row_at};
     ghost use Rattle.reservation_stations.specs.Covers.{AreCovered};
     ghost use Rattle.reservation_stations.specs.Places.{ArePlaced};
@@ -44,14 +47,18 @@ impl Model for Stations {
     ghost Value = { Window };
 
     ghost view = { λ s. record {
-      capacity = s.order.capacity;
-      stations = stations_at (row_at s.rows.items) s.order.items;
+      capacity = length s.rows.items;
+      stations = stations_at (row_at s.rows.items)
+          (indices_from s.at_turn.items s.retired s.count);
     } };
 
     ghost invariant = { λ s.
-        AreTables s.order.capacity s.order.items s.rows.items s.producers.items s.waiting
+        AreTables (length s.rows.items) (indices_from s.at_turn.items s.retired s.count)
+        s.rows.items s.producers.items s.waiting
         × AreCovered s.rows.items s.dependents.items
-        × ArePlaced s.retired s.order.items s.rows.items s.ready s.executing };
+        × ArePlaced s.retired (indices_from s.at_turn.items s.retired s.count)
+        s.rows.items s.ready s.executing
+        × (length s.at_turn.items ≡ 256) };
 }
 
 impl Stations {
@@ -72,7 +79,7 @@ impl Stations {
         requires limit { capacity ≤ 256 }
         ensures empty { IfOk result (λ it. it ≡ record { capacity = capacity; stations = [] }) }
     {
-        let Ok(order) = HeapCircularBuffer::with_capacity(alloc, capacity as usize) else {
+        let Ok(at_turn) = vec![in alloc; 0; 256] else {
             return Err(NoMemory);
         };
         let Ok(rows) = vec![in alloc; Row::free(); capacity as usize] else {
@@ -85,7 +92,8 @@ impl Stations {
             return Err(NoMemory);
         };
         Ok(Stations {
-            order,
+            at_turn,
+            count: 0,
             rows,
             dependents,
             producers,
@@ -105,7 +113,7 @@ impl Stations {
         ensures distinct { AllPairs (λ older younger. older.index ≢ younger.index)
             self.now.stations }
     {
-        self.order.len() as u32
+        self.count
     }
 
     /// How many stations wait.
@@ -150,7 +158,7 @@ impl Stations {
         let displaced = self.producer(destination);
         note(&mut self.dependents, first, index);
         note(&mut self.dependents, second, index);
-        let place = self.order.len() as u8;
+        let turn = self.retired.wrapping_add(self.count as u8);
         let row = Row {
             first: sources.0,
             second: sources.1,
@@ -158,13 +166,13 @@ impl Stations {
             mark: Mark::Waiting,
             waits: Waits { first, second },
             displaced,
-            turn: self.retired.wrapping_add(place),
+            turn,
         };
         note_ready(&mut self.ready, &row, self.retired);
         self.rows[index as usize] = row;
         set_producer(&mut self.producers, destination, Some(index));
-        // There is room, so this is Ok.
-        let _ = self.order.try_push_back(index);
+        self.at_turn[turn as usize] = index as u8;
+        self.count += 1;
         self.waiting += 1;
     }
 
@@ -229,7 +237,6 @@ impl Stations {
             mark,
             ..
         } = self.rows[index as usize];
-        let _ = self.order.pop_front();
         leave(
             &mut self.rows,
             &mut self.ready,
@@ -240,8 +247,9 @@ impl Stations {
         self.rows[index as usize].mark = Mark::Done;
         drop_producer(&mut self.producers, destination, index);
         self.waiting = uncounted(self.waiting, mark);
-        self.ready.shift();
-        self.executing.shift();
+        self.ready.shift(self.count);
+        self.executing.shift(self.count);
+        self.count -= 1;
         self.retired = self.retired.wrapping_add(1);
     }
 
@@ -258,11 +266,16 @@ impl Stations {
             displaced,
             ..
         } = self.rows[index as usize];
-        let _ = self.order.pop_back();
-        let place = self.order.len() as u32;
-        let before = standing(&self.order, &self.rows, displaced, self.retired);
-        self.ready.remove(place);
-        self.executing.remove(place);
+        self.count -= 1;
+        let before = standing(
+            &self.at_turn,
+            &self.rows,
+            displaced,
+            self.retired,
+            self.count,
+        );
+        self.ready.remove(self.count);
+        self.executing.remove(self.count);
         self.rows[index as usize].mark = Mark::Done;
         set_producer(&mut self.producers, destination, before);
         self.waiting = uncounted(self.waiting, mark);
@@ -278,7 +291,7 @@ impl Stations {
         ensures none { IfNone result ((k : ℕ) → from ≤ k →
             can_begin_at self.now.stations k ≡ false) }
     {
-        self.ready.next(from, self.order.len() as u32)
+        self.ready.next(from, self.count)
     }
 
     /// The place in the list of the first station from a place on that executes.
@@ -290,6 +303,6 @@ impl Stations {
         ensures none { IfNone result ((k : ℕ) → from ≤ k →
             executes_at self.now.stations k ≡ false) }
     {
-        self.executing.next(from, self.order.len() as u32)
+        self.executing.next(from, self.count)
     }
 }

@@ -1,10 +1,11 @@
 //! What changes at many rows at once, and at the producer of a register.
-ghost use Rattle.std.specs.Prelude.{◌≡◌, ℕ, ◌<◌, ◌≤◌, ◌+◌, true, vec_len, if◌then◌else◌};
+ghost use Rattle.std.specs.Prelude.{◌≡◌, ℕ, ◌<◌, ◌≤◌, ◌+◌, true, vec_len, slice_get, if◌then◌else◌};
 ghost use Rattle.std.specs.Option.{ForSome};
 ghost use Rattle.reservation_stations.specs.Readiness.{is_waiting};
 ghost use Rattle.reservation_stations.specs.Changes.{Leaves, Releases, EachChanges, without};
 ghost use Rattle.reservation_stations.specs.Changes.{with_producer, producer_at};
 ghost use Rattle.reservation_stations.specs.AreTables.{Each, row_at};
+ghost use Rattle.reservation_stations.specs.Turns.{indices_from};
 ghost use Rattle.reservation_stations.specs.Covers.{AreCovered, Notes, Unaware};
 ghost use Rattle.reservation_stations.specs.Mask.{holds};
 ghost use Rattle.reservation_stations.specs.Places.{KeepsReady, NotesReady, standing};
@@ -12,7 +13,6 @@ ghost use Rattle.reservation_stations.specs.Places.{KeepsReady, NotesReady, stan
 use crate::mask::Mask;
 use crate::row::Row;
 use crate::station::Mark;
-use circular_buffer::HeapCircularBuffer;
 
 /// Notes an index among those that depend on another one, if one is given.
 pub fn note(dependents: &mut Vec<Mask>, on: Option<u32>, index: u32)
@@ -55,15 +55,14 @@ fn tell_each(rows: &mut Vec<Row>, ready: &mut Mask, knowing: Mask, index: u32, r
     ensures ready { KeepsReady retired rows.old.items ready.old rows.new.items ready.new }
 {
     let indices = rows.len() as u32;
-    let mut from = 0;
-    while from < indices {
-        let Some(dependent) = knowing.next(from, indices) else {
+    let mut untold = knowing;
+    for _ in 0..indices {
+        let Some(dependent) = untold.take_first(indices) else {
             return;
         };
         let row = &mut rows[dependent as usize];
         row.release(index);
         note_ready(ready, row, retired);
-        from = dependent + 1;
     }
 }
 
@@ -89,23 +88,40 @@ pub fn leave(
     }
 }
 
-/// An index, if one is given and its station is in the list, where so many retired. A station
-/// stands at the place of its turn, so no other place is looked at.
+/// An index, if one is given and its station is in the list, of so many where so many retired. A
+/// station stands at the place of its turn, so no other place is looked at.
 pub fn standing(
-    order: &HeapCircularBuffer<u32>,
+    at_turn: &Vec<u8>,
     rows: &Vec<Row>,
     index: Option<u32>,
     retired: u8,
+    count: u32,
 ) -> Option<u32>
-    requires within { Each (λ other. other < vec_len rows.now) order.now.items }
-    ensures standing { result ≡ standing retired order.now.items rows.now.items index }
+    requires every_turn { vec_len at_turn.now ≡ 256 }
+    requires within { Each (λ other. other < vec_len rows.now)
+        (indices_from at_turn.now.items retired count) }
+    ensures standing { result ≡
+        standing retired (indices_from at_turn.now.items retired count) rows.now.items index }
 {
     let index = index?;
     let row = rows.get(index as usize)?;
-    match order.get(row.place(retired) as usize) {
-        Some(&held) if held == index => Some(index),
+    match index_at(at_turn, row.place(retired), retired, count) {
+        Some(held) if held == index => Some(index),
         _ => None,
     }
+}
+
+/// The index of the station at a place, if there is one, of so many where so many retired.
+fn index_at(at_turn: &Vec<u8>, place: u32, retired: u8, count: u32) -> Option<u32>
+    requires every_turn { vec_len at_turn.now ≡ 256 }
+    requires within { place < 256 }
+    ensures index { result ≡ slice_get (indices_from at_turn.now.items retired count) place }
+{
+    if place >= count {
+        return None;
+    }
+    let turn = retired.wrapping_add(place as u8);
+    Some(u32::from(at_turn[turn as usize]))
 }
 
 /// Puts the place of a row's station, where so many retired, into the ready ones, if it waits for

@@ -1,5 +1,5 @@
 ghost use Rattle.std.specs.Prelude.{◌≡◌};
-ghost use Rattle.rv_exec.specs.Alu.{truth, shifted_left, shifted_right, shifted_right_signed};
+ghost use Rattle.rv_exec.specs.Alu.{shifted_left, shifted_right, shifted_right_signed};
 ghost use Rattle.rv_exec.specs.Alu.{alu_value};
 
 /// What an integer computational instruction writes; `alt` says that funct7 is 0x20.

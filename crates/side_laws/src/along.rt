@@ -1,16 +1,15 @@
 //! A functional side that obeys the orders of a run, one after the other.
 #![tactic(auto)]
 
-ghost use Rattle.std.specs.Prelude.{◌≡◌, ◌≤◌, true, Some, Option, List, ◌∷◌, [], length};
+ghost use Rattle.std.specs.Prelude.{◌≡◌, ◌≤◌, true, Some, List, ◌∷◌, [], length};
 ghost use Rattle.rollback_cmds.specs.declared.order.Order.{Order};
-ghost use Rattle.trace_entry.specs.declared.Entry.{Entry};
 ghost use Rattle.mono_model.specs.declared.setup.Setup.{Setup};
 ghost use Rattle.mono_model.specs.Setup.{is_setup};
 ghost use Rattle.mono_model.specs.Cycle.{mono};
 ghost use Rattle.mono_model.specs.Demand.{order};
 ghost use Rattle.func_model.specs.declared.walk.Walk.{Walk};
 ghost use Rattle.func_model.specs.Contents.{ContentsStandFor};
-ghost use Rattle.func_model.specs.Walk.{WalkStandsFor, IsFresh, IsForward, IsAtRest, IsProduced};
+ghost use Rattle.func_model.specs.Walk.{WalkStandsFor, IsFresh, IsForward, IsAtRest};
 ghost use Rattle.func_model.specs.Walk.{IsObeyed};
 ghost use Rattle.side_laws.specs.Along.{IsAlong, MayObey, MayProduce};
 

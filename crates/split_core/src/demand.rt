@@ -8,6 +8,7 @@ use crate::timing::Timing;
 use device_bus::Device;
 use rollback_cmds::Order;
 use time_model::Turn;
+use trace_entry::Entry;
 
 /// The run on demand: an entry is computed only where the timing side wants it, and an order is
 /// obeyed as soon as it is told. So nothing is computed for nothing, whatever room there is between
@@ -120,9 +121,10 @@ impl<D: Device, T: Timing> SplitState<D, T> {
         if !self.time.wants() {
             return Turn::Moved;
         }
-        let Some(entry) = self.func.produce() else {
+        let mut entry = Entry::BLANK;
+        if !self.func.produce_into(&mut entry) {
             return Turn::Moved;
-        };
+        }
         let turn = self.time.feed(&entry);
         self.obey_told(order_told(turn));
         turn

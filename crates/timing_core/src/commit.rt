@@ -115,7 +115,8 @@ fn ending_order(ending: Ending, done: u64) -> Option<Order>
 }
 
 impl TimingCore {
-    ghost use Rattle.std.specs.Prelude.{ℕ, ◌+◌, drop, slice_get, IfSome, IfNone};
+    ghost use Rattle.std.specs.Prelude.{ℕ, ◌+◌, drop, slice_get, Some, IfSome, IfNone};
+    ghost use Rattle.reorder_buffer.specs.declared.slot.Slot.{Slot as HeldSlot};
     ghost use Rattle.reorder_buffer.specs.declared.slot.SlotState.TheVariants.{Done};
     ghost use Rattle.mono_model.specs.declared.setup.Setup.{Setup};
     ghost use Rattle.timing_side.specs.Slots.{found_in};
@@ -186,12 +187,13 @@ impl TimingCore {
             → result ≡ kind_of (leaving s t) }
     {
         match self.oldest_done() {
-            Some(slot) => self.leave_done(&slot),
+            Some(_slot) => self.leave_done(),
             None => Leaving::Stays,
         }
     }
 
     /// The oldest slot, where it is done.
+    #[inline(always)]
     fn oldest_done(&self) -> Option<Slot>
         ensures oldest { IfSome result (λ slot. slice_get self.now.flight.slots 0 ≡ Some slot) }
         ensures done { IfSome result (λ slot. slot.state ≡ Done) }
@@ -202,31 +204,38 @@ impl TimingCore {
             return None;
         };
         match slot.state {
-            SlotState::Done => Some(*slot),
+            SlotState::Done => Some(slot),
             _ => None,
         }
     }
 
-    /// The oldest slot, which is done, does what it does in this phase. It stays a call.
+    /// The oldest slot, once done, does what it does in this phase. It stays a call, which reads
+    /// the slot where it stands.
     #[inline(never)]
-    fn leave_done(&mut self, slot: &Slot) -> Leaving
-        requires oldest { slice_get self.old.flight.slots 0 ≡ Some slot.now }
-        ensures kept { (s : Setup) (t : Timing) → CoreStandsFor s t self.old → IsAlmostSmall t →
+    fn leave_done(&mut self) -> Leaving
+        ensures kept { (s : Setup) (t : Timing) (slot : HeldSlot)
+            → slice_get self.old.flight.slots 0 ≡ Some slot → CoreStandsFor s t self.old
+            → IsAlmostSmall t →
             CoreStandsFor s
-            (behind_of t (leaving_done s slot.now (drop 1 t.slots) slot.now.cause t)) self.new }
-        ensures kind { (s : Setup) (t : Timing) → CoreStandsFor s t self.old → IsAlmostSmall t →
-            result ≡ kind_of (leaving_done s slot.now (drop 1 t.slots) slot.now.cause t) }
+            (behind_of t (leaving_done s slot (drop 1 t.slots) slot.cause t)) self.new }
+        ensures kind { (s : Setup) (t : Timing) (slot : HeldSlot)
+            → slice_get self.old.flight.slots 0 ≡ Some slot → CoreStandsFor s t self.old
+            → IsAlmostSmall t →
+            result ≡ kind_of (leaving_done s slot (drop 1 t.slots) slot.cause t) }
     {
+        let Some(slot) = self.flight.oldest() else {
+            return Leaving::Stays;
+        };
         if slot.cause.is_some() {
-            self.fault(slot);
+            self.fault(&slot);
             return Leaving::Faults(slot.next);
         }
-        if self.has_no_room(slot) {
+        if self.has_no_room(&slot) {
             self.end = End::OutputFull;
             return Leaving::Full;
         }
-        self.retire(slot);
-        self.follow(slot)
+        self.retire(&slot);
+        self.follow(&slot)
     }
 
     /// Whether the output has no room for what the slot sends.

@@ -53,7 +53,7 @@ fn finish_due(flight: &mut InFlight, cycle: u64) -> Option<Redirect>
         };
         let slot = flight.at(place);
         if is_finishing(slot.state, cycle) {
-            let wrong = is_mispredicted(slot);
+            let wrong = is_mispredicted(&slot);
             let addr = slot.next;
             flight.finish(place);
             if wrong {

@@ -1,12 +1,9 @@
 ghost use Rattle.std.specs.Prelude.{◌≡◌};
-ghost use Rattle.reorder_buffer.specs.declared.slot.SlotState.TheVariants.{Waiting};
-ghost use Rattle.timing_side.specs.Slots.{slot_from};
 ghost use Rattle.timing_side.specs.Fetch.{is_fetch_cause, is_fetchable};
 
 use crate::orders::Orders;
 use crate::state::TimingCore;
 use fsim_base::{Cause, wrap_add};
-use reorder_buffer::{Slot, SlotState};
 use rollback_cmds::Order;
 use trace_entry::Entry;
 
@@ -35,29 +32,6 @@ fn is_fetchable(entry: &Entry) -> bool
     ensures fetchable { result ≡ is_fetchable entry.now }
 {
     !(entry.word == 0 && is_fetch_cause(entry.cause))
-}
-
-/// The slot of an instruction that is fetched in this cycle.
-fn slot_of(entry: &Entry, predicted: u32, cycle: u64) -> Slot
-    ensures slot { result ≡ slot_from entry.now predicted cycle Waiting }
-{
-    Slot {
-        number: entry.number,
-        addr: entry.addr,
-        word: entry.word,
-        class: entry.class,
-        access: entry.access,
-        next: entry.next,
-        predicted,
-        cause: entry.cause,
-        unserved: entry.unserved,
-        sends: entry.out.is_some(),
-        halt: entry.halt,
-        irq_on: entry.irq_on,
-        cmp: entry.cmp,
-        fetched: cycle,
-        state: SlotState::Waiting,
-    }
 }
 
 impl TimingCore {
@@ -179,7 +153,7 @@ impl TimingCore {
             → t.counts.fetched < 2 ^ 63 → predicted ≡ predicted_next s entry.now t →
             CoreStandsFor s (appended s entry.now t.caches t) self.new }
     {
-        self.flight.append(slot_of(entry, predicted, self.cycle));
+        self.flight.append(entry, predicted, self.cycle);
         self.paid = false;
         self.counts.fetched = self.counts.fetched.saturating_add(1);
     }

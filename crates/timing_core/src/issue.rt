@@ -93,7 +93,7 @@ impl TimingCore {
             → result ≡ wants_time s t }
     {
         match self.flight.oldest() {
-            Some(slot) => self.is_past_front(slot) && slot.unserved,
+            Some(slot) => self.is_past_front(&slot) && slot.unserved,
             None => false,
         }
     }
@@ -164,7 +164,7 @@ impl TimingCore {
             ≡ (turn_of s t.cycle busy (older_at t.slots place) slot (used_in used) t.caches).used }
         ensures size { length self.new.flight.slots ≡ length self.old.flight.slots }
     {
-        let slot = *self.flight.at(place);
+        let slot = self.flight.at(place);
         if !self.may_begin(place, &slot, busy, used) {
             return used;
         }

@@ -116,7 +116,6 @@ impl TimingCore {
         ensures kept { (s : Setup) (t : Timing) → CoreStandsFor s t self.old → IsAlmostSmall t
             → CoreStandsFor s (committed s slot.now (drop 1 t.slots) t) self.new }
     {
-        self.flight.leave();
         let flow = flow_of(slot.word);
         self.predictor.train(slot.addr, flow, slot.next);
         store(&mut self.caches, slot);
@@ -124,6 +123,7 @@ impl TimingCore {
         self.retired = self.retired.saturating_add(1);
         self.output = self.output.saturating_add(bytes_of(slot.sends));
         self.pass(slot);
+        self.flight.leave();
     }
 
     /// The number of the next instruction to commit, and the timer interrupt as that meets it.
@@ -135,6 +135,7 @@ impl TimingCore {
               irq_on = slot.now.irq_on;
               cmp = slot.now.cmp;
             }) self.new }
+        ensures flight { self.new.flight ≡ self.old.flight }
     {
         self.to_commit = self.to_commit.saturating_add(1);
         self.irq = IrqView {

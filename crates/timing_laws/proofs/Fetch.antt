@@ -23,7 +23,7 @@ use Rattle.mono_model.proofs.Path.{path_below}
 use Rattle.machine_laws.proofs.Path.{path_text}
 use Rattle.machine_laws.proofs.Tracks.{tracks_end}
 use Rattle.timing_side.specs.Slots as slots
-use Rattle.timing_side.specs.Slots.{slot_from}
+use Rattle.reorder_buffer.specs.Held.{slot_from}
 use Rattle.timing_side.specs.Timing.{quiet}
 use Rattle.timing_side.specs.Fetch as timing
 use Rattle.timing_laws.specs.Seen.{slots_of, seen}

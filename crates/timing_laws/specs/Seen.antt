@@ -10,7 +10,7 @@ use Rattle.mono_model.specs.Arch.{compare_of}
 use Rattle.mono_model.specs.Path.{entry, openings}
 use Rattle.mono_model.specs.Window.{Record, Stage, waiting, until, done}
 use Rattle.mono_model.specs.Demand.{Demand, Run, turn, Place, told}
-use Rattle.timing_side.specs.Slots.{slot_from}
+use Rattle.reorder_buffer.specs.Held.{slot_from}
 use Rattle.timing_side.specs.Timing.{Timing}
 use Rattle.timing_side.specs.Turn.{Turned}
 use Rattle.timing_side.specs.Step.{TimingPlace}

@@ -13,7 +13,8 @@ use Rattle.reorder_buffer.specs.declared.slot.Slot.{Slot}
 use Rattle.reorder_buffer.specs.declared.slot.SlotState.TheVariants.{Waiting}
 use Rattle.mono_model.specs.declared.setup.Setup.{Setup}
 use Rattle.mono_model.specs.Setup.{predictor_params, caches_params}
-use Rattle.timing_side.specs.Slots.{slot_from, waiting_count}
+use Rattle.reorder_buffer.specs.Held.{slot_from}
+use Rattle.timing_side.specs.Slots.{waiting_count}
 use Rattle.timing_side.specs.Timing.{Timing, Phase, quiet}
 
 -- fetch isn't waiting for a miss, and window and stations have room

@@ -1,33 +1,11 @@
 -- The slots of the timing side: an instruction in the window, as it was told, with how far it has come
 -- (Hennessy and Patterson, Computer Architecture, section 3.6, the reorder buffer).
-use Rattle.std.specs.Prelude.{ℕ, ◌+◌, Bool, true, false, is_some, if◌then◌else◌, List, [], ◌∷◌}
+use Rattle.std.specs.Prelude.{ℕ, ◌+◌, Bool, true, false, if◌then◌else◌, List, [], ◌∷◌}
 use Rattle.rv_decode.specs.Decode.{decode_of}
-use Rattle.trace_entry.specs.declared.Entry.{Entry}
 use Rattle.reorder_buffer.specs.declared.slot.Slot.{Slot}
 use Rattle.reorder_buffer.specs.declared.slot.SlotState.{SlotState}
 use Rattle.reorder_buffer.specs.declared.slot.SlotState.TheVariants.{Waiting, Until, Done}
 use Rattle.mono_model.specs.Found.{Found, found_word}
-
--- the slot of an instruction of which this was told, with the address that was predicted to follow it, the cycle in
--- which it was fetched, and its state
-abbrev pub slot_from : Entry → ℕ → ℕ → SlotState → Slot
-slot_from e predicted fetched state = record {
-  number = e.number;
-  addr = e.addr;
-  word = e.word;
-  class = e.class;
-  access = e.access;
-  next = e.next;
-  predicted = predicted;
-  cause = e.cause;
-  unserved = e.unserved;
-  sends = is_some e.out;
-  halt = e.halt;
-  irq_on = e.irq_on;
-  cmp = e.cmp;
-  fetched = fetched;
-  state = state;
-}
 
 -- what the slot's word is: its sources, destination and flow, and whether it is a FENCE.I, are those of what its word
 -- decodes to. Word 0, which also stands where nothing could be fetched, is no instruction.

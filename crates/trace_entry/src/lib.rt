@@ -36,3 +36,22 @@ pub struct Entry {
     /// mtimecmp after it, in cycles.
     pub cmp: u64,
 }
+
+impl Entry {
+    /// What stands in a place that no entry was written to yet.
+    pub const BLANK: Entry = Entry {
+        number: 0,
+        epoch: 0,
+        addr: 0,
+        word: 0,
+        access: Access::Nothing,
+        next: 0,
+        cause: None,
+        class: Class::Alu,
+        unserved: false,
+        out: None,
+        halt: None,
+        irq_on: false,
+        cmp: 0,
+    };
+}

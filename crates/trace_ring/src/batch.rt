@@ -1,4 +1,3 @@
-use fsim_base::{Access, Class};
 use rtrb::{Consumer, Protocol};
 use std::alloc::Global;
 use std::marker::Model;
@@ -6,23 +5,6 @@ use trace_entry::Entry;
 
 /// So many entries are taken out of the ring at a time, where there are as many.
 const ROOM: usize = 8;
-
-/// What stands in a place that no entry was written to yet.
-const BLANK: Entry = Entry {
-    number: 0,
-    epoch: 0,
-    addr: 0,
-    word: 0,
-    access: Access::Nothing,
-    next: 0,
-    cause: None,
-    class: Class::Alu,
-    unserved: false,
-    out: None,
-    halt: None,
-    irq_on: false,
-    cmp: 0,
-};
 
 /// Entries that came out of the ring together and wait to be handed out, the oldest first. To take
 /// one alone costs as much as to take several. Contracts see them as a list.
@@ -56,7 +38,7 @@ impl Batch {
         ensures none { result ≡ [] }
     {
         Batch {
-            entries: [BLANK; ROOM],
+            entries: [Entry::BLANK; ROOM],
             start: 0,
             end: 0,
         }

@@ -2,9 +2,9 @@
 //! are those of a run whose every fetch fails, worked out by hand from the machine's rules
 //! (`specs/Trial.antt`).
 
-ghost use Rattle.std.specs.Prelude.{◌≡◌, ◌≤◌, ◌<◌, ◌+◌, OnOk, OnErr, IfErr, MatchBool, Some, None};
+ghost use Rattle.std.specs.Prelude.{◌≡◌, ◌≤◌, ◌<◌, ◌+◌, MatchBool, Some, None};
 ghost use Rattle.trace_ring.specs.Ring.{IsNamed, Follows};
-ghost use Rattle.trace_ring.specs.Trial.{trial, before, refused_fetch};
+ghost use Rattle.trace_ring.specs.Trial.{trial, refused_fetch};
 
 mod trial;
 

@@ -5,7 +5,6 @@ ghost use Rattle.std.specs.Prelude.{◌≡◌, [], ◌∷◌};
 ghost use Rattle.machine_csr.specs.Csr.{opening_csrs};
 ghost use Rattle.mono_model.specs.declared.final_state.End.TheVariants.{Pass, Running};
 ghost use Rattle.mono_model.specs.Cycle.{mono, final};
-ghost use Rattle.mono_model.specs.Alone.{alone};
 ghost use Rattle.worked_examples.specs.Setups.{code_image, plain_machine, setup_of, no_stats};
 ghost use Rattle.worked_examples.specs.Setups.{registers, never};
 ghost use Rattle.worked_examples.specs.Machines.{window_of_eight};

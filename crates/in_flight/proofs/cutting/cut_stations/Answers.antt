@@ -12,7 +12,7 @@ overflow_add-divisions c =
     let place = c.loop-place.place - 1 in
     let e : c.loop-place.place ≡ suc place = omega (arith, c.loop-place-test.true) in
     let counted = subst (λ k. c.loop-place.divisions + busy_divisions (take k slots) ≡ busy_divisions slots) e c.loop-place.invariant.counted in
-    let more = divisions-more slots place c.slot_at-index.result.1.now c.slot_at-index.ensures.slot in
+    let more = divisions-more slots place c.slot_at-index.result.1 c.slot_at-index.ensures.slot in
     omega (arith, counted, more, divisions_within slots, c.divisions_in-divisions.ensures, c.len-place.ensures.count, c.len-place.type_inv)
 
 pub cut-requires : goal.cut-requires
@@ -21,14 +21,14 @@ cut-requires c =
     let place = c.loop-place.place - 1 in
     let e : c.loop-place.place ≡ suc place = omega (arith, c.loop-place-test.true) in
     let left = subst (λ k. c.loop-place.stations ≡ stations_of window.capacity (take k window.slots)) e c.loop-place.invariant.left in
-    let youngest = youngest_at window.capacity window.slots place c.slot_at-index.result.1.now c.slot_at-index.ensures.slot in
+    let youngest = youngest_at window.capacity window.slots place c.slot_at-index.result.1 c.slot_at-index.ensures.slot in
     record { youngest = ap (λ (w : Window). youngest_index w.stations) left ∙ youngest ∙ ap Some (sym c.slot_at-index.ensures.index) }
 
 pub loop-place-preserved : goal.loop-place-preserved
 loop-place-preserved c =
     let window = c.args.window.now in
     let slots = window.slots in
-    let slot = c.slot_at-index.result.1.now in
+    let slot = c.slot_at-index.result.1 in
     let place = c.loop-place.place - 1 in
     let e : c.loop-place.place ≡ suc place = omega (arith, c.loop-place-test.true) in
     let left = subst (λ k. c.loop-place.stations ≡ stations_of window.capacity (take k slots)) e c.loop-place.invariant.left in

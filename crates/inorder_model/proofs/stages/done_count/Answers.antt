@@ -12,7 +12,7 @@ overflow_add-count c =
     omega (
       arith,
       counted,
-      done_more slots place c.at.result.now c.at.ensures.slot,
+      done_more slots place c.at.result c.at.ensures.slot,
       done_within (drop place slots),
       length-drop place slots,
       c.done_in-count.ensures.done,
@@ -27,4 +27,4 @@ loop-place-preserved c =
     let place = c.loop-place.place - 1 in
     let e : c.loop-place.place ≡ suc place = omega (arith, c.loop-place-test.true) in
     let counted = subst (λ (k : ℕ). c.loop-place.count ≡ done_count (drop k slots)) e c.loop-place.invariant.counted in
-    record { counted = omega (arith, counted, done_more slots place c.at.result.now c.at.ensures.slot, c.done_in-count.ensures.done) }
+    record { counted = omega (arith, counted, done_more slots place c.at.result c.at.ensures.slot, c.done_in-count.ensures.done) }

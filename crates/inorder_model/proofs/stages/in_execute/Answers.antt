@@ -11,6 +11,6 @@ at-slot-requires c = record { within = executes_there c.args.flight.now.slots c.
 
 pub returns-in-Until : goal.returns-in-Until
 returns-in-Until c = record {
-  executing = sym (first_executing c.args.flight.now.slots c.in-Some.place c.at-slot.result.now c.in-Until.from c.at-slot.ensures.slot c.in-Until.is
+  executing = sym (first_executing c.args.flight.now.slots c.in-Some.place c.at-slot.result c.in-Until.from c.at-slot.ensures.slot c.in-Until.is
       (λ k under. c.in-Some.ensures.first k (omega arith) under));
 }

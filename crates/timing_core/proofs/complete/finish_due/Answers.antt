@@ -14,7 +14,7 @@ moved cycle place after behind before is same =
 
 pub returns-then-wrong-clause-first : goal.returns-then-wrong-clause-first
 returns-then-wrong-clause-first c =
-    let slot : Slot = c.at-slot.result.now in
+    let slot : Slot = c.at-slot.result in
     let place : ℕ = c.in-Some.place in
     let slots : List Slot = c.loop-from.flight.slots in
     let come = passes_to c.args.cycle c.loop-from.from place slots c.in-Some.ensures.behind c.in-Some.ensures.first in
@@ -26,7 +26,7 @@ returns-then-wrong-clause-first c =
 
 pub loop-from-preserved : goal.loop-from-preserved
 loop-from-preserved c =
-    let slot : Slot = c.at-slot.result.now in
+    let slot : Slot = c.at-slot.result in
     let place : ℕ = c.in-Some.place in
     let slots : List Slot = c.loop-from.flight.slots in
     let come = passes_to c.args.cycle c.loop-from.from place slots c.in-Some.ensures.behind c.in-Some.ensures.first in

@@ -1,4 +1,6 @@
-use Rattle.std.proofs.Common.{◌≡◌, ◌+◌, ◌<◌, length, ap, sym, ◌∙◌, subst, arith, IfSome, IsNone}
+use Rattle.std.proofs.Common.{◌≡◌, ◌+◌, ◌<◌, length, ap, sym, ◌∙◌, subst, arith, refl, IfSome, IsNone}
+use Rattle.reorder_buffer.specs.declared.slot.SlotState.TheVariants.{Waiting}
+use Rattle.reorder_buffer.specs.Held.{slot_from}
 use Rattle.reorder_buffer.specs.Window.{Contents, youngest as window_youngest}
 use Rattle.reservation_stations.specs.Readiness.{Window, station_of}
 use Rattle.load_store_queue.specs.Queue.{Contents as Stores, youngest}
@@ -23,7 +25,7 @@ put_store-requires-clause-room c =
 pub put_store-requires-clause-above : goal.put_store-requires-clause-above
 put_store-requires-clause-above c =
     let window = c.self.inside.window in
-    let slot = c.args.slot in
+    let slot = slot_from c.args.entry.now c.args.predicted c.args.fetched Waiting in
     let follows = subst (λ (w : Contents). IfSome (window_youngest w.slots) (λ last. slot.number ≡ last.number + 1)) (sym c.self.view_is) c.requires.next in
     subst (λ (q : Stores). IfSome (youngest q.stores) (λ last. last.number < slot.number)) (sym c.self.invariant.stores_are)
     (put_above window.slots slot c.len.ensures.consecutive follows)
@@ -31,15 +33,15 @@ put_store-requires-clause-above c =
 pub invariant_of-self : goal.invariant_of-self
 invariant_of-self c =
     let window = c.self.inside.window in
-    let slot = c.args.slot in
+    let slot = slot_from c.args.entry.now c.args.predicted c.args.fetched Waiting in
     let queue : Stores → Stores = λ q. record q { stores = put_in slot q.stores } in
     let queued =
-    c.put_store.ensures.put ∙ ap queue c.self.invariant.stores_are
-    ∙ ap (λ stores. let now : Stores = record { capacity = window.capacity; stores = stores } in now) (puts window.slots slot c.requires.waiting)
+    c.put_store.ensures.put c.args.predicted c.args.fetched ∙ ap queue c.self.invariant.stores_are
+    ∙ ap (λ stores. let now : Stores = record { capacity = window.capacity; stores = stores } in now) (puts window.slots slot refl)
     in
     let keeps =
     appended_keeps window c.self.inside.stations c.self.inside.stores c.put_store.new.stores c.self.inside.dividing c.append-index.result
-    c.told-registers.result slot c.self.invariant c.requires.waiting c.append-index.ensures.index
+    c.told-registers.result slot c.self.invariant refl c.append-index.ensures.index
     c.told-registers.ensures.told queued
     in
     rw (c.append-index.ensures.appended, c.enter.ensures.entered) keeps

@@ -9,12 +9,12 @@ use Rattle.in_flight.proofs.flight.InFlight.begin.Goals as goal
 pub overflow_add-self : goal.overflow_add-self
 overflow_add-self c =
     let window = c.self.inside.window in
-    omega (arith, c.self.invariant.limit, c.self.invariant.dividing_is, divisions_within window.slots, c.slot_at-index.ensures.room, c.divisions_in.ensures, division_at_most (record c.slot_at-index.result.1.now { state = Until c.args.until }))
+    omega (arith, c.self.invariant.limit, c.self.invariant.dividing_is, divisions_within window.slots, c.slot_at-index.ensures.room, c.divisions_in.ensures, division_at_most (record c.slot_at-index.result.1 { state = Until c.args.until }))
 
 pub issue-requires : goal.issue-requires
 issue-requires c =
     let window = c.self.inside.window in
-    let slot = c.slot_at-index.result.1.now in
+    let slot = c.slot_at-index.result.1 in
     let there = subst (λ (w : Contents). IfSome (slice_get w.slots c.args.place) (λ s. s.state ≡ Waiting)) (sym c.self.view_is) c.requires.waiting in
     let waits = rw c.slot_at-index.ensures.slot at there in
     record {
@@ -25,7 +25,7 @@ issue-requires c =
 pub invariant_of-self : goal.invariant_of-self
 invariant_of-self c =
     let window = c.self.inside.window in
-    let slot = c.slot_at-index.result.1.now in
+    let slot = c.slot_at-index.result.1 in
     let there = subst (λ (w : Contents). IfSome (slice_get w.slots c.args.place) (λ s. s.state ≡ Waiting)) (sym c.self.view_is) c.requires.waiting in
     let waits = rw c.slot_at-index.ensures.slot at there in
     let keeps =

@@ -8,7 +8,7 @@ use Rattle.in_flight.proofs.flight.InFlight.cut_to.Goals as goal
 pub invariant_of-self : goal.invariant_of-self
 invariant_of-self c =
     let window = c.self.inside.window in
-    let slot = c.slot_at.result.1.now in
+    let slot = c.slot_at.result.1 in
     let front = window_cut window.slots c.args.place slot c.slot_at.ensures.consecutive c.slot_at.ensures.slot in
     let kept = c.cut_from-2.ensures.kept ∙ ap (λ slots. let now : Contents = record { capacity = window.capacity; slots = slots } in now) front in
     let below : Stores → Stores = λ q. record q { stores = queue.below_number slot.number q.stores } in
@@ -23,12 +23,12 @@ invariant_of-self c =
 pub returns-clause-kept : goal.returns-clause-kept
 returns-clause-kept c =
     let window = c.self.inside.window in
-    let front = window_cut window.slots c.args.place c.slot_at.result.1.now c.slot_at.ensures.consecutive c.slot_at.ensures.slot in
+    let front = window_cut window.slots c.args.place c.slot_at.result.1 c.slot_at.ensures.consecutive c.slot_at.ensures.slot in
     c.cut_from-2.ensures.kept ∙ ap (λ slots. let now : Contents = record { capacity = window.capacity; slots = slots } in now) front
     ∙ ap (λ (w : Contents). let now : Contents = record w { slots = take c.args.place w.slots } in now) c.self.view_is
 
 pub returns-clause-count : goal.returns-clause-count
 returns-clause-count c =
     let window = c.self.inside.window in
-    c.cut_from-2.ensures.count ∙ window_count window.slots c.args.place c.slot_at.result.1.now c.slot_at.ensures.consecutive c.slot_at.ensures.slot
+    c.cut_from-2.ensures.count ∙ window_count window.slots c.args.place c.slot_at.result.1 c.slot_at.ensures.consecutive c.slot_at.ensures.slot
     ∙ ap (λ (w : Contents). length w.slots - c.args.place) c.self.view_is

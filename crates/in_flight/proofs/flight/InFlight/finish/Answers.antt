@@ -12,13 +12,13 @@ use Rattle.in_flight.proofs.flight.InFlight.finish.Goals as goal
 pub overflow_sub-self : goal.overflow_sub-self
 overflow_sub-self c =
     let window = c.self.inside.window in
-    let slot = c.slot_at-index.result.1.now in
+    let slot = c.slot_at-index.result.1 in
     omega (arith, c.self.invariant.dividing_is, c.divisions_in.ensures, division_counts window.slots c.args.place slot c.slot_at-index.ensures.slot)
 
 pub wake-requires : goal.wake-requires
 wake-requires c =
     let window = c.self.inside.window in
-    let slot = c.slot_at-index.result.1.now in
+    let slot = c.slot_at-index.result.1 in
     let there = subst (λ (w : Contents). IfSome (slice_get w.slots c.args.place) (λ s. IsExecuting s.state)) (sym c.self.view_is) c.requires.executing in
     let executes = rw c.slot_at-index.ensures.slot at there in
     record {
@@ -29,7 +29,7 @@ wake-requires c =
 pub finish_store-requires : goal.finish_store-requires
 finish_store-requires c =
     let window = c.self.inside.window in
-    let slot = c.slot_at-index.result.1.now in
+    let slot = c.slot_at-index.result.1 in
     record {
       held = λ stores. subst (λ (q : Stores). Any (λ store. store.number ≡ slot.number) q.stores) (sym c.self.invariant.stores_are)
           (store_held window.slots c.args.place slot c.slot_at-index.ensures.slot stores);
@@ -38,7 +38,7 @@ finish_store-requires c =
 pub invariant_of-self : goal.invariant_of-self
 invariant_of-self c =
     let window = c.self.inside.window in
-    let slot = c.slot_at-index.result.1.now in
+    let slot = c.slot_at-index.result.1 in
     let queue : Stores → Stores = λ q. record q { stores = finished_in slot q.stores } in
     let held = finishes window.slots c.args.place slot c.slot_at-index.ensures.consecutive c.slot_at-index.ensures.slot in
     let queued =

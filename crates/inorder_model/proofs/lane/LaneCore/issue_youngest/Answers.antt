@@ -20,8 +20,8 @@ returns-then-count-eq0-clause-kept c = λ s l h small.
 pub returns-then-not-may_issue-clause-kept : goal.returns-then-not-may_issue-clause-kept
 returns-then-not-may_issue-clause-kept c = λ s l h small.
     let place : ℕ = c.len-count.result - 1 in
-    let slot = c.at.result.now in
-    let there = ap (λ (slots : List Slot). slice_get slots place) (sym h.core.slots) ∙ ap (λ (f : Contents). slice_get f.slots place) (sym c.flight-2.ensures.flight) ∙ c.at.ensures.slot in
+    let slot = c.at-slot.result in
+    let there = ap (λ (slots : List Slot). slice_get slots place) (sym h.core.slots) ∙ ap (λ (f : Contents). slice_get f.slots place) (sym c.flight-2.ensures.flight) ∙ c.at-slot.ensures.slot in
     let last : length l.timing.slots ≡ place + 1 =
     omega (arith, ap (λ (slots : List Slot). length slots) h.core.slots, ap (λ (f : Contents). length f.slots) c.flight.ensures.flight, c.len-count.ensures.count, c.if-count-eq0.false) in
     let off : c.may_issue.result ≡ false = c.if-not-may_issue.true in
@@ -30,15 +30,15 @@ returns-then-not-may_issue-clause-kept c = λ s l h small.
 pub begin-requires-clause-waiting : goal.begin-requires-clause-waiting
 begin-requires-clause-waiting c =
     let place : ℕ = c.len-count.result - 1 in
-    let there = ap (λ (f : Contents). slice_get f.slots place) (sym c.flight-2.ensures.flight) ∙ c.at.ensures.slot in
+    let there = ap (λ (f : Contents). slice_get f.slots place) (sym c.flight-2.ensures.flight) ∙ c.at-slot.ensures.slot in
     let on : c.may_issue.result ≡ true = c.if-not-may_issue.false in
     subst (λ (o : Option Slot). IfSome o (λ slot. slot.state ≡ Waiting)) (sym there) (c.may_issue.ensures.waits on)
 
 pub returns-clause-kept : goal.returns-clause-kept
 returns-clause-kept c = λ s l h small.
     let place : ℕ = c.len-count.result - 1 in
-    let slot = c.at.result.now in
-    let there = ap (λ (slots : List Slot). slice_get slots place) (sym h.core.slots) ∙ ap (λ (f : Contents). slice_get f.slots place) (sym c.flight-2.ensures.flight) ∙ c.at.ensures.slot in
+    let slot = c.at-slot.result in
+    let there = ap (λ (slots : List Slot). slice_get slots place) (sym h.core.slots) ∙ ap (λ (f : Contents). slice_get f.slots place) (sym c.flight-2.ensures.flight) ∙ c.at-slot.ensures.slot in
     let last : length l.timing.slots ≡ place + 1 =
     omega (arith, ap (λ (slots : List Slot). length slots) h.core.slots, ap (λ (f : Contents). length f.slots) c.flight.ensures.flight, c.len-count.ensures.count, c.if-count-eq0.false) in
     let on : c.may_issue.result ≡ true = c.if-not-may_issue.false in

@@ -12,7 +12,7 @@ pub returns-then-is_load : goal.returns-then-is_load
 returns-then-is_load c =
     let place = c.args.place in
     let slot = c.args.slot.now in
-    let writer = c.at.result.now in
+    let writer = c.at.result in
     let core = c.args.self.now.core in
     let flight = c.flight-flight.ensures.flight in
     let here = ap (λ (f : Contents). slice_get f.slots place) flight ∙ c.requires.there in
@@ -28,7 +28,7 @@ pub returns-else-is_load : goal.returns-else-is_load
 returns-else-is_load c =
     let place = c.args.place in
     let slot = c.args.slot.now in
-    let writer = c.at.result.now in
+    let writer = c.at.result in
     let core = c.args.self.now.core in
     let there = ap (λ (f : Contents). slice_get f.slots (place - 1)) (sym c.flight-flight.ensures.flight) ∙ c.at.ensures.slot in
     let loads = sym c.if-is_load.false ∙ c.is_load.ensures.load in

@@ -1,7 +1,7 @@
 use Rattle.std.proofs.Common.{rules, ◌≡◌, ◌≤◌, length, take, ap, sym, ◌∙◌}
 use Rattle.reorder_buffer.specs.Window.{Contents, below_number, ring_slots}
 use Rattle.reorder_buffer.proofs.Consecutive.{take_below}
-use Rattle.reorder_buffer.proofs.Ring.{slots_of, ring-cut, still_cut}
+use Rattle.reorder_buffer.proofs.Ring.{items_of, slots_of, ring-cut, still_cut}
 use Rattle.reorder_buffer.proofs.window.Window.cut_from.Goals as goal
 
 pub invariant_of-self : goal.invariant_of-self
@@ -14,8 +14,8 @@ returns-clause-kept c =
     let window = c.self.inside in
     let kept = c.count_below-kept.result in
     let less : kept ≤ window.count = search rules in
-    let below : ring_slots window.slots.items window.first kept ≡ below_number c.args.number (slots_of window) =
-    ring-cut window.slots.items window.first window.count kept less
+    let below : ring_slots (items_of window) window.first kept ≡ below_number c.args.number (slots_of window) =
+    ring-cut (items_of window) window.first window.count kept less
     ∙ ap (λ k. take k (slots_of window)) (c.count_below-kept.ensures.count ∙ ap (λ (w : Contents). length (below_number c.args.number w.slots)) (sym c.self.view_is))
     ∙ take_below c.args.number (slots_of window) c.self.invariant.consecutive in
     rw (← c.self.view_is, below) (search rules)

@@ -1,4 +1,4 @@
-use Rattle.std.proofs.Common.{rules, arith, ◌≡◌, ◌+◌, ◌<◌, sym, ◌∙◌, mod-eq_of_lt}
+use Rattle.std.proofs.Common.{rules, arith, ◌≡◌, ◌+◌, ◌<◌, ap, sym, Some, ◌∙◌, mod-eq_of_lt}
 use Rattle.reorder_buffer.specs.Window.{index_of}
 use Rattle.reorder_buffer.proofs.Ring.{slot_at}
 use Rattle.reorder_buffer.proofs.window.Window.oldest.Goals as goal
@@ -10,4 +10,4 @@ returns-clause-oldest c =
     let below : window.first + 0 < window.slots.len = search rules in
     let same : window.first ≡ window.first + 0 = omega arith in
     let is : window.first ≡ index_of window.slots.len (window.first + 0) = same ∙ sym (mod-eq_of_lt below) in
-    rw (← c.self.view_is) (sym (slot_at window c.self.invariant window.first 0 c.index.result.now held is c.index.ensures))
+    rw (← c.self.view_is) (ap Some c.slot.ensures.slot ∙ sym (slot_at window c.self.invariant window.first 0 c.index.result.now held is c.index.ensures))

@@ -3,10 +3,9 @@ use Rattle.reservation_stations.specs.Mask.{words_of}
 use Rattle.reservation_stations.proofs.Bits.{is_set-shifted, is_set-lowered, each_halved}
 use Rattle.reservation_stations.proofs.mask.Mask.shift.Goals as goal
 
-pub returns-then-fourth-eq0 : goal.returns-then-fourth-eq0
-returns-then-fourth-eq0 c = record {
-  shifted = is_set-lowered (words_of c.args.self.now) (search rules) (λ k. search rules) (omega (arith, c.if-second-eq0.true)) (omega (arith, c.if-third-eq0.true))
-      (omega (arith, c.if-fourth-eq0.true));
+pub returns-then-upto-le64 : goal.returns-then-upto-le64
+returns-then-upto-le64 c = record {
+  shifted = is_set-lowered c.args.self.now.low c.args.self.now.high (search rules) (λ place behind. c.requires.within place (omega (arith, behind, c.if-upto-le64.true)));
 }
 
 pub returns : goal.returns

@@ -1,8 +1,14 @@
-use Rattle.std.proofs.Common.{◌≡◌, ℕ, ◌<◌, ◌≤◌, Bool, false, IsTrue, IfSome, IfNone, subst}
+use Rattle.std.proofs.Common.{◌≡◌, ℕ, ◌<◌, ◌≤◌, Bool, false, IsTrue, IfSome, IfNone, sym, subst, arith}
 use Rattle.reservation_stations.specs.Places.{IsIssued}
+use Rattle.reservation_stations.specs.Turns.{indices_from}
+use Rattle.reservation_stations.proofs.Entering.{all_few}
+use Rattle.reservation_stations.proofs.Turns.{length-indices}
 use Rattle.reservation_stations.proofs.Reading.{executing_at}
 use Rattle.reservation_stations.proofs.Places.{none_on}
 use Rattle.reservation_stations.proofs.stations.Stations.executing.Goals as goal
+
+pub next-requires : goal.next-requires
+next-requires c = record { few = omega (arith, all_few c.self.invariant.0, length-indices c.self.inside.at_turn.items c.self.inside.retired c.self.inside.count) }
 
 pub returns-clause-found : goal.returns-clause-found
 returns-clause-found c =
@@ -18,4 +24,4 @@ pub returns-clause-none : goal.returns-clause-none
 returns-clause-none c =
     subst (λ (test : ℕ → Bool). IfNone c.next.result ((k : ℕ) → c.args.from ≤ k → test k ≡ false))
     (λ i place. executing_at c.self.invariant.0 c.self.view_is c.self.inside.executing c.self.invariant.2.executes place i)
-    (none_on IsIssued c.self.inside.order.items c.self.inside.rows.items c.self.inside.executing c.self.invariant.2.executes c.next.result c.args.from c.len.result c.len.ensures.len c.next.ensures.none)
+    (none_on IsIssued (indices_from c.self.inside.at_turn.items c.self.inside.retired c.self.inside.count) c.self.inside.rows.items c.self.inside.executing c.self.invariant.2.executes c.next.result c.args.from c.self.inside.count (sym (length-indices c.self.inside.at_turn.items c.self.inside.retired c.self.inside.count)) c.next.ensures.none)

@@ -8,10 +8,10 @@ use Rattle.timing_core.proofs.state.TimingCore.leave.Goals as goal
 pub returns-in-Some-clause-kept : goal.returns-in-Some-clause-kept
 returns-in-Some-clause-kept c = λ s t k below.
     let P : Leaving → Type 0 = λ l. CoreStandsFor s (behind_of t l) c.leave_done.new.self in
-    subst P (sym (leaves_done s t c.args.self.now.flight.slots c.in-Some.slot c.in-Some.ensures.oldest c.in-Some.ensures.done k.slots))
-    (c.leave_done.ensures.kept s t k below)
+    subst P (sym (leaves_done s t c.args.self.now.flight.slots c.in-Some._slot c.in-Some.ensures.oldest c.in-Some.ensures.done k.slots))
+    (c.leave_done.ensures.kept s t c.in-Some._slot c.in-Some.ensures.oldest k below)
 
 pub returns-in-Some-clause-kind : goal.returns-in-Some-clause-kind
 returns-in-Some-clause-kind c = λ s t k below.
-    c.leave_done.ensures.kind s t k below
-    ∙ ap kind_of (sym (leaves_done s t c.args.self.now.flight.slots c.in-Some.slot c.in-Some.ensures.oldest c.in-Some.ensures.done k.slots))
+    c.leave_done.ensures.kind s t c.in-Some._slot c.in-Some.ensures.oldest k below
+    ∙ ap kind_of (sym (leaves_done s t c.args.self.now.flight.slots c.in-Some._slot c.in-Some.ensures.oldest c.in-Some.ensures.done k.slots))

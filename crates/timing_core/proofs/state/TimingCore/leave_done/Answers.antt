@@ -1,34 +1,45 @@
-use Rattle.std.proofs.Common.{◌≡◌, drop, false, ap, sym, ◌∙◌, subst}
+use Rattle.std.proofs.Common.{◌≡◌, drop, false, ap, sym, ◌∙◌, subst, Option, Some}
 use Rattle.reorder_buffer.specs.declared.slot.Slot.{Slot}
 use Rattle.mono_model.specs.Found.{is_fence_i}
 use Rattle.timing_side.specs.Slots.{found_in}
 use Rattle.timing_side.specs.Timing.{Timing}
-use Rattle.timing_side.specs.Commit.{Leaving, has_no_room, committed}
+use Rattle.timing_side.specs.Commit.{Leaving, leaving_done, has_no_room, committed}
 use Rattle.timing_core.specs.CoreStandsFor.{CoreStandsFor}
 use Rattle.timing_core.specs.Leaving.{kind_of, behind_of}
 use Rattle.timing_core.proofs.Leaving.{faults_is, retires_is, behind_same}
 use Rattle.timing_core.proofs.state.TimingCore.leave_done.Goals as goal
 
+-- the oldest slot is one
+same_slot : (oldest : Option Slot) (found slot : Slot) → oldest ≡ Some found → oldest ≡ Some slot → found ≡ slot
+same_slot oldest found slot is there = cc
+
 pub returns-then-is_some-clause-kept : goal.returns-then-is_some-clause-kept
-returns-then-is_some-clause-kept c = λ s t k below.
-    let slot : Slot = c.args.slot.now in
+returns-then-is_some-clause-kept c = λ s t slot there k below.
+    let found : Slot = c.in-Some.slot in
+    let same : found ≡ slot = same_slot _ found slot (sym c.in-Some.ensures.oldest) there in
     let P : Leaving → Type 0 = λ l. CoreStandsFor s (behind_of t l) c.fault.new.self in
-    subst P (sym (faults_is s slot (drop 1 t.slots) slot.cause t (cc))) (c.fault.ensures.kept s t k below)
+    subst (λ (x : Slot). P (leaving_done s x (drop 1 t.slots) x.cause t)) same
+    (subst P (sym (faults_is s found (drop 1 t.slots) found.cause t (cc))) (c.fault.ensures.kept s t k below))
 
 pub returns-clause-kept : goal.returns-clause-kept
-returns-clause-kept c = λ s t k below.
-    let slot : Slot = c.args.slot.now in
-    let room : has_no_room s slot t ≡ false = sym (c.has_no_room.ensures.room s t k) ∙ c.if-has_no_room.false in
+returns-clause-kept c = λ s t slot there k below.
+    let found : Slot = c.in-Some.slot in
+    let same : found ≡ slot = same_slot _ found slot (sym c.in-Some.ensures.oldest) there in
+    let room : has_no_room s found t ≡ false = sym (c.has_no_room.ensures.room s t k) ∙ c.if-has_no_room.false in
     let P : Leaving → Type 0 = λ l. CoreStandsFor s (behind_of t l) c.follow.new.self in
     let retired = c.retire.ensures.kept s t k below in
-    subst P (sym (retires_is s slot (drop 1 t.slots) slot.cause t (cc) room))
-    (subst (λ (u : Timing). CoreStandsFor s u c.follow.new.self) (behind_same (is_fence_i (found_in slot)) slot.halt (committed s slot (drop 1 t.slots) t) (committed s slot (drop 1 t.slots) t) t)
-    (c.follow.ensures.kept s (committed s slot (drop 1 t.slots) t) retired below.squashed))
+    subst (λ (x : Slot). P (leaving_done s x (drop 1 t.slots) x.cause t)) same
+    (subst P (sym (retires_is s found (drop 1 t.slots) found.cause t (cc) room))
+    (subst (λ (u : Timing). CoreStandsFor s u c.follow.new.self)
+    (behind_same (is_fence_i (found_in found)) found.halt (committed s found (drop 1 t.slots) t) (committed s found (drop 1 t.slots) t) t)
+    (c.follow.ensures.kept s (committed s found (drop 1 t.slots) t) retired below.squashed)))
 
 pub returns-clause-kind : goal.returns-clause-kind
-returns-clause-kind c = λ s t k below.
-    let slot : Slot = c.args.slot.now in
-    let room : has_no_room s slot t ≡ false = sym (c.has_no_room.ensures.room s t k) ∙ c.if-has_no_room.false in
+returns-clause-kind c = λ s t slot there k below.
+    let found : Slot = c.in-Some.slot in
+    let same : found ≡ slot = same_slot _ found slot (sym c.in-Some.ensures.oldest) there in
+    let room : has_no_room s found t ≡ false = sym (c.has_no_room.ensures.room s t k) ∙ c.if-has_no_room.false in
     let retired = c.retire.ensures.kept s t k below in
-    c.follow.ensures.kind s (committed s slot (drop 1 t.slots) t) retired below.squashed
-    ∙ ap kind_of (sym (retires_is s slot (drop 1 t.slots) slot.cause t (cc) room))
+    c.follow.ensures.kind s (committed s found (drop 1 t.slots) t) retired below.squashed
+    ∙ ap kind_of (sym (retires_is s found (drop 1 t.slots) found.cause t (cc) room))
+    ∙ ap (λ (x : Slot). kind_of (leaving_done s x (drop 1 t.slots) x.cause t)) same

@@ -1,4 +1,5 @@
-use Rattle.std.proofs.Common.{◌≡◌, ℕ, ◌+◌, ◌-◌, ◌^◌, min, drop, if◌then◌else◌, ap, ◌∙◌, subst, arith}
+use Rattle.std.proofs.Common.{◌≡◌, ℕ, ◌+◌, ◌-◌, ◌<◌, ◌^◌, min, length, drop, slice_get, Some, if◌then◌else◌, ap, sym, ◌∙◌, subst, arith}
+use Rattle.std.proofs.lemmas.Option.{slice_get_within}
 use Rattle.fsim_base.specs.declared.instruction.Flow.{Flow}
 use Rattle.branch_predictor.specs.Predictor.{trained}
 use Rattle.branch_predictor.specs.PredictorStandsFor.{PredictorStandsFor}
@@ -10,8 +11,16 @@ use Rattle.mono_model.specs.Machine as machine
 use Rattle.mono_model.specs.Setup.{predictor_params, caches_params}
 use Rattle.timing_side.specs.Slots.{found_in}
 use Rattle.timing_core.proofs.Sums.{risen}
+use Rattle.timing_core.proofs.Keeping.{keeps_slots}
 use Rattle.timing_core.proofs.Leaving.{branch_count_limit, sent}
 use Rattle.timing_core.proofs.state.TimingCore.retire.Goals as goal
+
+pub leave-requires : goal.leave-requires
+leave-requires c = record {
+  some =
+      let held : slice_get c.args.self.now.flight.slots 0 ≡ Some c.args.slot.now = c.requires.oldest in
+      subst (λ (f : Contents). 0 < length f.slots) (sym c.pass.ensures.flight) (slice_get_within c.args.self.now.flight.slots 0 c.args.slot.now held);
+}
 
 pub returns : goal.returns
 returns c = record {
@@ -27,9 +36,9 @@ returns c = record {
       risen _ _ t.output (if slot.sends then 1 else 0)
       (c.saturating_add-self-3.ensures ∙ ap (λ (n : ℕ). min (c.args.self.now.output + n) (2 ^ 64 - 1)) c.bytes_of.ensures.count) k.output below.output (omega (arith, sent slot.sends)) in
       let Learnt : Flow → Type 0 = λ f. PredictorStandsFor c.train.new.self (predictor_params s.params) (trained (predictor_params s.params) t.predictor slot.addr f slot.next) in
+      let passed =
       c.pass.ensures.kept s
       (record t {
-        slots = drop 1 t.slots;
         predictor = trained (predictor_params s.params) t.predictor slot.addr flow slot.next;
         caches = caches_after (caches_params s.params) slot.access t.caches;
         counts = record t.counts { branches = t.counts.branches + branch_count flow };
@@ -40,8 +49,8 @@ returns c = record {
         params = k.params;
         cycle_limit = k.cycle_limit;
         output_limit = k.output_limit;
-        room = ap (λ (f : Contents). f.capacity) c.leave.ensures.left ∙ k.room;
-        slots = ap (λ (f : Contents). f.slots) c.leave.ensures.left ∙ ap (drop 1) k.slots;
+        room = k.room;
+        slots = k.slots;
         predictor = subst Learnt c.flow_of-flow.ensures.flow (c.train.ensures.trained (predictor_params s.params) t.predictor k.predictor);
         caches = c.store.ensures.kept (caches_params s.params) t.caches k.caches;
         cycle = k.cycle;
@@ -55,5 +64,7 @@ returns c = record {
         cmp = k.cmp;
         end = k.end;
       })
-      below.to_commit;
+      below.to_commit in
+      keeps_slots s _ c.pass.new.self passed c.leave.new.self (drop 1 t.slots) (ap (λ (f : Contents). f.capacity) c.leave.ensures.left)
+      (ap (λ (f : Contents). f.slots) c.leave.ensures.left ∙ ap (drop 1) passed.slots);
 }

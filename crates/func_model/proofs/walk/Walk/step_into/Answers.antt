@@ -8,9 +8,9 @@ use Rattle.func_model.specs.Contents.{ContentsStandFor}
 use Rattle.func_model.specs.Walk.{WalkStandsFor, IsProduced}
 use Rattle.func_model.proofs.Fetching.{still_stands, still_room}
 use Rattle.func_model.proofs.Walking.{walk_retired, walk_still, note_above, produced_on}
-use Rattle.func_model.proofs.walk.Walk.step.Given as given
-use Rattle.func_model.proofs.walk.Walk.step.Goals as goal
-use Rattle.func_model.proofs.walk.Walk.step.Goals.{in-Known+in_default-computed+in_default-moved, in_default}
+use Rattle.func_model.proofs.walk.Walk.step_into.Given as given
+use Rattle.func_model.proofs.walk.Walk.step_into.Goals as goal
+use Rattle.func_model.proofs.walk.Walk.step_into.Goals.{in-Known+in_default-computed+in_default-moved, in_default}
 
 pub compute-computed-requires-clause-count : goal.compute-computed-requires-clause-count
 compute-computed-requires-clause-count g c =
@@ -24,13 +24,13 @@ note-requires-clause-above g c = λ below.
     note_above c.requires.standing.setup c.requires.standing.orders c.args.self.now _ c.requires.standing.stands.holds below c.in-Some.ensures.number
 
 -- where it changed at most a register and the next address
-computed : (g : given.Over) (c : goal.After-note g) (s : RunSetup) (os : List SpecOrder) → WalkStandsFor s os c.args.self.now → IsProduced s os c.args.self.now c.note.new.self (Some c.in-Some.entry)
+computed : (g : given.Over) (c : goal.After-note g) (s : RunSetup) (os : List SpecOrder) → WalkStandsFor s os c.args.self.now → IsProduced s os c.args.self.now c.note.new.self (Some c.in-Some.made)
 computed g c s os h =
     let walk = c.args.self.now in
     let a = path s os walk.position in
     let time = time_of os walk.position in
     let still = still_stands s a walk.contents c.fetch-fetched.new.self c.fetch-fetched.ensures.others h.holds.contents in
-    produced_on s os walk c.compute-computed.new.self time c.in-Some.entry c.in-Some.past c.note.new.self h c.requires.running refl
+    produced_on s os walk c.compute-computed.new.self time c.in-Some.made c.in-Some.past c.note.new.self h c.requires.running refl
     (c.in-Some.ensures.stands s time a still) (c.in-Some.ensures.room ∙ still_room walk.contents.hart c.fetch-fetched.new.self c.fetch-fetched.ensures.others)
     (c.in-Some.ensures.entry s time a still) c.in-Some.ensures.number (c.in-Some.ensures.back s time a still) c.in-Some.ensures.restorable c.note.ensures.noted
 
@@ -53,13 +53,13 @@ note-requires-in-Some-moved-clause-above g c = λ below.
     note_above c.requires.standing.setup c.requires.standing.orders c.args.self.now _ c.requires.standing.stands.holds below c.in-Some-moved.ensures.number
 
 moved : (g : given.Over) (c : goal.After-note-in-Some-moved g) (s : RunSetup) (os : List SpecOrder) → WalkStandsFor s os c.args.self.now →
-    IsProduced s os c.args.self.now c.note-in-Some-moved.new.self (Some c.in-Some-moved.entry)
+    IsProduced s os c.args.self.now c.note-in-Some-moved.new.self (Some c.in-Some-moved.made)
 moved g c s os h =
     let walk = c.args.self.now in
     let a = path s os walk.position in
     let same = c.in_default-computed.ensures.none in
     let still = subst (ContentsStandFor s a) (sym same) (still_stands s a walk.contents c.fetch-fetched.new.self c.fetch-fetched.ensures.others h.holds.contents) in
-    produced_on s os walk c.transfer-moved.new.self c.time-time.result c.in-Some-moved.entry c.in-Some-moved.past c.note-in-Some-moved.new.self h c.requires.running
+    produced_on s os walk c.transfer-moved.new.self c.time-time.result c.in-Some-moved.made c.in-Some-moved.past c.note-in-Some-moved.new.self h c.requires.running
     (c.time-time.ensures.time ∙ h.holds.given walk.position)
     (c.in-Some-moved.ensures.stands s a still)
     (c.in-Some-moved.ensures.room ∙ ap (λ x. x.hart.room) same ∙ still_room walk.contents.hart c.fetch-fetched.new.self c.fetch-fetched.ensures.others)
