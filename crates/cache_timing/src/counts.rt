@@ -3,11 +3,17 @@ use crate::cache::Touch;
 /// What the caches of a machine counted. A count stands still at its largest value.
 #[derive(Clone, Copy, Debug, PartialEq, Eq)]
 pub struct CacheCounts {
+    /// Accesses of the instruction cache.
     pub icache_accesses: u64,
+    /// Those of them that missed.
     pub icache_misses: u64,
+    /// Accesses of the data cache.
     pub dcache_accesses: u64,
+    /// Those of them that missed.
     pub dcache_misses: u64,
+    /// Accesses of the second level, write-backs among them.
     pub l2_accesses: u64,
+    /// Those of them that missed.
     pub l2_misses: u64,
     /// Dirty lines that the data cache dropped.
     pub writebacks: u64,

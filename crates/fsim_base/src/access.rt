@@ -47,7 +47,9 @@ pub enum Access {
 /// The addresses of RAM: `size` bytes from `base`.
 #[derive(Clone, Copy, Debug, PartialEq, Eq)]
 pub struct RamRange {
+    /// The first address of RAM.
     pub base: u32,
+    /// How many bytes RAM has.
     pub size: u32,
 }
 

@@ -19,10 +19,15 @@ pub struct Csrs {
     pub mpie: bool,
     /// MTIE of the register mie: the timer interrupt is on.
     pub mtie: bool,
+    /// The address of the trap handler, with the mode of its entry in bit 0.
     pub mtvec: u32,
+    /// A word for trap handlers.
     pub mscratch: u32,
+    /// The address that MRET goes back to.
     pub mepc: u32,
+    /// The latest trap's cause, bit 31 set for an interrupt, or what was written since.
     pub mcause: u32,
+    /// The latest trap's address or word, or what was written since.
     pub mtval: u32,
     /// How many instructions retired, as minstret and minstreth show it.
     pub retired: u64,

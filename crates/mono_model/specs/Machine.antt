@@ -31,7 +31,7 @@ pub record Machine : Type 0 where
   pub fetch_addr : ℕ
   -- the cycle from which on fetch goes on after a miss
   pub resume : ℕ
-  -- the miss of the record to fetch next was waited for
+  -- the miss of the record to fetch next was counted
   pub paid : Bool
   -- the time for the record to fetch next, in cycles
   pub kept : Option ℕ

@@ -34,6 +34,7 @@ pub fn end_of(halt: Halt) -> End
 pub struct Stats {
     /// The version of the machine file: 1 or 2, and 0 for a run without one.
     pub version: u32,
+    /// Cycles, or steps in a run without a machine file.
     pub cycles: u64,
     /// Instructions that retired: those committed without a trap.
     pub instructions: u64,
@@ -51,11 +52,17 @@ pub struct Stats {
     pub branches: u64,
     /// Instructions whose next address wasn't the predicted one, found at their completion.
     pub mispredicted: u64,
+    /// Accesses of the instruction cache.
     pub icache_accesses: u64,
+    /// Those of them that missed.
     pub icache_misses: u64,
+    /// Accesses of the data cache.
     pub dcache_accesses: u64,
+    /// Those of them that missed.
     pub dcache_misses: u64,
+    /// Accesses of the second level, write-backs among them.
     pub l2_accesses: u64,
+    /// Those of them that missed.
     pub l2_misses: u64,
     /// Dirty lines of the data cache that were dropped.
     pub writebacks: u64,
@@ -66,11 +73,15 @@ pub struct Stats {
 /// What is reported of a run: its end, its counts, and the committed registers.
 #[derive(Clone, Copy, Debug, PartialEq, Eq)]
 pub struct Final {
+    /// How the run stands or ended.
     pub end: End,
+    /// Its counts.
     pub stats: Stats,
     /// The address of the next instruction to commit.
     pub pc: u32,
+    /// The registers x0 to x31.
     pub regs: [u32; 32],
+    /// The control and status registers.
     pub csrs: Csrs,
     /// mtimecmp, in cycles.
     pub cmp: u64,

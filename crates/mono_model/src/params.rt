@@ -49,40 +49,71 @@ pub struct Params {
     /// The version of the machine file, 1 or 2. Version 1 has no second level of caches and writes
     /// nothing back.
     pub version: u32,
+    /// The first address of RAM.
     pub ram_base: u32,
+    /// How many bytes RAM has.
     pub ram_size: u32,
+    /// How many instructions are fetched in a cycle, at most.
     pub core_fetch: u32,
+    /// How many instructions are committed in a cycle, at most.
     pub core_commit: u32,
+    /// Cycles from fetch to the first issue.
     pub core_front: u32,
+    /// How many records the window has room for.
     pub core_window: u32,
+    /// Reservation stations: how many records may wait.
     pub core_stations: u32,
+    /// Units for the classes Alu and Serial.
     pub alu_count: u32,
+    /// Their cycles from issue to done.
     pub alu_latency: u32,
+    /// Units for multiplications.
     pub mul_count: u32,
+    /// Their cycles from issue to done.
     pub mul_latency: u32,
+    /// Units for divisions.
     pub div_count: u32,
+    /// Their cycles from issue to done.
     pub div_latency: u32,
+    /// Units for loads and stores.
     pub mem_count: u32,
+    /// Their cycles from issue to done.
     pub mem_latency: u32,
+    /// How the direction of a conditional branch is predicted.
     pub predictor_kind: PredKind,
+    /// How many two-bit counters there are.
     pub predictor_counters: u32,
+    /// How many committed branch outcomes `gshare` looks back at.
     pub predictor_history: u32,
+    /// How many places the target buffer has.
     pub predictor_targets: u32,
+    /// Bytes in a line of the instruction cache.
     pub icache_line: u32,
+    /// Its sets.
     pub icache_sets: u32,
+    /// Lines in a set; with 0 there is no such cache.
     pub icache_ways: u32,
+    /// Cycles that its miss adds where there is no second level.
     pub icache_miss: u32,
+    /// Bytes in a line of the data cache.
     pub dcache_line: u32,
+    /// Its sets.
     pub dcache_sets: u32,
+    /// Lines in a set; with 0 there is no such cache.
     pub dcache_ways: u32,
+    /// Cycles that its miss adds where there is no second level.
     pub dcache_miss: u32,
     /// The policy of the data cache: write back, or else write through, as under version 1.
     pub dcache_back: bool,
+    /// Bytes in a line of the second level.
     pub l2_line: u32,
+    /// Its sets.
     pub l2_sets: u32,
     /// The ways of the second level of caches; 0 where there is none, as under version 1.
     pub l2_ways: u32,
+    /// Cycles that a miss of the first level adds where the second level hits.
     pub l2_hit: u32,
+    /// Cycles that it adds where the second level misses too.
     pub l2_miss: u32,
 }
 

@@ -6,7 +6,9 @@ use fsim_base::{Bytes, RamRange};
 /// All that a run depends on.
 #[derive(Debug, Drop)]
 pub struct Setup {
+    /// The program, as it is loaded into RAM.
     pub image: Image,
+    /// The machine that it runs on.
     pub params: Params,
     /// What the console hands over, byte by byte.
     pub input: Bytes,

@@ -101,31 +101,31 @@ ring_nothing items first = refl
 
 -- the slots of all indices of a window with these fields, and those that it holds
 abbrev pub items_of : Inside → List Slot
-items_of w = slots_in w.slots.items
+items_of w = slots_in w.held.items
 
 abbrev pub slots_of : Inside → List Slot
 slots_of w = ring_slots (items_of w) w.first w.count
 
 -- there is one for each index
-long_items : (w : Inside) → w.slots.len ≡ length (items_of w)
-long_items w = w.slots.ok.0 ∙ sym (length-map w.slots.items slot_in)
+long_items : (w : Inside) → w.held.len ≡ length (items_of w)
+long_items w = w.held.ok.0 ∙ sym (length-map w.held.items slot_in)
 
 -- What a window reads, and what it is after each change, where `index` is so many places behind the oldest slot's.
-module _ (w : Inside) (ring : IsRing w.slots.len w.first w.count (slots_of w)) (index : ℕ) where
-  pub slot_at : (place : ℕ) (h : Held) → place < w.count → index ≡ index_of w.slots.len (w.first + place) → h ≡ get_or w.slots.items index h → slice_get (slots_of w) place ≡ Some (slot_in h)
+module _ (w : Inside) (ring : IsRing w.held.len w.first w.count (slots_of w)) (index : ℕ) where
+  pub slot_at : (place : ℕ) (h : Held) → place < w.count → index ≡ index_of w.held.len (w.first + place) → h ≡ get_or w.held.items index h → slice_get (slots_of w) place ≡ Some (slot_in h)
   slot_at place h held is read =
-      let item : slot_in h ≡ get_or (items_of w) index (slot_in h) = ap slot_in read ∙ sym (get_or-map slot_in w.slots.items index h) in
+      let item : slot_in h ≡ get_or (items_of w) index (slot_in h) = ap slot_in read ∙ sym (get_or-map slot_in w.held.items index h) in
       slice_get_read (slots_of w) w.count place (slot_in h) (sym ring.held) held
       (item ∙ ap (λ k. get_or (items_of w) k (slot_in h)) is
-      ∙ sym (get_or-ring (items_of w) w.slots.len w.first w.count (long_items w) ring.within ring.inside place (slot_in h) held))
+      ∙ sym (get_or-ring (items_of w) w.held.len w.first w.count (long_items w) ring.within ring.inside place (slot_in h) held))
 
-  pub popped : 0 < w.count → index ≡ index_of w.slots.len (w.first + 1) → ring_slots (items_of w) index (w.count - 1) ≡ drop 1 (slots_of w)
-  popped some is = rw is (ring-pop (items_of w) w.slots.len w.first w.count (long_items w) ring.within ring.inside some)
+  pub popped : 0 < w.count → index ≡ index_of w.held.len (w.first + 1) → ring_slots (items_of w) index (w.count - 1) ≡ drop 1 (slots_of w)
+  popped some is = rw is (ring-pop (items_of w) w.held.len w.first w.count (long_items w) ring.within ring.inside some)
 
-  pub still_popped : 0 < w.count → index ≡ index_of w.slots.len (w.first + 1) → index < w.slots.len → IsRing w.slots.len index (w.count - 1) (ring_slots (items_of w) index (w.count - 1))
+  pub still_popped : 0 < w.count → index ≡ index_of w.held.len (w.first + 1) → index < w.held.len → IsRing w.held.len index (w.count - 1) (ring_slots (items_of w) index (w.count - 1))
   still_popped some is below =
       let shorter = length-drop 1 (slots_of w) in
-      let first_is : IsFirst (drop 1 (slots_of w)) w.slots.len index = rw is (second_index w.slots.len w.first (slots_of w) ring.consecutive ring.first_is) in
+      let first_is : IsFirst (drop 1 (slots_of w)) w.held.len index = rw is (second_index w.held.len w.first (slots_of w) ring.consecutive ring.first_is) in
       rw (popped some is) record {
         fits = ring.fits;
         within = omega (arith, ring.within);
@@ -135,35 +135,35 @@ module _ (w : Inside) (ring : IsRing w.slots.len w.first w.count (slots_of w)) (
         consecutive = rest_of (slots_of w) ring.consecutive;
       }
 
-  pub marked : (place : ℕ) (now : Held) → place < w.count → index ≡ index_of w.slots.len (w.first + place)
-      → ring_slots (slots_in (set w.slots.items index now)) w.first w.count ≡ set (slots_of w) place (slot_in now)
+  pub marked : (place : ℕ) (now : Held) → place < w.count → index ≡ index_of w.held.len (w.first + place)
+      → ring_slots (slots_in (set w.held.items index now)) w.first w.count ≡ set (slots_of w) place (slot_in now)
   marked place now held is =
-      ap (λ (items : List Slot). ring_slots items w.first w.count) (map-set slot_in w.slots.items index now)
-      ∙ rw is (ring-set (items_of w) w.slots.len w.first w.count (long_items w) ring.within ring.inside place (slot_in now) held)
+      ap (λ (items : List Slot). ring_slots items w.first w.count) (map-set slot_in w.held.items index now)
+      ∙ rw is (ring-set (items_of w) w.held.len w.first w.count (long_items w) ring.within ring.inside place (slot_in now) held)
 
-  pub still_marked : (place : ℕ) (s : Slot) (now : Held) → place < w.count → index ≡ index_of w.slots.len (w.first + place) → slice_get (slots_of w) place ≡ Some s
-      → now.entry.number ≡ s.number → IsRing w.slots.len w.first w.count (ring_slots (slots_in (set w.slots.items index now)) w.first w.count)
+  pub still_marked : (place : ℕ) (s : Slot) (now : Held) → place < w.count → index ≡ index_of w.held.len (w.first + place) → slice_get (slots_of w) place ≡ Some s
+      → now.entry.number ≡ s.number → IsRing w.held.len w.first w.count (ring_slots (slots_in (set w.held.items index now)) w.first w.count)
   still_marked place s now held is there same =
       rw (marked place now held is) record {
         fits = ring.fits;
         within = ring.within;
         held = length-set (slots_of w) place (slot_in now) ∙ ring.held;
         inside = ring.inside;
-        first_is = first_still (slots_of w) place s (slot_in now) w.slots.len w.first there same ring.first_is;
+        first_is = first_still (slots_of w) place s (slot_in now) w.held.len w.first there same ring.first_is;
         consecutive = consecutive_still (slots_of w) place s (slot_in now) there same ring.consecutive;
       }
 
-  pub appended : (now : ℕ) (h : Held) → w.count < w.slots.len → now < w.slots.len → IsFirstWith (slots_of w) w.slots.len w.first h.entry.number now
-      → index ≡ index_of w.slots.len (now + w.count) → ring_slots (slots_in (set w.slots.items index h)) now (w.count + 1) ≡ slots_of w ++ slot_in h ∷ []
+  pub appended : (now : ℕ) (h : Held) → w.count < w.held.len → now < w.held.len → IsFirstWith (slots_of w) w.held.len w.first h.entry.number now
+      → index ≡ index_of w.held.len (now + w.count) → ring_slots (slots_in (set w.held.items index h)) now (w.count + 1) ≡ slots_of w ++ slot_in h ∷ []
   appended now h room below with is =
       let none_or_same : (w.count ≡ 0) ⊎ (now ≡ w.first) = elim with [ inl empty ↦ inl (omega (arith, empty, ring.held)) | inr some ↦ inr some.1 ] in
       let same = same_first (items_of w) w.first now w.count none_or_same in
-      ap (λ (items : List Slot). ring_slots items now (w.count + 1)) (map-set slot_in w.slots.items index h)
-      ∙ rw is (ring-append (items_of w) w.slots.len now w.count (long_items w) ring.within (λ positive. below) (slot_in h) room ∙ ap (λ xs. xs ++ slot_in h ∷ []) same)
+      ap (λ (items : List Slot). ring_slots items now (w.count + 1)) (map-set slot_in w.held.items index h)
+      ∙ rw is (ring-append (items_of w) w.held.len now w.count (long_items w) ring.within (λ positive. below) (slot_in h) room ∙ ap (λ xs. xs ++ slot_in h ∷ []) same)
 
-  pub still_appended : (now : ℕ) (h : Held) → w.count < w.slots.len → now < w.slots.len → IsFirstWith (slots_of w) w.slots.len w.first h.entry.number now
-      → index ≡ index_of w.slots.len (now + w.count) → IfSome (youngest (slots_of w)) (λ last. h.entry.number ≡ last.number + 1)
-      → IsRing w.slots.len now (w.count + 1) (ring_slots (slots_in (set w.slots.items index h)) now (w.count + 1))
+  pub still_appended : (now : ℕ) (h : Held) → w.count < w.held.len → now < w.held.len → IsFirstWith (slots_of w) w.held.len w.first h.entry.number now
+      → index ≡ index_of w.held.len (now + w.count) → IfSome (youngest (slots_of w)) (λ last. h.entry.number ≡ last.number + 1)
+      → IsRing w.held.len now (w.count + 1) (ring_slots (slots_in (set w.held.items index h)) now (w.count + 1))
   still_appended now h room below with is next =
       let longer = length-append (slots_of w) (slot_in h ∷ []) in
       rw (appended now h room below with is) record {
@@ -171,11 +171,11 @@ module _ (w : Inside) (ring : IsRing w.slots.len w.first w.count (slots_of w)) (
         within = omega (arith, room);
         held = omega (arith, ring.held, longer);
         inside = λ positive. below;
-        first_is = first_with (slots_of w) (slot_in h) w.slots.len w.first now ring.first_is with;
+        first_is = first_with (slots_of w) (slot_in h) w.held.len w.first now ring.first_is with;
         consecutive = one_more (slots_of w) (slot_in h) ring.consecutive next;
       }
 
-pub still_cut : (w : Inside) (kept : ℕ) → IsRing w.slots.len w.first w.count (slots_of w) → kept ≤ w.count → IsRing w.slots.len w.first kept (ring_slots (items_of w) w.first kept)
+pub still_cut : (w : Inside) (kept : ℕ) → IsRing w.held.len w.first w.count (slots_of w) → kept ≤ w.count → IsRing w.held.len w.first kept (ring_slots (items_of w) w.first kept)
 still_cut w kept ring less =
     let shorter = length-take kept (slots_of w) in
     rw (ring-cut (items_of w) w.first w.count kept less) record {
@@ -183,6 +183,6 @@ still_cut w kept ring less =
       within = omega (arith, ring.within, less);
       held = omega (arith, ring.held, shorter, less);
       inside = ring.inside;
-      first_is = first_of (slots_of w) kept w.slots.len w.first ring.first_is;
+      first_is = first_of (slots_of w) kept w.held.len w.first ring.first_is;
       consecutive = part_of (slots_of w) kept ring.consecutive;
     }

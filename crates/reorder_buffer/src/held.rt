@@ -9,11 +9,13 @@ use trace_entry::Entry;
 /// whole, and what the window adds to it.
 #[derive(Clone, Copy, Debug)]
 pub(crate) struct Held {
+    /// What was told of it.
     pub entry: Entry,
     /// The address that was predicted to follow it.
     pub predicted: u32,
     /// The cycle in which it was fetched.
     pub fetched: u64,
+    /// How far it has come.
     pub state: SlotState,
 }
 

@@ -43,5 +43,6 @@ pub struct Slot {
     pub cmp: u64,
     /// The cycle in which it was fetched.
     pub fetched: u64,
+    /// How far it has come.
     pub state: SlotState,
 }

@@ -14,7 +14,7 @@ use trace_entry::Entry;
 pub struct Window {
     /// What each index keeps. What the window holds begins at `first`, and goes on at 0 behind the
     /// last index.
-    slots: Vec<Held>,
+    held: Vec<Held>,
     /// The index of the oldest slot, where there is one.
     first: u32,
     /// How many slots the window holds.
@@ -29,13 +29,13 @@ impl Model for Window {
     ghost Value = { Contents };
 
     ghost view = { λ w. record {
-      capacity = vec_len w.slots;
-      slots = ring_slots (slots_in w.slots.items) w.first w.count;
+      capacity = vec_len w.held;
+      slots = ring_slots (slots_in w.held.items) w.first w.count;
     } };
 
     ghost invariant = { λ w.
-        IsRing (vec_len w.slots) w.first w.count
-        (ring_slots (slots_in w.slots.items) w.first w.count) };
+        IsRing (vec_len w.held) w.first w.count
+        (ring_slots (slots_in w.held.items) w.first w.count) };
 }
 
 impl Window {
@@ -53,8 +53,8 @@ impl Window {
         ensures opening { IfOk result (λ w. w ≡ record { capacity = capacity; slots = [] }) }
     {
         match vec![in alloc; Held::free(); capacity as usize] {
-            Ok(slots) => Ok(Window {
-                slots,
+            Ok(held) => Ok(Window {
+                held,
                 first: 0,
                 count: 0,
             }),
@@ -77,7 +77,7 @@ impl Window {
     fn capacity(&self) -> u32
         ensures capacity { result ≡ self.now.capacity }
     {
-        self.slots.len() as u32
+        self.held.len() as u32
     }
 
     /// Whether there is no room for a further slot.
@@ -110,7 +110,7 @@ impl Window {
             self.first
         };
         let index = index_behind(capacity, first, self.count);
-        self.slots[index as usize].put(entry, predicted, fetched);
+        self.held[index as usize].put(entry, predicted, fetched);
         self.first = first;
         self.count += 1;
         index
@@ -125,7 +125,7 @@ impl Window {
         ensures below { result.0 < self.now.capacity }
     {
         let index = index_behind(self.capacity(), self.first, place);
-        (index, self.slots[index as usize].slot())
+        (index, self.held[index as usize].slot())
     }
 
     /// The slot at a place, counted from the oldest at 0.
@@ -145,7 +145,7 @@ impl Window {
             { slots = slice_set self.old.slots place (record s { state = state }) }) }
     {
         let index = index_behind(self.capacity(), self.first, place);
-        self.slots[index as usize].state = state;
+        self.held[index as usize].state = state;
     }
 
     /// The oldest slot; None where there is none.
@@ -158,7 +158,7 @@ impl Window {
         if self.count == 0 {
             return None;
         }
-        Some(self.slots[self.first as usize].slot())
+        Some(self.held[self.first as usize].slot())
     }
 
     /// Removes the oldest slot. There is one.

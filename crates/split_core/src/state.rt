@@ -16,7 +16,9 @@ use trace_entry::Entry;
 /// Both sides, and what is under way between them.
 #[derive(Drop)]
 pub struct SplitState<D: Device, T: Timing> {
+    /// The functional side.
     pub func: FuncSide<D>,
+    /// The timing side.
     pub time: T,
     /// Entries on their way to the timing side, the oldest first.
     pub entries: HeapCircularBuffer<Entry>,

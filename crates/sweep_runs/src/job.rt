@@ -12,7 +12,9 @@ use std::alloc::Global;
 /// A run of a sweep: its setup, and three devices of its own.
 #[derive(Drop)]
 pub struct Job<D: Device> {
+    /// All that the run depends on.
     pub setup: Setup,
+    /// Console, timer and finisher.
     pub devices: Vec<D>,
 }
 

@@ -1,4 +1,4 @@
-//! The timing side as a machine on entries, and the law that it makes the steps of the demand run.
+//! The law that the timing side makes the steps of the demand run.
 //!
 //! Each function does nothing: its clauses are the laws.
 #![tactic(auto)]

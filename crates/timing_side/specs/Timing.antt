@@ -20,7 +20,7 @@ pub record Timing : Type 0 where
   pub slots : List Slot
   -- the cycle from which on fetch goes on after a miss
   pub resume : ℕ
-  -- the miss of the instruction to fetch next was waited for
+  -- the miss of the instruction to fetch next was counted
   pub paid : Bool
   pub predictor : Predicting
   pub caches : CachesState

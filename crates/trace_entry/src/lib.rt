@@ -3,7 +3,9 @@
 
 use fsim_base::{Access, Cause, Class, Halt};
 
-/// One instruction of the functional side's path: all that timing depends on, and no value.
+/// One instruction of the functional side's path: all that timing depends on, addresses among it.
+/// Of stored values it has only the byte that is sent (the timing side reads whether there is one),
+/// the finisher's code, and mtimecmp.
 ///
 /// In the FAST split (Chiou et al., MICRO 2007) these are the entries of the trace buffer.
 #[derive(Clone, Copy, Debug, PartialEq, Eq)]

@@ -10,7 +10,7 @@ invariant_of-self c =
     let index = c.index_behind-index.result in
     let slot = c.index_mut.result.now in
     let held : c.args.place < window.count = search rules in
-    let is : index ≡ index_of window.slots.len (window.first + c.args.place) = search rules in
+    let is : index ≡ index_of window.held.len (window.first + c.args.place) = search rules in
     let there = slot_at window c.self.invariant index c.args.place slot held is c.index_mut.ensures.value in
     still_marked window c.self.invariant index c.args.place (slot_in slot) (record slot { state = c.args.state }) held is there refl
 
@@ -20,7 +20,7 @@ returns c =
     let index = c.index_behind-index.result in
     let slot = c.index_mut.result.now in
     let held : c.args.place < window.count = search rules in
-    let is : index ≡ index_of window.slots.len (window.first + c.args.place) = search rules in
+    let is : index ≡ index_of window.held.len (window.first + c.args.place) = search rules in
     let there = slot_at window c.self.invariant index c.args.place slot held is c.index_mut.ensures.value in
     let now = marked window c.self.invariant index c.args.place (record slot { state = c.args.state }) held is in
     rw (← c.self.view_is, there, now) (search rules)

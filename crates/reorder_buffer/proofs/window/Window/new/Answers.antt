@@ -4,7 +4,7 @@ use Rattle.reorder_buffer.proofs.Ring.{ring_nothing}
 use Rattle.reorder_buffer.proofs.window.Window.new.Goals as goal
 
 pub invariant_of-result : goal.invariant_of-result
-invariant_of-result c = rw (ring_nothing (slots_in c.in-Ok.slots.items) 0) record {
+invariant_of-result c = rw (ring_nothing (slots_in c.in-Ok.held.items) 0) record {
   fits = search rules;
   within = search rules;
   held = search rules;
@@ -14,4 +14,4 @@ invariant_of-result c = rw (ring_nothing (slots_in c.in-Ok.slots.items) 0) recor
 }
 
 pub returns-in-Ok : goal.returns-in-Ok
-returns-in-Ok c = rw (ring_nothing (slots_in c.in-Ok.slots.items) 0) (search rules)
+returns-in-Ok c = rw (ring_nothing (slots_in c.in-Ok.held.items) 0) (search rules)

@@ -8,8 +8,8 @@ invariant_of-self c =
     let window = c.self.inside in
     let next = c.index_behind-self-inside.result in
     let some : 0 < window.count = search rules in
-    let is : next ≡ index_of window.slots.len (window.first + 1) = search rules in
-    let below : next < window.slots.len = search rules in
+    let is : next ≡ index_of window.held.len (window.first + 1) = search rules in
+    let below : next < window.held.len = search rules in
     still_popped window c.self.invariant next some is below
 
 pub returns : goal.returns
@@ -17,6 +17,6 @@ returns c =
     let window = c.self.inside in
     let next = c.index_behind-self-inside.result in
     let some : 0 < window.count = search rules in
-    let is : next ≡ index_of window.slots.len (window.first + 1) = search rules in
+    let is : next ≡ index_of window.held.len (window.first + 1) = search rules in
     let rest = popped window c.self.invariant next some is in
     rw (← c.self.view_is, rest) (search rules)
