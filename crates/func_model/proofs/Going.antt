@@ -1,5 +1,5 @@
 -- A walk that goes back by its journal, or on by execution.
-use Rattle.std.proofs.Common.{◌≡◌, ℕ, suc, ◌+◌, ◌-◌, ◌≤◌, ◌<◌, List, [], ◌∷◌, ◌++◌, length, refl, ap, sym, ◌∙◌, subst, arith}
+use Rattle.std.proofs.Common.{◌≡◌, ℕ, suc, ◌+◌, ◌-◌, ◌≤◌, ◌<◌, List, [], ◌∷◌, ◌++◌, length, drop, refl, ap, sym, ◌∙◌, subst, arith}
 use Rattle.rollback_cmds.specs.declared.order.Order.{Order}
 use Rattle.undo_journal.specs.declared.past.Past.{Past}
 use Rattle.undo_journal.specs.Journal.{Log, from_number}
@@ -12,7 +12,7 @@ use Rattle.func_model.specs.declared.walk.Walk.{Walk}
 use Rattle.func_model.specs.Undo.{undone, IsRestorable}
 use Rattle.func_model.specs.Contents.{ContentsStandFor}
 use Rattle.func_model.specs.Walk.{IsStep, LeadsBack, IsOnPath, WalkStandsFor, IsSameBut, IsOnSomePath, IsStanding}
-use Rattle.func_model.proofs.Leading.{leads_less, leads_from, length_from}
+use Rattle.func_model.proofs.Leading.{leads_less, leads_from, length_from, drop_from}
 use Rattle.func_model.proofs.Walking.{one_longer}
 
 -- what holds as instructions are taken back until `n` is the next one
@@ -132,10 +132,11 @@ onward_more {D} n opened walk next at less stands further others = record {
 
 -- more is committed
 pub committed_holds : {D : Type 0} (s : Setup) (os : List Order) (walk : Walk D) (n : ℕ) (journal : Log) → IsOnPath s os walk → walk.committed ≤ n →
-    journal ≡ record walk.journal { steps = from_number n walk.journal.steps } → length (path s os n).output ≤ s.output →
+    journal ≡ record walk.journal { steps = drop (n - walk.committed) walk.journal.steps } → length (path s os n).output ≤ s.output →
     IsOnPath s os (record walk { journal = journal; committed = n })
 committed_holds s os walk n journal h from is within =
-    let steps : journal.steps ≡ from_number n walk.journal.steps = ap (λ (j : Log). j.steps) is in
+    let steps : journal.steps ≡ from_number n walk.journal.steps =
+    ap (λ (j : Log). j.steps) is ∙ drop_from (ram_range s.params) (path s os) walk.committed n walk.journal.steps h.back from in
     let L : List Past → Type 0 = λ xs. LeadsBack (ram_range s.params) (path s os) n xs in
     record {
       contents = h.contents;

@@ -1,6 +1,7 @@
 -- Undo steps that lead back along a path: one more, one fewer, those from a number on, and along another path.
-use Rattle.std.proofs.Common.{◌≡◌, ℕ, suc, ◌+◌, ◌-◌, ◌≤◌, ◌<◌, nat_le, List, [], ◌∷◌, ◌++◌, length, refl, ap, sym, ◌∙◌, subst, arith, inl, inr}
+use Rattle.std.proofs.Common.{◌≡◌, ℕ, suc, ◌+◌, ◌-◌, ◌≤◌, ◌<◌, nat_le, List, [], ◌∷◌, ◌++◌, length, drop, refl, ap, sym, ◌∙◌, subst, arith, inl, inr}
 use Rattle.std.proofs.lemmas.Bool.{le-leb, lt-leb, cond-true, cond-false, cases_lt}
+use Rattle.std.proofs.lemmas.List.{drop_all}
 use Rattle.fsim_base.specs.declared.access.RamRange.{RamRange}
 use Rattle.undo_journal.specs.declared.past.Past.{Past}
 use Rattle.undo_journal.specs.Journal.{from_number}
@@ -67,6 +68,20 @@ module _ (range : RamRange) (at : ℕ → Arch) where
       elim (cases_lt m n) [
         | inl later ↦ ap (λ (steps : List Past). length steps) (from_later n p ps (omega arith)) ∙ (length_from (suc m) n ps leads.1 later ∙ omega arith)
         | inr here ↦ ap (λ (steps : List Past). length steps) (from_all m n (p ∷ ps) leads here) ∙ omega arith
+      ]
+
+  -- they are what is left without the oldest, which are as many as the number is further on
+  pub drop_from : (m n : ℕ) (steps : List Past) → LeadsBack range at m steps → m ≤ n → drop (n - m) steps ≡ from_number n steps
+  drop_from m n [] leads from = drop_all (n - m) [] (omega arith)
+  drop_from m n (p ∷ ps) leads from =
+      let number : p.number ≡ m = leads.0.number in
+      elim (cases_lt m n) [
+        | inl later ↦
+            let more : n - m ≡ suc (n - suc m) = omega arith in
+            ap (λ k. drop k (p ∷ ps)) more ∙ drop_from (suc m) n ps leads.1 later ∙ sym (from_later n p ps (omega arith))
+        | inr here ↦
+            let none : n - m ≡ 0 = omega arith in
+            ap (λ k. drop k (p ∷ ps)) none ∙ sym (from_all m n (p ∷ ps) leads here)
       ]
 
 -- what an undo step gives doesn't depend on the pc behind the instruction

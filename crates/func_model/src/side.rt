@@ -1,5 +1,5 @@
 ghost use Rattle.std.specs.Prelude.{◌≡◌, ◌↔◌, ◌<◌, ◌≤◌, ◌+◌, ◌^◌, ℕ, Option, Some, None, true};
-ghost use Rattle.std.specs.Prelude.{map, IfOk, IfSome, IfNone, IsNone, length};
+ghost use Rattle.std.specs.Prelude.{false, map, IfOk, IfSome, IfNone, IsNone, length};
 ghost use Rattle.mono_model.specs.declared.setup.Setup.{Setup as RunSetup};
 ghost use Rattle.mono_model.specs.Arch.{Arch as State};
 ghost use Rattle.func_model.specs.Contents.{ContentsStandFor};
@@ -22,7 +22,9 @@ use trace_entry::Entry;
 pub struct Arch {
     /// The address of the next instruction.
     pub pc: u32,
+    /// The registers x0 to x31.
     pub regs: [u32; 32],
+    /// The control and status registers.
     pub csrs: Csrs,
     /// mtimecmp, in cycles.
     pub cmp: u64,
@@ -107,7 +109,7 @@ impl<D: Device> FuncSide<D> {
     }
 
     /// The same, with the entry written over another one, where its reader finds it. False where
-    /// none is made.
+    /// none is made, and nothing written then.
     pub fn produce_into(&mut self, to: &mut Entry) -> bool
         requires position { self.old.position < 2 ^ 62 }
         requires epoch { self.old.epoch < 2 ^ 62 }
@@ -116,6 +118,7 @@ impl<D: Device> FuncSide<D> {
         ensures moved { IfSome (entry_if result to.new) (λ e. IsForward self.old self.new) }
         ensures none { IsNone (entry_if result to.new) ↔ IsAtRest self.old }
         ensures same { IfNone (entry_if result to.new) (self.new ≡ self.old) }
+        ensures stays { result ≡ false → to.new ≡ to.old }
     {
         if self.walk.is_stopped || self.walk.journal.is_full() {
             return false;

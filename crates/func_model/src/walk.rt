@@ -231,7 +231,7 @@ impl<D: Device> Walk<D> {
         ensures room { self.new.journal.room ≡ self.old.journal.room }
         ensures others { self.new ≡ record self.old { journal = self.new.journal; committed = n } }
     {
-        self.journal.drop_below(n);
+        self.journal.drop_oldest(n - self.committed);
         self.committed = n;
     }
 

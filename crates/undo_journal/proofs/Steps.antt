@@ -1,12 +1,12 @@
 -- A list of steps with rising numbers: its newest step, one step more, and the steps from a number on.
-use Rattle.std.proofs.Common.{◌≡◌, ℕ, zero, suc, ◌+◌, ◌-◌, ◌<◌, ◌≤◌, nat_lt, nat_le, List, [], ◌∷◌, ◌++◌, length, get_or, take, drop, refl, sym, ◌∙◌, arith, Option, Some, None, IfSome, IfNone, All, inl, inr}
+use Rattle.std.proofs.Common.{◌≡◌, ℕ, zero, suc, ◌+◌, ◌-◌, ◌<◌, ◌≤◌, nat_lt, nat_le, List, [], ◌∷◌, ◌++◌, length, get_or, take, drop, min, refl, sym, ap, ◌∙◌, arith, Option, Some, None, IfSome, IfNone, All, inl, inr}
 use Rattle.std.specs.List.{prefix_len}
 use Rattle.std.proofs.lemmas.List.Kept.{AllPairs-filter}
 use Rattle.std.proofs.lemmas.List.Sums.{prefix_len-le-length}
 use Rattle.std.proofs.lemmas.List.Quantifiers.{all_pairs_push}
 use Rattle.std.proofs.lemmas.Option.{slice_get-get_or}
 use Rattle.std.proofs.lemmas.Bool.{cases_lt}
-use Rattle.std.proofs.lemmas.List.{get_or_append_left, length-append}
+use Rattle.std.proofs.lemmas.List.{get_or_append_left, length-append, drop_all}
 use Rattle.std.proofs.lemmas.List.Elements.{All-filter}
 use Rattle.circular_buffer.specs.Buffer.{keep_last}
 use Rattle.circular_buffer.proofs.Items.{pops_last}
@@ -48,6 +48,21 @@ keep_from n ps rising =
 
 pub rising_from : (n : ℕ) (ps : List Past) → IsRising ps → IsRising (from_number n ps)
 rising_from n ps rising = AllPairs-filter (λ p q. p.number < q.number) (λ p. nat_le n p.number) ps rising
+
+-- without the oldest ones
+pub rising_without : (n : ℕ) (ps : List Past) → IsRising ps → IsRising (drop n ps)
+rising_without zero ps rising = rising
+rising_without (suc n) [] rising = rising
+rising_without (suc n) (p ∷ ps) rising = rising_without n ps (rest_rises p ps rising)
+
+-- to keep the newest ones is to drop the others, or all where there are fewer
+pub keep_newest : (n : ℕ) (ps : List Past) → keep_last (length ps - min n (length ps)) ps ≡ drop n ps
+keep_newest n ps = elim (cases_lt n (length ps)) [
+  | inl fewer ↦ let e : length ps - (length ps - min n (length ps)) ≡ n = omega arith in ap (λ k. drop k ps) e
+  | inr all ↦
+      let e : length ps - (length ps - min n (length ps)) ≡ length ps = omega arith in
+      ap (λ k. drop k ps) e ∙ drop_all (length ps) ps (omega arith) ∙ sym (drop_all n ps all)
+]
 
 -- a step above the newest one goes on rising
 pub rising_with_one_more : (ps : List Past) (p : Past) → IsRising ps → IfSome (newest ps) (λ q. q.number < p.number) → IsRising (ps ++ p ∷ [])

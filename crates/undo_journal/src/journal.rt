@@ -23,7 +23,7 @@ impl Model for Journal {
 
 impl Journal {
     ghost use Rattle.std.specs.Prelude.{◌≡◌, ◌↔◌, ◌<◌, ◌≤◌, ◌++◌, ◌∷◌, [], length, IsTrue, IsNone};
-    ghost use Rattle.std.specs.Prelude.{IfOk, IfSome, IfNone, nat_lt};
+    ghost use Rattle.std.specs.Prelude.{IfOk, IfSome, IfNone, nat_lt, drop};
     ghost use Rattle.std.specs.List.{prefix_len};
     ghost use Rattle.undo_journal.specs.Journal.{IsRising, newest, from_number};
 
@@ -82,6 +82,16 @@ impl Journal {
     {
         let below = self.count_below(n);
         self.steps.truncate_front(self.steps.len() - below);
+    }
+
+    /// Removes so many of the oldest steps, or all where there are fewer.
+    #[tactic(auto, using(crate::proofs::Steps::rising_without, crate::proofs::Steps::keep_newest))]
+    pub fn drop_oldest(&mut self, count: u64)
+        ensures kept { self.new ≡ record self.old { steps = drop count self.old.steps } }
+    {
+        let held = self.steps.len();
+        let gone = count.min(held as u64) as usize;
+        self.steps.truncate_front(held - gone);
     }
 
     /// How many steps have numbers below `n`. They stand first.

@@ -4,7 +4,9 @@ use fsim_base::Width;
 /// The value of a register before an instruction that writes it.
 #[derive(Clone, Copy, Debug, PartialEq, Eq)]
 pub struct OldRegister {
+    /// The number of the register.
     pub register: u8,
+    /// Its value.
     pub value: u32,
 }
 
@@ -26,10 +28,15 @@ pub enum Change {
 /// What a trap changes of the control and status registers, as it was before.
 #[derive(Clone, Copy, Debug, PartialEq, Eq)]
 pub struct OldTrap {
+    /// MIE of mstatus.
     pub mie: bool,
+    /// MPIE of mstatus.
     pub mpie: bool,
+    /// The address that MRET goes back to.
     pub mepc: u32,
+    /// A trap's cause.
     pub mcause: u32,
+    /// A trap's address or word.
     pub mtval: u32,
 }
 
@@ -57,5 +64,6 @@ pub struct Past {
     /// The register that it writes, with its value before, also where it traps; x0 where it has
     /// none.
     pub reg: OldRegister,
+    /// What else it changed.
     pub change: Change,
 }

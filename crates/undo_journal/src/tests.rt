@@ -134,3 +134,24 @@ fn a_full_journal_empties_from_both_ends(rt: HostRuntime) -> Result<(), Fail> {
     assert_eq!(rt; none.back(), None);
     Ok(())
 }
+
+#[test]
+fn the_oldest_steps_go_by_count(rt: HostRuntime) -> Result<(), Fail> {
+    let mut journal = Journal::with_room(rt.alloc(), 3)?;
+    note(&mut journal, 10);
+    assert!(rt; !journal.is_full());
+    note(&mut journal, 20);
+    assert!(rt; !journal.is_full());
+    note(&mut journal, 30);
+    journal.drop_oldest(0);
+    assert_eq!(rt; journal.len(), 3);
+    journal.drop_oldest(1);
+    assert_eq!(rt; (journal.len(), journal.back()), (2, Some(past(30))));
+    journal.drop_oldest(u64::MAX);
+    assert_eq!(rt;
+        (journal.len(), journal.back()),
+        (0, None),
+        "all where there are fewer"
+    );
+    Ok(())
+}
