@@ -3,3 +3,4 @@ pub mod Stations
 pub mod Stores
 pub mod Divisions
 pub mod Changes
+pub mod Snapshots

@@ -44,7 +44,7 @@ operands capacity older slot = λ i.
     operand capacity older (station_in capacity slot).first i && operand capacity older (station_in capacity slot).second i
 
 -- the stations of the older slots, the youngest first
-reverse-map : {X Y : Type 0} (f : X → Y) (xs : List X) → reverse (map f xs) ≡ map f (reverse xs)
+pub reverse-map : {X Y : Type 0} (f : X → Y) (xs : List X) → reverse (map f xs) ≡ map f (reverse xs)
 reverse-map f [] = refl
 reverse-map f (x ∷ xs) =
     reverse-append (f x ∷ []) (map f xs) ∙ ap (λ ys. ys ++ f x ∷ []) (reverse-map f xs)

@@ -1,15 +1,14 @@
 -- The stations of slots, as these change.
-use Rattle.std.proofs.Common.{◌≡◌, ◌≢◌, ℕ, zero, suc, ◌-◌, ◌==◌, false, Some, List, [], ◌∷◌, length, take, refl, ap, sym, ◌∙◌, arith, subst, IsNone, All}
+use Rattle.std.proofs.Common.{◌≡◌, ◌≢◌, ℕ, zero, suc, ◌==◌, false, Some, List, [], ◌∷◌, refl, ap, sym, ◌∙◌, arith, subst, IsNone, All}
 use Rattle.std.specs.Prelude.{slice_get, slice_set, option_map}
 use Rattle.std.proofs.lemmas.Bool.{ne_eqb, eq-eqb}
-use Rattle.std.proofs.lemmas.List.{take-map, length-map}
 use Rattle.std.proofs.lemmas.List.Elements.{All-head, All-tail}
 use Rattle.std.proofs.lemmas.Option.{slice_get-map, slice_get_within, get_or_from_slice_get}
 use Rattle.reorder_buffer.specs.declared.slot.Slot.{Slot}
 use Rattle.reorder_buffer.specs.Window.{HasOwnIndices, index_of}
 use Rattle.reservation_stations.specs.declared.station.Mark.{Mark}
 use Rattle.reservation_stations.specs.declared.station.Station.{Station}
-use Rattle.reservation_stations.specs.Readiness.{station_of, mark_of, marked, marked_if, oldest_index, youngest_index}
+use Rattle.reservation_stations.specs.Readiness.{station_of, mark_of, marked, marked_if, oldest_index}
 use Rattle.in_flight.specs.Step.{mark_in, station_in, stations_in}
 
 -- no station holds an index that no slot has
@@ -82,35 +81,3 @@ marks_at capacity mark (first ∷ slots) (suc place) slot new apart here is =
 pub oldest_at : (capacity : ℕ) (slots : List Slot) (slot : Slot) → slice_get slots 0 ≡ Some slot → oldest_index (stations_in capacity slots) ≡ Some (index_of capacity slot.number)
 oldest_at capacity slots slot here =
     ap (option_map (λ (station : Station). station.index)) (slice_get-map (station_in capacity) slots 0 ∙ ap (option_map (station_in capacity)) here)
-
--- of the first slots, the youngest
-slice_get-take : (slots : List Slot) (place : ℕ) (slot : Slot) → slice_get slots place ≡ Some slot → slice_get (take (suc place) slots) place ≡ Some slot
-slice_get-take [] place slot here = absurd cc
-slice_get-take (first ∷ slots) zero slot here = here
-slice_get-take (first ∷ slots) (suc place) slot here = slice_get-take slots place slot here
-
-length-take-suc : (slots : List Slot) (place : ℕ) (slot : Slot) → slice_get slots place ≡ Some slot → length (take (suc place) slots) ≡ suc place
-length-take-suc [] place slot here = absurd cc
-length-take-suc (first ∷ slots) zero slot here = refl
-length-take-suc (first ∷ slots) (suc place) slot here = ap suc (length-take-suc slots place slot here)
-
-pub youngest_at : (capacity : ℕ) (slots : List Slot) (place : ℕ) (slot : Slot) → slice_get slots place ≡ Some slot
-    → youngest_index (stations_in capacity (take (suc place) slots)) ≡ Some (index_of capacity slot.number)
-youngest_at capacity slots place slot here =
-    let front = take (suc place) slots in
-    let long : length (stations_in capacity front) - 1 ≡ place = omega (arith, length-map front (station_in capacity), length-take-suc slots place slot here) in
-    rw long (ap (option_map (λ (station : Station). station.index)) (slice_get-map (station_in capacity) front place ∙ ap (option_map (station_in capacity)) (slice_get-take slots place slot here)))
-
-take-take-suc : (slots : List Slot) (place : ℕ) → take place (take (suc place) slots) ≡ take place slots
-take-take-suc [] zero = refl
-take-take-suc [] (suc place) = refl
-take-take-suc (slot ∷ slots) zero = refl
-take-take-suc (slot ∷ slots) (suc place) = ap (λ rest. slot ∷ rest) (take-take-suc slots place)
-
--- and the stations without it
-pub cut_at : (capacity : ℕ) (slots : List Slot) (place : ℕ) (slot : Slot) → slice_get slots place ≡ Some slot
-    → take (length (stations_in capacity (take (suc place) slots)) - 1) (stations_in capacity (take (suc place) slots)) ≡ stations_in capacity (take place slots)
-cut_at capacity slots place slot here =
-    let front = take (suc place) slots in
-    let long : length (stations_in capacity front) - 1 ≡ place = omega (arith, length-map front (station_in capacity), length-take-suc slots place slot here) in
-    rw long (take-map (station_in capacity) place front ∙ ap (stations_in capacity) (take-take-suc slots place))

@@ -1,3 +1,4 @@
 pub mod Flight
+pub mod Snapshot
 pub mod Step
 pub mod Registers

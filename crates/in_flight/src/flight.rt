@@ -1,4 +1,4 @@
-use crate::cutting::cut_stations;
+use crate::cutting::divisions_from;
 use crate::queueing::{finish_store, pop_oldest, put_store};
 use crate::reading::{divisions_in, slot_at};
 use crate::registers::Registers;
@@ -6,7 +6,7 @@ use fsim_base::NoMemory;
 use known_words::{KnownWords, OfWord};
 use load_store_queue::StoreQueue;
 use reorder_buffer::{Slot, SlotState, Window};
-use reservation_stations::Stations;
+use reservation_stations::{PlaceSet, Stations};
 use std::alloc::Global;
 use std::marker::Model;
 use trace_entry::Entry;
@@ -51,6 +51,7 @@ impl InFlight {
     ghost use Rattle.timing_side.specs.Slots.{found_in};
     ghost use Rattle.in_flight.specs.Flight.{older_at, may_start_at, executes_at, IsExecuting};
     ghost use Rattle.in_flight.specs.Flight.{reads_from};
+    ghost use Rattle.in_flight.specs.Snapshot.{IsSnapshot};
 
     /// No instructions, with room for `capacity`, at most 256. All memory is taken here; want of it
     /// is the one refusal.
@@ -163,7 +164,8 @@ impl InFlight {
         }
         let (_, slot) = slot_at(&self.window, place);
         let number = slot.number;
-        self.dividing -= cut_stations(&self.window, &mut self.stations, place);
+        self.dividing -= divisions_from(&self.window, place);
+        self.stations.keep(place);
         self.stores.cut_from(number);
         self.window.cut_from(number)
     }
@@ -189,6 +191,66 @@ impl InFlight {
         ensures none { IfNone result ((k : ℕ) → from ≤ k → executes_at self.now.slots k ≡ false) }
     {
         self.stations.executing(from)
+    }
+
+    /// Those of the first 64 places at which an instruction waits and has its operands.
+    #[inline(always)]
+    pub fn ready(&self) -> PlaceSet
+        ensures all { IsSnapshot (may_start_at self.now.slots) 0 result }
+    {
+        self.stations.ready_among(0)
+    }
+
+    /// The first place from a place on at which an instruction waits and has its operands; None
+    /// where there is none. It is taken out of `ready`, which has such places of the first 64.
+    #[inline(always)]
+    pub fn choose_next(&self, ready: &mut PlaceSet, from: u32) -> Option<u32>
+        requires all { IsSnapshot (may_start_at self.now.slots) from ready.old }
+        ensures behind { IfSome result (λ place. from ≤ place) }
+        ensures found { IfSome result (λ place. IsTrue (may_start_at self.now.slots place)) }
+        ensures first { IfSome result (λ place. (k : ℕ) → from ≤ k → k < place → may_start_at
+            self.now.slots k ≡ false) }
+        ensures none { IfNone result ((k : ℕ) → from ≤ k → may_start_at self.now.slots k ≡ false) }
+        ensures left { IfSome result (λ place.
+            IsSnapshot (may_start_at self.now.slots) (place + 1) ready.new) }
+    {
+        if let Some(place) = ready.take_first() {
+            return Some(place);
+        }
+        if self.len() <= 64 {
+            return None;
+        }
+        self.choose(from.max(64))
+    }
+
+    /// Those of the first 64 places at which an instruction executes.
+    #[inline(always)]
+    pub fn executes(&self) -> PlaceSet
+        ensures all { IsSnapshot (executes_at self.now.slots) 0 result }
+    {
+        self.stations.executing_among(0)
+    }
+
+    /// The first place from a place on at which an instruction executes; None where there is none.
+    /// It is taken out of `executes`, which has such places of the first 64.
+    #[inline(always)]
+    pub fn executing_next(&self, executes: &mut PlaceSet, from: u32) -> Option<u32>
+        requires all { IsSnapshot (executes_at self.now.slots) from executes.old }
+        ensures behind { IfSome result (λ place. from ≤ place) }
+        ensures found { IfSome result (λ place. IsTrue (executes_at self.now.slots place)) }
+        ensures first { IfSome result (λ place. (k : ℕ) → from ≤ k → k < place → executes_at
+            self.now.slots k ≡ false) }
+        ensures none { IfNone result ((k : ℕ) → from ≤ k → executes_at self.now.slots k ≡ false) }
+        ensures left { IfSome result (λ place.
+            IsSnapshot (executes_at self.now.slots) (place + 1) executes.new) }
+    {
+        if let Some(place) = executes.take_first() {
+            return Some(place);
+        }
+        if self.len() <= 64 {
+            return None;
+        }
+        self.executing(from.max(64))
     }
 
     /// Whether all stores older than the instruction at a place are done.

@@ -3,20 +3,17 @@ use Rattle.std.proofs.Common.{◌≡◌, ◌≢◌, ℕ, ◌+◌, ◌^◌, ◌<�
 use Rattle.std.specs.Prelude.{slice_set, IsNone}
 use Rattle.std.specs.List.{AllByRecursion, IsDistinct, list_any}
 use Rattle.std.proofs.lemmas.Bool.{cases_eq, ne_eqb}
-use Rattle.std.proofs.lemmas.List.{length-set, append-nil, map_push}
+use Rattle.std.proofs.lemmas.List.{length-set, map_push}
 use Rattle.std.proofs.lemmas.Map.Steps.{length-le_from_distinct_below}
 use Rattle.reservation_stations.specs.declared.station.Station.{Station}
 use Rattle.reservation_stations.specs.declared.row.Row.{Row}
-use Rattle.reservation_stations.specs.Mask.{is_index}
-use Rattle.reservation_stations.specs.Waits.{waits_on}
-use Rattle.reservation_stations.specs.Readiness.{Window, is_waiting, is_done, is_register, station_of, waiting_count}
-use Rattle.reservation_stations.specs.AreTables.{AreTables, Each, AreDistinct, IsRow, row_at, stations_at, station_in, producer, producer_of, awaited, is_among, among}
+use Rattle.reservation_stations.specs.Readiness.{Window, is_waiting, is_register, station_of, waiting_count}
+use Rattle.reservation_stations.specs.AreTables.{AreTables, Each, AreDistinct, row_at, stations_at, station_in, producer}
 use Rattle.reservation_stations.specs.Changes.{with_producer}
 use Rattle.reservation_stations.proofs.Indices.{Each-map, Each-push, AreDistinct-push, station_of-free}
-use Rattle.reservation_stations.proofs.Carried.{Changes, AreRows-carried, AreRows-push}
 use Rattle.reservation_stations.proofs.Marking.{row_at-set, Stays, stations_at-same}
-use Rattle.reservation_stations.proofs.Kept.{seen, AreTables-changed, none, or_false, and_true, Carries-none}
-use Rattle.reservation_stations.proofs.Reading.{reverse_seen, Each-reverse}
+use Rattle.reservation_stations.proofs.Kept.{seen}
+use Rattle.reservation_stations.proofs.Reading.{Each-reverse}
 use Rattle.reservation_stations.proofs.Leaving.{get_or-with_producer, length-with_producer, waiting_count-push, reverse-push}
 
 -- indices below a number, no two of them equal, are at most that many
@@ -48,7 +45,7 @@ one_at_most : (b : Bool) → (if b then 1 else 0) ≤ 1
 one_at_most true = omega arith
 one_at_most false = omega arith
 
-waiting_few : (at : ℕ → Row) (indices : List ℕ) → waiting_count (stations_at at indices) ≤ length indices
+pub waiting_few : (at : ℕ → Row) (indices : List ℕ) → waiting_count (stations_at at indices) ≤ length indices
 waiting_few at [] = omega arith
 waiting_few at (index ∷ indices) = omega (arith, one_at_most (is_waiting (at index).mark), waiting_few at indices)
 
@@ -62,19 +59,6 @@ module _ (capacity : ℕ) (indices : List ℕ) (old : List Row) (producers : Lis
   mine : row_at (slice_set old index row) index ≡ row
   mine = row_at-set old index row inside index ∙ ap (λ b. if b then row else row_at old index) (eq-eqb index index refl)
 
-  Changes-none : (other : ℕ) → other ≢ index → Changes (row_at old) (row_at (slice_set old index row)) none none other
-  Changes-none other differ =
-      let same = same_row other differ in
-      record {
-        first = ap (λ (e : Row). e.first) same;
-        second = ap (λ (e : Row). e.second) same;
-        destination = ap (λ (e : Row). e.destination) same;
-        done = ap (λ (e : Row). is_done e.mark) same ∙ or_false (is_done (row_at old other).mark);
-        stays = refl;
-        displaced = ap (λ (e : Row). e.displaced) same;
-        waits = λ k. ap (λ (e : Row). waits_on e.waits k) same ∙ and_true (waits_on (row_at old other).waits k);
-      }
-
   Stays-none : (other : ℕ) → other ≢ index → Stays (row_at old) (row_at (slice_set old index row)) other
   Stays-none other differ =
       let same = same_row other differ in
@@ -85,19 +69,8 @@ module _ (capacity : ℕ) (indices : List ℕ) (old : List Row) (producers : Lis
         mark = ap (λ (e : Row). e.mark) same;
       }
 
-  each_changes : Each (Changes (row_at old) (row_at (slice_set old index row)) none none) indices
-  each_changes = Each-map (λ other. other ≢ index) (Changes (row_at old) (row_at (slice_set old index row)) none none) Changes-none indices fresh
-
   stations_stay : stations_at (row_at (slice_set old index row)) indices ≡ stations_at (row_at old) indices
   stations_stay = stations_at-same (row_at old) (row_at (slice_set old index row)) indices (Each-map (λ other. other ≢ index) (Stays (row_at old) (row_at (slice_set old index row))) Stays-none indices fresh)
-
-  -- an index that no station holds keeps something else
-  pub AreTables-other : AreTables capacity indices (slice_set old index row) producers waiting
-  AreTables-other =
-      AreTables-changed capacity indices old (slice_set old index row) producers waiting waiting none keeps (length-set old index row) each_changes (keeps.count ∙ sym (ap waiting_count stations_stay))
-
-  pub seen-other : seen capacity indices (slice_set old index row) ≡ seen capacity indices old
-  seen-other = λ i. record { capacity = capacity; stations = stations_stay i }
 
   older_stay : stations_at (row_at (slice_set old index row)) (reverse indices) ≡ stations_at (row_at old) (reverse indices)
   older_stay = stations_at-same (row_at old) (row_at (slice_set old index row)) (reverse indices) (Each-map (λ other. other ≢ index) (Stays (row_at old) (row_at (slice_set old index row))) Stays-none (reverse indices) (Each-reverse (λ other. other ≢ index) indices fresh))
@@ -107,12 +80,10 @@ module _ (capacity : ℕ) (indices : List ℕ) (old : List Row) (producers : Lis
       map_push (λ s. station_in s (row_at (slice_set old index row) s)) indices index
       ∙ λ i. stations_stay i ++ station_in index (mine i) ∷ []
 
-  AreTables-pushed : IsRow (stations_at (row_at old) (reverse indices)) row → is_waiting row.mark ≡ true →
+  AreTables-pushed : is_waiting row.mark ≡ true →
       AreTables capacity (indices ++ index ∷ []) (slice_set old index row) (with_producer row.destination (Some index) producers) (waiting + 1)
-  AreTables-pushed is waits =
+  AreTables-pushed waits =
       let at' = row_at (slice_set old index row) in
-      let own : IsRow (stations_at at' (reverse indices)) (at' index) = rw (older_stay, mine) is in
-      let own_behind : IsRow (stations_at at' (reverse indices ++ [])) (at' index) = rw append-nil own in
       let counted = waiting_count-push at' indices index in
       let same : waiting_count (stations_at at' indices) ≡ waiting = ap waiting_count stations_stay ∙ sym keeps.count in
       let one_more = ap one_if (ap (λ (e : Row). is_waiting e.mark) mine ∙ waits) in
@@ -121,9 +92,6 @@ module _ (capacity : ℕ) (indices : List ℕ) (old : List Row) (producers : Lis
         within = Each-push (λ s. s < capacity) indices index keeps.within within;
         distinct = AreDistinct-push indices index keeps.distinct fresh;
         every_index = length-set old index row ∙ keeps.every_index;
-        each_row =
-            AreRows-push at' indices [] index
-            (AreRows-carried (row_at old) at' none none indices [] [] each_changes (Carries-none (row_at old) at' none none) keeps.each_row) own_behind;
         every_register = length-with_producer row.destination (Some index) producers ∙ keeps.every_register;
         each_producer = λ register below.
             get_or-with_producer row.destination (Some index) producers register (omega (arith, keeps.every_register))
@@ -132,29 +100,6 @@ module _ (capacity : ℕ) (indices : List ℕ) (old : List Row) (producers : Lis
             ∙ ap (λ xs. producer (stations_at at' xs) register) (sym (reverse-push indices index));
         count = omega (arith, counted, same, one_more);
       }
-
--- a producer is among the stations
-among_by : (index : ℕ) (b there : Bool) → (if there then Some index else None) ≡ Some index → (if (b || there) then Some index else None) ≡ Some index
-among_by index true there is = refl
-among_by index false there is = is
-
-among_behind : (station : Station) (older : List Station) (o : Option ℕ) → among older o ≡ o → among (station ∷ older) o ≡ o
-among_behind station older None is = refl
-among_behind station older (Some index) is = among_by index (index == station.index) (is_among index older) is
-
-among_first : (station : Station) (older : List Station) (b : Bool) (o : Option ℕ) → among older o ≡ o →
-    among (station ∷ older) (if b then Some station.index else o) ≡ (if b then Some station.index else o)
-among_first station older true o is = ap (λ b. if (b || is_among station.index older) then Some station.index else None) (eq-eqb station.index station.index refl)
-among_first station older false o is = among_behind station older o is
-
-among-producer : (older : List Station) (register : ℕ) → among older (producer older register) ≡ producer older register
-among-producer [] register = refl
-among-producer (station ∷ older) register =
-    among_first station older (is_register register station.destination) (producer older register) (among-producer older register)
-
-among-producer_of : (older : List Station) (destination : Option ℕ) → among older (producer_of older destination) ≡ producer_of older destination
-among-producer_of older None = refl
-among-producer_of older (Some register) = among-producer older register
 
 none_from : (o : Option Station) → IsNone o → o ≡ None
 none_from None is = refl
@@ -174,17 +119,9 @@ module _ {capacity : ℕ} {indices : List ℕ} {rows : List Row} {producers : Li
   waiting_fits = omega (arith, room, keeps.limit, keeps.count, waiting_few (row_at rows) indices)
 
   module _ (row : Row) where
-    pub AreTables-entered : (table : List (Option ℕ)) → ((k : ℕ) → waits_on row.waits k ≡ (is_index k (awaited (reverse w.stations) row.first) || is_index k (awaited (reverse w.stations) row.second))) →
-        row.displaced ≡ producer_of (reverse w.stations) row.destination → is_waiting row.mark ≡ true → table ≡ with_producer row.destination (Some index) producers →
+    pub AreTables-entered : (table : List (Option ℕ)) → is_waiting row.mark ≡ true → table ≡ with_producer row.destination (Some index) producers →
         AreTables capacity (indices ++ index ∷ []) (slice_set rows index row) table (waiting + 1)
-    AreTables-entered table waits displaced is_waits set =
-        let is : IsRow (reverse w.stations) row = record {
-          waits = waits;
-          displaced = ap (among (reverse w.stations)) displaced ∙ among-producer_of (reverse w.stations) row.destination;
-        } in
-        rw set
-        (AreTables-pushed capacity indices rows producers waiting keeps index inside_window is_fresh row
-        (subst (λ xs. IsRow xs row) (reverse_seen keeps is_seen) is) is_waits)
+    AreTables-entered table is_waits set = rw set (AreTables-pushed capacity indices rows producers waiting keeps index inside_window is_fresh row is_waits)
 
     pub seen-entered : seen capacity (indices ++ index ∷ []) (slice_set rows index row) ≡ record w { stations = w.stations ++ station_in index row ∷ [] }
     seen-entered =

@@ -1,5 +1,5 @@
 -- Lists of indices, and the stations that hold them.
-use Rattle.std.proofs.Common.{◌≡◌, ◌≢◌, ℕ, ◌==◌, if◌then◌else◌, Some, None, List, [], ◌∷◌, ◌++◌, map, reverse, refl, ap, sym, ◌∙◌, inl, inr, eq-eqb, subst}
+use Rattle.std.proofs.Common.{◌≡◌, ◌≢◌, ℕ, zero, suc, ◌==◌, if◌then◌else◌, Some, None, List, [], ◌∷◌, ◌++◌, map, reverse, take, refl, ap, sym, ◌∙◌, inl, inr, eq-eqb, subst}
 use Rattle.std.proofs.lemmas.Bool.{cases_eq, ne_eqb}
 use Rattle.std.proofs.lemmas.List.{append_assoc, reverse-append, map-append}
 use Rattle.reservation_stations.specs.declared.station.Station.{Station}
@@ -11,29 +11,24 @@ pub Each-map : (P Q : ℕ → Type 0) → ((index : ℕ) → P index → Q index
 Each-map P Q then_so [] each = tt
 Each-map P Q then_so (index ∷ indices) each = (then_so index each.0, Each-map P Q then_so indices each.1)
 
-pub Each-both : (P Q : ℕ → Type 0) (indices : List ℕ) → Each P indices → Each Q indices → Each (λ index. P index × Q index) indices
-Each-both P Q [] p q = tt
-Each-both P Q (index ∷ indices) p q = ((p.0, q.0), Each-both P Q indices p.1 q.1)
-
 pub Each-push : (P : ℕ → Type 0) (indices : List ℕ) (index : ℕ) → Each P indices → P index → Each P (indices ++ index ∷ [])
 Each-push P [] index each here = (here, tt)
 Each-push P (other ∷ indices) index each here = (each.0, Each-push P indices index each.1 here)
 
-pub Each-front : (P : ℕ → Type 0) (indices : List ℕ) (index : ℕ) → Each P (indices ++ index ∷ []) → Each P indices × P index
-Each-front P [] index each = (tt, each.0)
-Each-front P (other ∷ indices) index each = let rest = Each-front P indices index each.1 in ((each.0, rest.0), rest.1)
+pub Each-take : (P : ℕ → Type 0) (indices : List ℕ) (n : ℕ) → Each P indices → Each P (take n indices)
+Each-take P indices zero each = tt
+Each-take P [] (suc n) each = tt
+Each-take P (index ∷ indices) (suc n) each = (each.0, Each-take P indices n each.1)
+
+pub AreDistinct-take : (indices : List ℕ) (n : ℕ) → AreDistinct indices → AreDistinct (take n indices)
+AreDistinct-take indices zero distinct = tt
+AreDistinct-take [] (suc n) distinct = tt
+AreDistinct-take (index ∷ indices) (suc n) distinct = (Each-take (λ other. other ≢ index) indices n distinct.0, AreDistinct-take indices n distinct.1)
 
 pub AreDistinct-push : (indices : List ℕ) (index : ℕ) → AreDistinct indices → Each (λ other. other ≢ index) indices → AreDistinct (indices ++ index ∷ [])
 AreDistinct-push [] index distinct fresh = (tt, tt)
 AreDistinct-push (other ∷ indices) index distinct fresh =
     (Each-push (λ s. s ≢ other) indices index distinct.0 (λ e. fresh.0 (sym e)), AreDistinct-push indices index distinct.1 fresh.1)
-
-pub AreDistinct-front : (indices : List ℕ) (index : ℕ) → AreDistinct (indices ++ index ∷ []) → AreDistinct indices × Each (λ other. other ≢ index) indices
-AreDistinct-front [] index distinct = (tt, tt)
-AreDistinct-front (other ∷ indices) index distinct =
-    let rest = AreDistinct-front indices index distinct.1 in
-    let front = Each-front (λ s. s ≢ other) indices index distinct.0 in
-    ((front.0, rest.0), ((λ e. front.1 (sym e)), rest.1))
 
 -- in reverse
 pub reverse-cons : {X : Type 0} (x : X) (xs : List X) → reverse (x ∷ xs) ≡ reverse xs ++ x ∷ []

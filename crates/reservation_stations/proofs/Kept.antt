@@ -1,17 +1,15 @@
 -- What the tables stand for, before and behind each call.
-use Rattle.std.proofs.Common.{◌≡◌, ℕ, ◌+◌, ◌-◌, ◌<◌, ◌≤◌, ◌==◌, ◌||◌, ◌&&◌, not, Bool, true, false, if◌then◌else◌, Option, Some, None, List, [], length, get_or, reverse, refl, ap, sym, ◌∙◌, inl, inr, arith, eq-eqb, subst}
+use Rattle.std.proofs.Common.{◌≡◌, ◌≢◌, ℕ, ◌+◌, ◌-◌, ◌<◌, ◌≤◌, ◌==◌, ◌||◌, Bool, true, false, if◌then◌else◌, Option, Some, None, List, [], length, get_or, reverse, refl, ap, sym, ◌∙◌, inl, inr, arith, eq-eqb, subst}
 use Rattle.std.specs.Prelude.{slice_set}
 use Rattle.std.proofs.lemmas.Bool.{cases_eq, ne_eqb}
 use Rattle.std.proofs.lemmas.List.{length-set, append-nil, get_or_read}
 use Rattle.reservation_stations.specs.declared.station.Mark.{Mark}
-use Rattle.reservation_stations.specs.declared.station.Mark.TheVariants.{Waiting, Issued, Done, Faulted}
 use Rattle.reservation_stations.specs.declared.row.Row.{Row}
-use Rattle.reservation_stations.specs.Waits.{waits_on}
 use Rattle.reservation_stations.specs.Readiness.{Window, is_waiting, is_done, station_of, mark_of, marked, waiting_count}
-use Rattle.reservation_stations.specs.AreTables.{AreTables, Each, row_at, free_row, stations_at, producer, among}
-use Rattle.reservation_stations.specs.Changes.{without, Releases, EachChanges}
+use Rattle.reservation_stations.specs.AreTables.{AreTables, Each, row_at, free_row, stations_at, producer}
+use Rattle.reservation_stations.specs.Changes.{without}
 use Rattle.reservation_stations.proofs.Indices.{Each-map}
-use Rattle.reservation_stations.proofs.Carried.{dropped, Changes, Carries, AreRows-carried, Carries-behind}
+use Rattle.reservation_stations.proofs.Carried.{dropped, Changes, Carries, Carries-behind}
 use Rattle.reservation_stations.proofs.Marking.{row_at-set, with_mark_of, mark_of-held, Marks, stations_at-marked, waiting_count-same, waiting_count-one_less}
 
 abbrev pub none : ℕ → Bool
@@ -32,18 +30,10 @@ pub or_false : (b : Bool) → b ≡ (b || false)
 or_false true = refl
 or_false false = refl
 
-pub and_true : (b : Bool) → b ≡ (b && not false)
-and_true true = refl
-and_true false = refl
-
 -- nothing stands before the oldest
 module _ (at at' : ℕ → Row) (lost gone : ℕ → Bool) where
-  among_none : (o : Option ℕ) → among [] o ≡ dropped gone (among [] o)
-  among_none None = refl
-  among_none (Some index) = refl
-
   pub Carries-none : Carries at at' lost gone [] []
-  Carries-none = record { unfinished = λ register. refl; producer = λ register. refl; among = among_none }
+  Carries-none = record { unfinished = λ register. refl; producer = λ register. refl }
 
 -- where the list of indices stays, and no station leaves
 module _ (capacity : ℕ) (indices : List ℕ) (old new : List Row) (producers : List (Option ℕ)) (waiting waiting' : ℕ) (lost : ℕ → Bool) where
@@ -59,14 +49,13 @@ module _ (capacity : ℕ) (indices : List ℕ) (old new : List Row) (producers :
         within = keeps.within;
         distinct = keeps.distinct;
         every_index = same ∙ keeps.every_index;
-        each_row = AreRows-carried at at' lost none indices [] [] each (Carries-none at at' lost none) keeps.each_row;
         every_register = keeps.every_register;
         each_producer = λ register within.
             keeps.each_producer register within ∙ sym (behind.producer register ∙ dropped_none (producer (stations_at at (reverse indices)) register));
         count = count;
       }
 
--- another mark on one station, which isn't done before nor behind
+-- another mark on one station
 module _ (rows : List Row) (index : ℕ) (mark : Mark) (row : Row) (within : index < length rows) (is : row ≡ row_at rows index) where
   abbrev with_mark : Row
   with_mark = record row { mark = mark }
@@ -96,21 +85,24 @@ module _ (rows : List Row) (index : ℕ) (mark : Mark) (row : Row) (within : ind
     mark = ap (λ (e : Row). e.mark) (row_at-set rows index with_mark within other) ∙ mark_by (other == index) (row_at rows other);
   }
 
-  done_by : (other : ℕ) → is_done mark ≡ is_done (row_at rows index).mark → is_done (row_at written other).mark ≡ is_done (row_at rows other).mark
-  done_by other alike = ap is_done (Marks-written other).mark ∙ elim (cases_eq other index) [
-    | inl same ↦ ap (λ b. is_done (if b then mark else (row_at rows other).mark)) (eq-eqb other index same) ∙ alike ∙ ap (λ s. is_done (row_at rows s).mark) (sym same)
-    | inr differ ↦ ap (λ b. is_done (if b then mark else (row_at rows other).mark)) (ne_eqb other index differ)
+  -- it is lost where it is done now and wasn't
+  lost_by : (lost : ℕ → Bool) → ((other : ℕ) → other ≢ index → lost other ≡ false) → is_done mark ≡ (is_done (row_at rows index).mark || lost index) →
+      (other : ℕ) → is_done (row_at written other).mark ≡ (is_done (row_at rows other).mark || lost other)
+  lost_by lost others here other = ap is_done (Marks-written other).mark ∙ elim (cases_eq other index) [
+    | inl same ↦
+        ap (λ b. is_done (if b then mark else (row_at rows other).mark)) (eq-eqb other index same) ∙ here
+        ∙ ap (λ s. is_done (row_at rows s).mark || lost s) (sym same)
+    | inr differ ↦
+        ap (λ b. is_done (if b then mark else (row_at rows other).mark)) (ne_eqb other index differ) ∙ or_false (is_done (row_at rows other).mark)
+        ∙ ap (λ b. is_done (row_at rows other).mark || b) (sym (others other differ))
   ]
 
-  Changes-written : is_done mark ≡ is_done (row_at rows index).mark → (other : ℕ) → Changes (row_at rows) (row_at written) none none other
-  Changes-written alike other = record {
-    first = (Marks-written other).first;
-    second = (Marks-written other).second;
+  pub Changes-written : (lost : ℕ → Bool) → ((other : ℕ) → other ≢ index → lost other ≡ false) → is_done mark ≡ (is_done (row_at rows index).mark || lost index) →
+      (other : ℕ) → Changes (row_at rows) (row_at written) lost none other
+  Changes-written lost others here other = record {
     destination = (Marks-written other).destination;
-    done = done_by other alike ∙ or_false (is_done (row_at rows other).mark);
+    done = lost_by lost others here other;
     stays = refl;
-    displaced = field (λ e. e.displaced) refl other;
-    waits = λ k. field (λ e. waits_on e.waits k) refl other ∙ and_true (waits_on (row_at rows other).waits k);
   }
 
 -- what contracts see of the tables
@@ -124,7 +116,7 @@ module _ {capacity : ℕ} {indices : List ℕ} {rows : List Row} {producers : Li
       (omega (arith, found.0, keeps.every_index), found.1)
 
   module _ (index : ℕ) (mark next : Mark) (before : mark_of index w.stations ≡ Some mark) (row : Row) (read : row ≡ get_or rows index row) where
-    is : row ≡ row_at rows index
+    pub is : row ≡ row_at rows index
     is = get_or_read rows index row (held_with index mark before).0 read free_row
 
     pub seen-marked : (new : List Row) → Each (Marks (row_at rows) (row_at new) index next) indices →
@@ -143,14 +135,18 @@ module _ {capacity : ℕ} {indices : List ℕ} {rows : List Row} {producers : Li
     pub seen-written : seen capacity indices new_rows ≡ record w { stations = marked index next w.stations }
     seen-written = seen-marked new_rows each_marked
 
-    -- neither mark is that of a done station
-    keeps_written : is_done next ≡ is_done mark → (waiting' : ℕ) → waiting' ≡ waiting_count (stations_at (row_at new_rows) indices) → AreTables capacity indices new_rows producers waiting'
-    keeps_written alike waiting' count =
+    -- those that are done now and weren't are lost to those that await their values
+    pub each_changed : (lost : ℕ → Bool) → ((other : ℕ) → other ≢ index → lost other ≡ false) → is_done next ≡ (is_done mark || lost index) →
+        Each (Changes (row_at rows) (row_at new_rows) lost none) indices
+    each_changed lost others alike =
         let here = held_with index mark before in
-        AreTables-changed capacity indices rows new_rows producers waiting waiting' none keeps (length-set rows index (record row { mark = next }))
-        (Each-map (λ s. s < capacity) (Changes (row_at rows) (row_at new_rows) none none)
-        (λ other h. Changes-written rows index next row here.0 is (alike ∙ ap is_done (sym here.1)) other) indices keeps.within)
-        count
+        Each-map (λ s. s < capacity) (Changes (row_at rows) (row_at new_rows) lost none)
+        (λ other h. Changes-written rows index next row here.0 is lost others (alike ∙ ap (λ m. is_done m || lost index) (sym here.1)) other) indices keeps.within
+
+    keeps_written : (lost : ℕ → Bool) → ((other : ℕ) → other ≢ index → lost other ≡ false) → is_done next ≡ (is_done mark || lost index) →
+        (waiting' : ℕ) → waiting' ≡ waiting_count (stations_at (row_at new_rows) indices) → AreTables capacity indices new_rows producers waiting'
+    keeps_written lost others alike waiting' count =
+        AreTables-changed capacity indices rows new_rows producers waiting waiting' lost keeps (length-set rows index (record row { mark = next })) (each_changed lost others alike) count
 
     alike_by : (other : ℕ) → is_waiting next ≡ is_waiting mark → is_waiting (row_at new_rows other).mark ≡ is_waiting (row_at rows other).mark
     alike_by other alike =
@@ -168,8 +164,9 @@ module _ {capacity : ℕ} {indices : List ℕ} {rows : List Row} {producers : Li
         keeps.count ∙ sym (waiting_count-same (row_at rows) (row_at new_rows) indices
         (Each-map (λ s. s < capacity) (λ other. is_waiting (row_at new_rows other).mark ≡ is_waiting (row_at rows other).mark) (λ other h. alike_by other alike) indices keeps.within))
 
-    pub AreTables-marked : is_done next ≡ is_done mark → is_waiting next ≡ is_waiting mark → AreTables capacity indices new_rows producers waiting
-    AreTables-marked done alike = keeps_written done waiting (waits_alike alike)
+    pub AreTables-marked : (lost : ℕ → Bool) → ((other : ℕ) → other ≢ index → lost other ≡ false) → is_done next ≡ (is_done mark || lost index) →
+        is_waiting next ≡ is_waiting mark → AreTables capacity indices new_rows producers waiting
+    AreTables-marked lost others done alike = keeps_written lost others done waiting (waits_alike alike)
 
     -- one fewer waits
     one_fewer : is_waiting next ≡ false → is_waiting mark ≡ true → waiting_count (stations_at (row_at new_rows) indices) + 1 ≡ waiting
@@ -183,63 +180,5 @@ module _ {capacity : ℕ} {indices : List ℕ} {rows : List Row} {producers : Li
     some_wait not_now then_so = omega (arith, one_fewer not_now then_so)
 
     pub AreTables-fewer : is_done next ≡ is_done mark → is_waiting next ≡ false → is_waiting mark ≡ true → AreTables capacity indices new_rows producers (waiting - 1)
-    AreTables-fewer done not_now then_so = keeps_written done (waiting - 1) (omega (arith, one_fewer not_now then_so))
-
-done_or : (b : Bool) (mark : Mark) → is_done (if b then Done else mark) ≡ (is_done mark || b)
-done_or true Waiting = refl
-done_or true Issued = refl
-done_or true Done = refl
-done_or true Faulted = refl
-done_or false mark = or_false (is_done mark)
-
--- a station is done, and none waits for it any more
-module _ {capacity : ℕ} {indices : List ℕ} {rows : List Row} {producers : List (Option ℕ)} {waiting : ℕ} (keeps : AreTables capacity indices rows producers waiting) {w : Window} (is_seen : seen capacity indices rows ≡ w) (index : ℕ) (before : mark_of index w.stations ≡ Some Issued) (row : Row) (read : row ≡ get_or rows index row) (freed : List Row) (each : EachChanges (Releases index) (slice_set rows index (record row { mark = Done })) freed) where
-  inside : index < length rows
-  inside = (held_with keeps is_seen index Issued before).0
-
-  is_row : row ≡ row_at rows index
-  is_row = get_or_read rows index row inside read free_row
-
-  released : (other : ℕ) → other < capacity → Releases index (row_at (slice_set rows index (record row { mark = Done })) other) (row_at freed other)
-  released other h = each.each_row other (omega (arith, length-set rows index (record row { mark = Done }), keeps.every_index))
-
-  Marks-freed : (other : ℕ) → other < capacity → Marks (row_at rows) (row_at freed) index Done other
-  Marks-freed other h =
-      let r = released other h in
-      let m = Marks-written rows index Done row inside is_row other in
-      record {
-        first = ap (λ (e : Row). e.first) r.kept ∙ m.first;
-        second = ap (λ (e : Row). e.second) r.kept ∙ m.second;
-        destination = ap (λ (e : Row). e.destination) r.kept ∙ m.destination;
-        mark = ap (λ (e : Row). e.mark) r.kept ∙ m.mark;
-      }
-
-  Changes-freed : (other : ℕ) → other < capacity → Changes (row_at rows) (row_at freed) (one index) none other
-  Changes-freed other h =
-      let r = released other h in
-      let m = Marks-freed other h in
-      record {
-        first = m.first;
-        second = m.second;
-        destination = m.destination;
-        done = ap is_done m.mark ∙ done_or (other == index) (row_at rows other).mark;
-        stays = refl;
-        displaced = ap (λ (e : Row). e.displaced) r.kept ∙ field rows index Done row inside is_row (λ e. e.displaced) refl other;
-        waits = λ k.
-            r.waits k ∙ ap (λ b. b && not (k == index)) (field rows index Done row inside is_row (λ e. waits_on e.waits k) refl other);
-      }
-
-  waits_freed : (other : ℕ) → other < capacity → is_waiting (row_at freed other).mark ≡ is_waiting (row_at rows other).mark
-  waits_freed other h =
-      ap (λ (e : Row). is_waiting e.mark) (released other h).kept
-      ∙ alike_by keeps is_seen index Issued Done before row read other refl
-
-  pub AreTables-freed : AreTables capacity indices freed producers waiting
-  AreTables-freed =
-      AreTables-changed capacity indices rows freed producers waiting waiting (one index) keeps (each.every_index ∙ length-set rows index (record row { mark = Done }))
-      (Each-map (λ s. s < capacity) (Changes (row_at rows) (row_at freed) (one index) none) Changes-freed indices keeps.within)
-      (keeps.count ∙ sym (waiting_count-same (row_at rows) (row_at freed) indices
-      (Each-map (λ s. s < capacity) (λ other. is_waiting (row_at freed other).mark ≡ is_waiting (row_at rows other).mark) waits_freed indices keeps.within)))
-
-  pub seen-freed : seen capacity indices freed ≡ record w { stations = marked index Done w.stations }
-  seen-freed = seen-marked keeps is_seen index Issued Done before row read freed (Each-map (λ s. s < capacity) (Marks (row_at rows) (row_at freed) index Done) Marks-freed indices keeps.within)
+    AreTables-fewer done not_now then_so =
+        keeps_written none (λ other differ. refl) (done ∙ or_false (is_done mark)) (waiting - 1) (omega (arith, one_fewer not_now then_so))

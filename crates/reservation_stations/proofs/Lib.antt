@@ -1,4 +1,7 @@
 pub mod Bits
+pub mod Lowest
+pub mod Words
+pub mod PlaceBits
 pub mod Turns
 pub mod Indices
 pub mod Carried
@@ -7,6 +10,10 @@ pub mod Kept
 pub mod Reading
 pub mod Leaving
 pub mod Entering
-pub mod Lowest
-pub mod Noted
 pub mod Places
+pub mod Missing
+pub mod Standing
+pub mod Feeding
+pub mod OfStations
+pub mod Among
+pub mod Keeping

@@ -1,9 +1,8 @@
 -- The lowest 1 of a word from a bit on.
-use Rattle.std.proofs.Common.{◌≡◌, ℕ, ◌+◌, ◌-◌, ◌/◌, ◌%◌, ◌^◌, ◌<◌, ◌≤◌, ap, sym, ◌∙◌, arith, w64, inl, inr}
+use Rattle.std.proofs.Common.{◌≡◌, ℕ, ◌+◌, ◌-◌, ◌/◌, ◌%◌, ◌^◌, ◌<◌, ◌≤◌, ap, sym, ◌∙◌, arith, w64}
 use Rattle.std.specs.Int.{bit_at, trailing_zeros}
-use Rattle.std.proofs.lemmas.Bool.{cases_lt}
 use Rattle.std.proofs.lemmas.Nat.{shr-shr, shr_le}
-use Rattle.std.proofs.lemmas.Nat.Bits.{bit_at-trailing_zeros, bit_at_above, bit_at-zero}
+use Rattle.std.proofs.lemmas.Nat.Bits.{bit_at-trailing_zeros, bit_at-zero}
 
 -- a bit of what is left behind a shift
 shifted_bit : (word from k : ℕ) → from ≤ k → bit_at word k ≡ bit_at (word / 2 ^ from) (k - from)
@@ -13,7 +12,6 @@ shifted_bit word from k behind =
 
 pub record IsLowest (word from bit : ℕ) : Type 0 where
   pub behind : from ≤ bit
-  pub inside : bit < 64
   pub found : bit_at word bit ≡ 1
   pub first : (k : ℕ) → from ≤ k → k < bit → bit_at word k ≡ 0
 
@@ -27,10 +25,6 @@ lowest_is word from fits some =
     let found : bit_at word (from + zeros) ≡ 1 = shifted_bit word from (from + zeros) (omega arith) ∙ ap (bit_at rest) e ∙ is.1 in
     record {
       behind = omega arith;
-      inside = elim (cases_lt (from + zeros) 64) [
-        | inl below ↦ below
-        | inr above ↦ absurd (let none = bit_at_above word 64 (from + zeros) fits above in omega (arith, none, found))
-      ];
       found = found;
       first = λ k behind before. shifted_bit word from k behind ∙ is.2 (k - from) (omega (arith, behind, before));
     }

@@ -1,8 +1,7 @@
 -- The list of indices that the turns give, as stations enter and leave.
-use Rattle.std.proofs.Common.{◌≡◌, ◌≢◌, ℕ, zero, suc, ◌+◌, ◌-◌, ◌%◌, ◌<◌, ◌≤◌, Some, None, List, [], ◌∷◌, ◌++◌, length, take, drop, get_or, refl, ap, sym, ◌∙◌, arith}
-use Rattle.std.specs.Prelude.{slice_get, slice_set}
-use Rattle.std.proofs.lemmas.List.{get_or-set_same, get_or-set_other, take_at}
-use Rattle.std.proofs.lemmas.Option.{slice_get_past}
+use Rattle.std.proofs.Common.{◌≡◌, ◌≢◌, ℕ, zero, suc, ◌+◌, ◌-◌, ◌%◌, ◌<◌, ◌≤◌, List, [], ◌∷◌, ◌++◌, length, take, drop, get_or, refl, ap, sym, ◌∙◌, arith}
+use Rattle.std.specs.Prelude.{slice_set}
+use Rattle.std.proofs.lemmas.List.{get_or-set_same, get_or-set_other}
 use Rattle.reservation_stations.specs.Turns.{indices_from}
 
 pub length-indices : (at_turn : List ℕ) (turn count : ℕ) → length (indices_from at_turn turn count) ≡ count
@@ -17,7 +16,7 @@ indices_same at_turn turn turn' (suc count) same =
     λ i. get_or at_turn (same i) 0 ∷ indices_same at_turn (turn + 1) (turn' + 1) count next i
 
 -- one more stands behind the others, at the turn behind theirs
-indices_more : (at_turn : List ℕ) (turn count : ℕ) → indices_from at_turn turn (suc count) ≡ indices_from at_turn turn count ++ get_or at_turn ((turn + count) % 256) 0 ∷ []
+pub indices_more : (at_turn : List ℕ) (turn count : ℕ) → indices_from at_turn turn (suc count) ≡ indices_from at_turn turn count ++ get_or at_turn ((turn + count) % 256) 0 ∷ []
 indices_more at_turn turn zero =
     let e : turn ≡ turn + 0 = omega arith in ap (λ n. get_or at_turn (n % 256) 0 ∷ []) e
 indices_more at_turn turn (suc count) =
@@ -53,27 +52,9 @@ indices_retired at_turn retired (suc count) some =
     let e : suc count - 1 ≡ count = omega arith in
     ap (indices_from at_turn ((retired + 1) % 256)) e ∙ indices_same at_turn ((retired + 1) % 256) (retired + 1) count (omega arith)
 
--- the youngest leaves
-pub indices_cut : (at_turn : List ℕ) (retired count : ℕ) → 0 < count →
-    indices_from at_turn retired (count - 1) ≡ take (length (indices_from at_turn retired count) - 1) (indices_from at_turn retired count)
-indices_cut at_turn retired zero some = absurd (omega (arith, some))
-indices_cut at_turn retired (suc count) some =
-    let e : suc count - 1 ≡ count = omega arith in
-    let front = indices_from at_turn retired count in
-    let last : List ℕ = get_or at_turn ((retired + count) % 256) 0 ∷ [] in
-    ap (indices_from at_turn retired) e
-    ∙ sym (ap (λ n. take (n - 1) (indices_from at_turn retired (suc count))) (length-indices at_turn retired (suc count))
-    ∙ ap (λ n. take n (indices_from at_turn retired (suc count))) e
-    ∙ ap (take count) (indices_more at_turn retired count) ∙ take_at front last count (length-indices at_turn retired count))
-
--- the index at a place
-pub index_there : (at_turn : List ℕ) (turn count place : ℕ) → place < count → slice_get (indices_from at_turn turn count) place ≡ Some (get_or at_turn ((turn + place) % 256) 0)
-index_there at_turn turn zero place before = absurd (omega (arith, before))
-index_there at_turn turn (suc count) zero before =
-    let e : turn ≡ turn + 0 = omega arith in ap (λ n. Some (get_or at_turn (n % 256) 0)) e
-index_there at_turn turn (suc count) (suc place) before =
-    let e : turn + 1 + place ≡ turn + suc place = omega arith in
-    index_there at_turn (turn + 1) count place (omega (arith, before)) ∙ ap (λ n. Some (get_or at_turn (n % 256) 0)) e
-
-pub index_past : (at_turn : List ℕ) (turn count place : ℕ) → count ≤ place → slice_get (indices_from at_turn turn count) place ≡ None
-index_past at_turn turn count place past = slice_get_past (indices_from at_turn turn count) place (omega (arith, past, length-indices at_turn turn count))
+-- those from a place on leave
+pub indices_front : (at_turn : List ℕ) (turn kept count : ℕ) → kept ≤ count → indices_from at_turn turn kept ≡ take kept (indices_from at_turn turn count)
+indices_front at_turn turn zero count few = refl
+indices_front at_turn turn (suc kept) zero few = absurd (omega (arith, few))
+indices_front at_turn turn (suc kept) (suc count) few =
+    ap (λ xs. get_or at_turn (turn % 256) 0 ∷ xs) (indices_front at_turn (turn + 1) kept count (omega (arith, few)))

@@ -1,11 +1,9 @@
 -- What the tables of the stations stand for: the indices from the oldest to the youngest, a row for each index, and for
 -- each register the index of its producer.
-use Rattle.std.specs.Prelude.{◌≡◌, ◌≢◌, ℕ, ◌<◌, ◌≤◌, ◌==◌, ◌||◌, Bool, false, if◌then◌else◌, Option, Some, None, List, [], ◌∷◌, length, map, reverse, get_or}
+use Rattle.std.specs.Prelude.{◌≡◌, ◌≢◌, ℕ, ◌<◌, ◌≤◌, if◌then◌else◌, Option, Some, None, IfSome, List, [], ◌∷◌, length, map, reverse, get_or}
 use Rattle.reservation_stations.specs.declared.station.Mark.TheVariants.{Done}
 use Rattle.reservation_stations.specs.declared.station.Station.{Station}
 use Rattle.reservation_stations.specs.declared.row.Row.{Row}
-use Rattle.reservation_stations.specs.Mask.{is_index}
-use Rattle.reservation_stations.specs.Waits.{waits_on}
 use Rattle.reservation_stations.specs.Readiness.{is_done, is_register, waiting_count}
 
 -- the row of an index that was never held
@@ -15,8 +13,6 @@ free_row = record {
   second = None;
   destination = None;
   mark = Done;
-  waits = record { first = None; second = None };
-  displaced = None;
   turn = 0;
 }
 
@@ -55,24 +51,18 @@ abbrev pub awaited : List Station → Option ℕ → Option ℕ
 awaited older None = None
 awaited older (Some register) = unfinished older register
 
--- an index, where one of some stations holds it
-abbrev pub is_among : ℕ → List Station → Bool
-is_among index [] = false
-is_among index (station ∷ older) = (index == station.index) || is_among index older
+-- the same of a producer, by its row
+abbrev pub unless_done : List Row → Option ℕ → Option ℕ
+unless_done rows None = None
+unless_done rows (Some index) = if is_done (row_at rows index).mark then None else Some index
 
-abbrev pub among : List Station → Option ℕ → Option ℕ
-among older None = None
-among older (Some index) = if is_among index older then Some index else None
+-- the producers of some stations, the youngest first
+abbrev pub AreProducers : List (Option ℕ) → List Station → Type 0
+AreProducers producers older = (register : ℕ) → register < 256 → get_or producers register None ≡ producer older register
 
--- a row beside the older stations, the youngest first
-pub record IsRow (older : List Station) (row : Row) : Type 0 where
-  pub waits : (index : ℕ) → waits_on row.waits index ≡ (is_index index (awaited older row.first) || is_index index (awaited older row.second))
-  pub displaced : among older row.displaced ≡ producer_of older row.destination
-
--- the rows of some indices, the oldest first, behind older ones, the youngest first
-abbrev pub AreRows : (ℕ → Row) → List ℕ → List ℕ → Type 0
-AreRows at older [] = Unit {0}
-AreRows at older (index ∷ indices) = IsRow (stations_at at older) (at index) × AreRows at (index ∷ older) indices
+-- each register's producer, where it has one, has a row
+abbrev pub AreHeld : List (Option ℕ) → ℕ → Type 0
+AreHeld producers capacity = (register : ℕ) → register < 256 → IfSome (get_or producers register None) (λ index. index < capacity)
 
 -- what holds of each of some indices
 abbrev pub Each : (ℕ → Type 0) → List ℕ → Type 0
@@ -90,8 +80,6 @@ pub record AreTables (capacity : ℕ) (indices : List ℕ) (rows : List Row) (pr
   pub within : Each (λ index. index < capacity) indices
   pub distinct : AreDistinct indices
   pub every_index : length rows ≡ capacity
-  pub each_row : AreRows (row_at rows) [] indices
   pub every_register : length producers ≡ 256
-  pub each_producer : (register : ℕ) → register < 256 →
-      get_or producers register None ≡ producer (stations_at (row_at rows) (reverse indices)) register
+  pub each_producer : AreProducers producers (stations_at (row_at rows) (reverse indices))
   pub count : waiting ≡ waiting_count (stations_at (row_at rows) indices)

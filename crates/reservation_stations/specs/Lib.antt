@@ -1,8 +1,9 @@
 pub mod Readiness
-pub mod Mask
-pub mod Waits
+pub mod TurnSet
+pub mod PlaceSet
 pub mod AreTables
 pub mod Turns
 pub mod Changes
-pub mod Covers
 pub mod Places
+pub mod Noting
+pub mod AreSets

@@ -1,6 +1,6 @@
 -- Which instructions of the window wait for an operand: each register is renamed to the youngest older instruction that
 -- writes it (Hennessy and Patterson, Computer Architecture, section 3.4, Tomasulo's algorithm).
-use Rattle.std.specs.Prelude.{ℕ, ◌+◌, ◌==◌, ◌&&◌, if◌then◌else◌, Bool, true, false, Option, Some, None, option_map, List, [], ◌∷◌, length, map, find, reverse, take, slice_get, ◌-◌}
+use Rattle.std.specs.Prelude.{ℕ, ◌+◌, ◌==◌, ◌&&◌, if◌then◌else◌, Bool, true, false, Option, Some, None, option_map, List, [], ◌∷◌, map, find, reverse, take, slice_get}
 use Rattle.reservation_stations.specs.declared.station.Mark.{Mark}
 use Rattle.reservation_stations.specs.declared.station.Mark.TheVariants.{Waiting, Issued, Done, Faulted}
 use Rattle.reservation_stations.specs.declared.station.Station.{Station}
@@ -77,12 +77,9 @@ station_of index stations = find (λ station. station.index == index) stations
 abbrev pub mark_of : ℕ → List Station → Option Mark
 mark_of index stations = option_map (λ (station : Station). station.mark) (station_of index stations)
 
--- the indices of the oldest and of the youngest station
+-- the index of the oldest station
 abbrev pub oldest_index : List Station → Option ℕ
 oldest_index stations = option_map (λ (station : Station). station.index) (slice_get stations 0)
-
-abbrev pub youngest_index : List Station → Option ℕ
-youngest_index stations = option_map (λ (station : Station). station.index) (slice_get stations (length stations - 1))
 
 -- a station, and all of them, with another mark on the one that holds an index
 abbrev pub marked_if : ℕ → Mark → Station → Station

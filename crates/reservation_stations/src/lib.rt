@@ -2,14 +2,16 @@
 //! operand, and which can begin.
 #![tactic(auto)]
 
-mod mask;
+mod place_set;
 mod row;
+mod sets;
 mod station;
 mod stations;
 mod tables;
 #[cfg(test)]
 mod tests;
-mod waits;
+mod turn_set;
 
+pub use place_set::PlaceSet;
 pub use station::{Mark, Station};
 pub use stations::Stations;

@@ -1,10 +1,9 @@
-use crate::mask::Mask;
+use crate::place_set::PlaceSet;
 use crate::row::Row;
+use crate::sets::Sets;
 use crate::station::Mark;
-use crate::tables::{
-    drop_producer, leave, note, note_ready, set_producer, standing, tell, uncounted,
-};
-use crate::waits::Waits;
+use crate::tables::{awaited, drop_producer, rename, set_producer, uncounted};
+use crate::turn_set::TurnSet;
 use fsim_base::NoMemory;
 use std::alloc::Global;
 use std::marker::Model;
@@ -12,8 +11,10 @@ use std::marker::Model;
 /// The instructions of the window that are under way, the oldest first, and which of them wait for
 /// an operand.
 ///
-/// Each register is renamed to its producer, the youngest station that writes it. A station waits
-/// for the producers of its sources that weren't done when it entered, until they wake it or leave.
+/// Each register is renamed to its producer, the youngest station that writes it. A station misses
+/// an operand where its source's producer wasn't done when it entered, until that wakes it or
+/// leaves. Each station has a turn, its place plus how many retired, modulo 256, which doesn't
+/// change while it is there.
 #[derive(Debug, Drop)]
 pub struct Stations {
     /// For each turn, the index of the station that took it last.
@@ -22,16 +23,12 @@ pub struct Stations {
     count: u32,
     /// What each index keeps of the station that holds it.
     rows: Vec<Row>,
-    /// For each index, at least those whose stations wait for its own.
-    dependents: Vec<Mask>,
     /// The index of each register's producer, where it has one.
     producers: Vec<Option<u32>>,
     /// How many wait.
     waiting: u32,
-    /// The places of the stations that wait for nothing but a unit.
-    ready: Mask,
-    /// The places of the stations that execute.
-    executing: Mask,
+    /// By their turns, which wait, which execute and which miss operands.
+    sets: Sets,
     /// How many stations retired, modulo 256.
     retired: u8,
 }
@@ -41,8 +38,8 @@ impl Model for Stations {
     ghost use Rattle.reservation_stations.specs.Readiness.{Window};
     ghost use Rattle.reservation_stations.specs.Turns.{indices_from};
     ghost use Rattle.reservation_stations.specs.AreTables.{AreTables, stations_at, row_at};
-    ghost use Rattle.reservation_stations.specs.Covers.{AreCovered};
-    ghost use Rattle.reservation_stations.specs.Places.{ArePlaced};
+    ghost use Rattle.reservation_stations.specs.Places.{AreTurned};
+    ghost use Rattle.reservation_stations.specs.AreSets.{AreSetsOf};
 
     ghost Value = { Window };
 
@@ -55,24 +52,22 @@ impl Model for Stations {
     ghost invariant = { λ s.
         AreTables (length s.rows.items) (indices_from s.at_turn.items s.retired s.count)
         s.rows.items s.producers.items s.waiting
-        × AreCovered s.rows.items s.dependents.items
-        × ArePlaced s.retired (indices_from s.at_turn.items s.retired s.count)
-        s.rows.items s.ready s.executing
+        × AreTurned s.retired (indices_from s.at_turn.items s.retired s.count) s.rows.items
+        × AreSetsOf (length s.rows.items) s.retired (stations_at (row_at s.rows.items)
+        (indices_from s.at_turn.items s.retired s.count)) s.sets
         × (length s.at_turn.items ≡ 256) };
 }
 
 impl Stations {
-    ghost use Rattle.std.specs.Prelude.{◌≡◌, ◌≢◌, ◌↔◌, ◌<◌, ◌≤◌, ◌-◌, ◌++◌, ◌∷◌, [], ℕ, false};
-    ghost use Rattle.std.specs.Prelude.{length, reverse, take, drop, slice_get, All, AllPairs};
+    ghost use Rattle.std.specs.Prelude.{◌+◌, ◌≡◌, ◌≢◌, ◌<◌, ◌≤◌, ◌++◌, ◌∷◌, [], ℕ, false};
+    ghost use Rattle.std.specs.Prelude.{length, take, drop, slice_get, All, AllPairs};
     ghost use Rattle.std.specs.Prelude.{IsTrue, IsSome, IsNone, IfSome, IfNone, IfOk};
     ghost use Rattle.std.specs.Prelude.{if◌then◌else◌};
     ghost use Rattle.reservation_stations.specs.Readiness.{Window, station_of, mark_of};
-    ghost use Rattle.reservation_stations.specs.Readiness.{oldest_index, youngest_index};
-    ghost use Rattle.reservation_stations.specs.Readiness.{older_than, has_operands, can_begin_at};
-    ghost use Rattle.reservation_stations.specs.Readiness.{executes_at, marked, entered};
-    ghost use Rattle.reservation_stations.specs.Readiness.{waiting_count};
-    ghost use Rattle.reservation_stations.specs.AreTables.{producer_of, awaited};
-    ghost use Rattle.reservation_stations.specs.declared.station.Station.{Station};
+    ghost use Rattle.reservation_stations.specs.Readiness.{oldest_index};
+    ghost use Rattle.reservation_stations.specs.Readiness.{can_begin_at, executes_at};
+    ghost use Rattle.reservation_stations.specs.Readiness.{marked, entered, waiting_count};
+    ghost use Rattle.reservation_stations.specs.PlaceSet.{has};
 
     /// No stations, with so many indices. All memory is taken here, and none later.
     pub fn new(alloc: Global, capacity: u32) -> Result<Stations, NoMemory>
@@ -85,21 +80,19 @@ impl Stations {
         let Ok(rows) = vec![in alloc; Row::free(); capacity as usize] else {
             return Err(NoMemory);
         };
-        let Ok(dependents) = vec![in alloc; Mask::none(); capacity as usize] else {
+        let Ok(producers) = vec![in alloc; None; 256] else {
             return Err(NoMemory);
         };
-        let Ok(producers) = vec![in alloc; None; 256] else {
+        let Ok(sets) = Sets::new(alloc, capacity) else {
             return Err(NoMemory);
         };
         Ok(Stations {
             at_turn,
             count: 0,
             rows,
-            dependents,
             producers,
             waiting: 0,
-            ready: Mask::none(),
-            executing: Mask::none(),
+            sets,
             retired: 0,
         })
     }
@@ -123,28 +116,6 @@ impl Stations {
         self.waiting
     }
 
-    /// The index of the youngest station that writes a register, if one is given.
-    fn producer(&self, register: Option<u8>) -> Option<u32>
-        ensures producer { result ≡ producer_of (reverse self.now.stations) register }
-        ensures within { IfSome result (λ index. index < self.now.capacity) }
-    {
-        let register = register?;
-        self.producers[register as usize]
-    }
-
-    /// The index of the station that has yet to give the value of a source, if one has.
-    fn awaited(&self, source: Option<u8>) -> Option<u32>
-        ensures awaited { result ≡ awaited (reverse self.now.stations) source }
-        ensures within { IfSome result (λ index. index < self.now.capacity) }
-    {
-        let index = self.producer(source)?;
-        if self.rows[index as usize].mark.is_done() {
-            None
-        } else {
-            Some(index)
-        }
-    }
-
     /// Appends the station of an instruction, which waits, at an index that no station holds.
     pub fn enter(&mut self, index: u32, sources: (Option<u8>, Option<u8>), destination: Option<u8>)
         requires within { index < self.old.capacity }
@@ -153,38 +124,21 @@ impl Stations {
           stations = self.old.stations ++ entered index sources.0 sources.1 destination ∷ [];
         } }
     {
-        let first = self.awaited(sources.0);
-        let second = self.awaited(sources.1);
-        let displaced = self.producer(destination);
-        note(&mut self.dependents, first, index);
-        note(&mut self.dependents, second, index);
+        let first = awaited(&self.producers, &self.rows, sources.0);
+        let second = awaited(&self.producers, &self.rows, sources.1);
         let turn = self.retired.wrapping_add(self.count as u8);
-        let row = Row {
+        self.sets.enter(turn, first, second);
+        self.rows[index as usize] = Row {
             first: sources.0,
             second: sources.1,
             destination,
             mark: Mark::Waiting,
-            waits: Waits { first, second },
-            displaced,
             turn,
         };
-        note_ready(&mut self.ready, &row, self.retired);
-        self.rows[index as usize] = row;
         set_producer(&mut self.producers, destination, Some(index));
         self.at_turn[turn as usize] = index as u8;
         self.count += 1;
         self.waiting += 1;
-    }
-
-    /// Whether both operands of the station that holds an index have a value.
-    pub fn ready(&self, index: u32) -> bool
-        requires held { IsSome (station_of index self.now.stations) }
-        ensures ready { (place : ℕ) (station : Station) →
-            slice_get self.now.stations place ≡ Some station → station.index ≡ index →
-            result ≡ has_operands (older_than place self.now.stations) station }
-    {
-        let held = &self.rows[index as usize];
-        held.waits.is_empty()
     }
 
     /// Lets a station that waits execute.
@@ -194,9 +148,7 @@ impl Stations {
           stations = marked index Mark.Issued self.old.stations;
         } }
     {
-        let place = self.rows[index as usize].place(self.retired);
-        self.ready.remove(place);
-        self.executing.insert(place);
+        self.sets.begin(self.rows[index as usize].turn);
         self.rows[index as usize].mark = Mark::Issued;
         self.waiting -= 1;
     }
@@ -209,19 +161,12 @@ impl Stations {
           stations = marked index (if faulted then Mark.Faulted else Mark.Done) self.old.stations;
         } }
     {
-        let place = self.rows[index as usize].place(self.retired);
-        self.executing.remove(place);
+        self.sets.finish(self.rows[index as usize].turn);
         if faulted {
             self.rows[index as usize].mark = Mark::Faulted;
         } else {
             self.rows[index as usize].mark = Mark::Done;
-            tell(
-                &mut self.rows,
-                &mut self.ready,
-                &mut self.dependents,
-                index,
-                self.retired,
-            );
+            self.sets.tell(index);
         }
     }
 
@@ -237,48 +182,27 @@ impl Stations {
             mark,
             ..
         } = self.rows[index as usize];
-        leave(
-            &mut self.rows,
-            &mut self.ready,
-            &mut self.dependents,
-            index,
-            self.retired,
-        );
-        self.rows[index as usize].mark = Mark::Done;
+        self.sets.retire(index, self.retired, mark);
         drop_producer(&mut self.producers, destination, index);
         self.waiting = uncounted(self.waiting, mark);
-        self.ready.shift(self.count);
-        self.executing.shift(self.count);
         self.count -= 1;
         self.retired = self.retired.wrapping_add(1);
     }
 
-    /// Removes the youngest station, whose index is given.
-    pub fn cut(&mut self, index: u32)
-        requires youngest { youngest_index self.old.stations ≡ Some index }
-        ensures cut { self.new ≡ record self.old {
-          stations = take (length self.old.stations - 1) self.old.stations;
-        } }
+    /// Removes the stations from a place on.
+    pub fn keep(&mut self, kept: u32)
+        requires within { kept ≤ length self.old.stations }
+        ensures kept { self.new ≡ record self.old { stations = take kept self.old.stations } }
     {
-        let Row {
-            destination,
-            mark,
-            displaced,
-            ..
-        } = self.rows[index as usize];
-        self.count -= 1;
-        let before = standing(
+        self.count = kept;
+        self.waiting = rename(
+            &mut self.producers,
             &self.at_turn,
             &self.rows,
-            displaced,
             self.retired,
-            self.count,
+            kept,
         );
-        self.ready.remove(self.count);
-        self.executing.remove(self.count);
-        self.rows[index as usize].mark = Mark::Done;
-        set_producer(&mut self.producers, destination, before);
-        self.waiting = uncounted(self.waiting, mark);
+        self.sets.keep(&TurnSet::turns_from(self.retired, kept));
     }
 
     /// The place in the list of the first station from a place on that waits and whose operands
@@ -291,7 +215,15 @@ impl Stations {
         ensures none { IfNone result ((k : ℕ) → from ≤ k →
             can_begin_at self.now.stations k ≡ false) }
     {
-        self.ready.next(from, self.count)
+        let mut block = from / 64 * 64;
+        while block < self.count {
+            let set = self.ready_among(block as u8);
+            if let Some(place) = set.first_from(from) {
+                return Some(place);
+            }
+            block += 64;
+        }
+        None
     }
 
     /// The place in the list of the first station from a place on that executes.
@@ -303,6 +235,47 @@ impl Stations {
         ensures none { IfNone result ((k : ℕ) → from ≤ k →
             executes_at self.now.stations k ≡ false) }
     {
-        self.executing.next(from, self.count)
+        let mut block = from / 64 * 64;
+        while block < self.count {
+            let set = self.executing_among(block as u8);
+            if let Some(place) = set.first_from(from) {
+                return Some(place);
+            }
+            block += 64;
+        }
+        None
+    }
+
+    /// Among the 64 places from one on, those at which a station waits and its operands have
+    /// values.
+    #[inline(always)]
+    pub fn ready_among(&self, from: u8) -> PlaceSet
+        requires inside { from ≤ 192 }
+        ensures ready { (place : ℕ) → from ≤ place → place < from + 64
+            → has result place ≡ can_begin_at self.now.stations place }
+        ensures others { (place : ℕ) → IsTrue (has result place)
+            → (from ≤ place) × (place < from + 64) }
+    {
+        let turn = self.retired.wrapping_add(from);
+        PlaceSet {
+            from,
+            word: self.sets.ready_from(turn),
+        }
+    }
+
+    /// Among the 64 places from one on, those at which a station executes.
+    #[inline(always)]
+    pub fn executing_among(&self, from: u8) -> PlaceSet
+        requires inside { from ≤ 192 }
+        ensures executes { (place : ℕ) → from ≤ place → place < from + 64
+            → has result place ≡ executes_at self.now.stations place }
+        ensures others { (place : ℕ) → IsTrue (has result place)
+            → (from ≤ place) × (place < from + 64) }
+    {
+        let turn = self.retired.wrapping_add(from);
+        PlaceSet {
+            from,
+            word: self.sets.executing_from(turn),
+        }
     }
 }

@@ -29,7 +29,7 @@ fn a_source_waits_for_its_youngest_older_writer(rt: HostRuntime) -> Result<(), F
     stations.wake(3, false);
     assert_eq!(rt; stations.executing(0), None, "none executes any more");
     assert_eq!(rt; seen(&stations), (2, Some(1), Some(2)), "x5 has its value");
-    stations.cut(1);
+    stations.keep(2);
     stations.enter(1, (Some(5), Some(6)), None);
     assert_eq!(rt;
         seen(&stations),

@@ -46,9 +46,10 @@ fn finish_due(flight: &mut InFlight, cycle: u64) -> Option<Redirect>
         { slots = take r.kept flight.new.slots; redirect = Some r.addr }) }
 {
     let len = flight.len();
+    let mut executes = flight.executes();
     let mut from = 0;
     while from < len {
-        let Some(place) = flight.executing(from) else {
+        let Some(place) = flight.executing_next(&mut executes, from) else {
             return None;
         };
         let slot = flight.at(place);

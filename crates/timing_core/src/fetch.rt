@@ -10,6 +10,7 @@ use trace_entry::Entry;
 /// What a try of fetch made.
 #[derive(Clone, Copy, Debug, PartialEq, Eq)]
 pub struct Tried {
+    /// The orders that it made.
     pub orders: Orders,
     /// The instruction was appended to the window; else its cache miss is waited for.
     pub appended: bool,

@@ -163,6 +163,8 @@ impl TimingCore {
             used_in result
             ≡ (turn_of s t.cycle busy (older_at t.slots place) slot (used_in used) t.caches).used }
         ensures size { length self.new.flight.slots ≡ length self.old.flight.slots }
+        ensures behind { (k : ℕ) → place < k → may_start_at self.new.flight.slots k
+            ≡ may_start_at self.old.flight.slots k }
     {
         let slot = self.flight.at(place);
         if !self.may_begin(place, &slot, busy, used) {
@@ -185,10 +187,11 @@ impl TimingCore {
     {
         let busy = self.flight.dividing();
         let len = self.flight.len();
+        let mut ready = self.flight.ready();
         let mut used = Used::none();
         let mut from = 0;
         while from < len {
-            let Some(place) = self.flight.choose(from) else {
+            let Some(place) = self.flight.choose_next(&mut ready, from) else {
                 return;
             };
             used = self.turn(place, busy, used);

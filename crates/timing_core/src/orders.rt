@@ -6,7 +6,9 @@ use rollback_cmds::Order;
 /// which is told before it.
 #[derive(Clone, Copy, Debug, PartialEq, Eq)]
 pub struct Orders {
+    /// The one that is told first.
     pub first: Option<Order>,
+    /// The one that is told behind it.
     pub second: Option<Order>,
 }
 

@@ -2,6 +2,8 @@ use Rattle.std.proofs.Common.{◌≡◌, ℕ, ◌+◌, suc, take, slice_set, len
 use Rattle.reorder_buffer.specs.declared.slot.Slot.{Slot}
 use Rattle.reorder_buffer.specs.Window.{Contents}
 use Rattle.timing_side.specs.Complete.{Completed, finished, completes}
+use Rattle.in_flight.specs.Flight.{executes_at}
+use Rattle.in_flight.proofs.Snapshots.{still, executes_behind}
 use Rattle.timing_core.proofs.Finishing.{completed_from, passes, passes_to, rests_all, executes_there, finishes, redirects, completed_all}
 use Rattle.timing_core.proofs.complete.finish_due.Goals as goal
 use Rattle.timing_core.proofs.complete.finish_due.Goals.{then-is_finishing+else-wrong, else-is_finishing}
@@ -37,6 +39,8 @@ loop-from-preserved c =
           record {
             room = ap (λ (f : Contents). f.capacity) done ∙ c.loop-from.invariant.room;
             count = ap (λ (f : Contents). length f.slots) done ∙ length-set slots place (finished slot) ∙ c.loop-from.invariant.count;
+            executes = still _ _ (place + 1) c.executing_next.new.executes
+                (λ k behind. ap (λ (f : Contents). executes_at f.slots k) done ∙ executes_behind slots place (finished slot) k (omega (arith, behind))) c.in-Some.ensures.left;
             whole =
                 moved c.args.cycle place (slice_set slots place (finished slot)) c.if-is_finishing.flight (completes c.args.cycle c.args.flight.now.slots) (ap (λ (f : Contents). f.slots) done)
                 (c.loop-from.invariant.whole ∙ come
@@ -46,6 +50,7 @@ loop-from-preserved c =
           record {
             room = ap (λ (f : Contents). f.capacity) w.flight-is ∙ c.loop-from.invariant.room;
             count = ap (λ (f : Contents). length f.slots) w.flight-is ∙ c.loop-from.invariant.count;
+            executes = still _ _ (place + 1) c.executing_next.new.executes (λ k behind. ap (λ (f : Contents). executes_at f.slots k) w.flight-is) c.in-Some.ensures.left;
             whole =
                 moved c.args.cycle place slots c.if-is_finishing.flight (completes c.args.cycle c.args.flight.now.slots) (ap (λ (f : Contents). f.slots) w.flight-is)
                 (c.loop-from.invariant.whole ∙ come ∙ passes c.args.cycle place slots slot c.at-slot.ensures.slot (sym c.is_finishing.ensures.due ∙ w.if-is_finishing.false));

@@ -1,4 +1,6 @@
 use Rattle.std.proofs.Common.{◌≡◌, ◌-◌, length}
+use Rattle.in_flight.specs.Flight.{executes_at}
+use Rattle.in_flight.specs.Snapshot.{IsSnapshot}
 use Rattle.timing_side.specs.Complete.{completes}
 use Rattle.timing_core.proofs.Finishing.{completed_from}
 use Rattle.timing_core.proofs.complete.finish_due.Given as goal
@@ -7,6 +9,7 @@ abbrev pub invariant-loop-from : goal.invariant-loop-from
 invariant-loop-from l = record {
   room : l.flight.capacity ≡ l.fn.flight.capacity;
   count : length l.flight.slots ≡ length l.fn.flight.slots;
+  executes : IsSnapshot (executes_at l.flight.slots) l.from l.executes;
   whole : completes l.cycle l.fn.flight.slots ≡ completed_from l.cycle l.from l.flight.slots;
 }
 

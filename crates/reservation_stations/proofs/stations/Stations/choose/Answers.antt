@@ -1,27 +1,45 @@
-use Rattle.std.proofs.Common.{◌≡◌, ℕ, ◌<◌, ◌≤◌, Bool, false, IsTrue, IfSome, IfNone, sym, subst, arith}
-use Rattle.reservation_stations.specs.Places.{IsReady}
-use Rattle.reservation_stations.specs.Turns.{indices_from}
-use Rattle.reservation_stations.proofs.Entering.{all_few}
+use Rattle.std.proofs.Common.{◌∙◌, sym, inl, inr, arith}
+use Rattle.std.proofs.lemmas.Bool.{cases_lt}
+use Rattle.reservation_stations.specs.Readiness.{can_begin_at}
 use Rattle.reservation_stations.proofs.Turns.{length-indices}
-use Rattle.reservation_stations.proofs.Reading.{ready_at}
-use Rattle.reservation_stations.proofs.Places.{none_on}
+use Rattle.reservation_stations.proofs.Entering.{all_few}
+use Rattle.reservation_stations.proofs.Reading.{length_seen}
+use Rattle.reservation_stations.proofs.Among.{none_before, no_begin_past}
 use Rattle.reservation_stations.proofs.stations.Stations.choose.Goals as goal
 
-pub next-requires : goal.next-requires
-next-requires c = record { few = omega (arith, all_few c.self.invariant.0, length-indices c.self.inside.at_turn.items c.self.inside.retired c.self.inside.count) }
+pub loop-block-init : goal.loop-block-init
+loop-block-init c = record { whole = omega arith; none = λ k behind ahead. absurd (omega (arith, behind, ahead)) }
 
-pub returns-clause-found : goal.returns-clause-found
-returns-clause-found c =
-    subst (λ (test : ℕ → Bool). IfSome c.next.result (λ place. IsTrue (test place)))
-    (λ i place. ready_at c.self.invariant.0 c.self.view_is c.self.inside.ready c.self.invariant.2.readies place i) c.next.ensures.found
+pub overflow_cast-block : goal.overflow_cast-block
+overflow_cast-block c = omega (arith, c.loop-block-test.true, all_few c.self.invariant.0, length-indices c.self.inside.at_turn.items c.self.inside.retired c.self.inside.count)
 
-pub returns-clause-first : goal.returns-clause-first
-returns-clause-first c =
-    subst (λ (test : ℕ → Bool). IfSome c.next.result (λ place. (k : ℕ) → c.args.from ≤ k → k < place → test k ≡ false))
-    (λ i place. ready_at c.self.invariant.0 c.self.view_is c.self.inside.ready c.self.invariant.2.readies place i) c.next.ensures.first
+pub ready_among-set-requires : goal.ready_among-set-requires
+ready_among-set-requires c = record { inside = omega (arith, c.loop-block-test.true, c.loop-block.invariant.whole, all_few c.self.invariant.0, length-indices c.self.inside.at_turn.items c.self.inside.retired c.self.inside.count) }
+
+pub overflow_add-block : goal.overflow_add-block
+overflow_add-block c = omega (arith, c.loop-block-test.true, all_few c.self.invariant.0, length-indices c.self.inside.at_turn.items c.self.inside.retired c.self.inside.count)
+
+pub loop-block-smaller : goal.loop-block-smaller
+loop-block-smaller c = omega (arith, c.loop-block-test.true, all_few c.self.invariant.0, length-indices c.self.inside.at_turn.items c.self.inside.retired c.self.inside.count)
+
+pub returns-in-Some-clause-first : goal.returns-in-Some-clause-first
+returns-in-Some-clause-first c = λ k behind ahead. elim (cases_lt k c.loop-block.block) [
+  | inl before ↦ c.loop-block.invariant.none k behind before
+  | inr there ↦
+      let inside = c.ready_among-set.ensures.others c.in-Some.place c.in-Some.ensures.found in
+      sym (c.ready_among-set.ensures.ready k there (omega (arith, ahead, inside.1))) ∙ c.in-Some.ensures.first k behind ahead
+]
+
+pub loop-block-preserved : goal.loop-block-preserved
+loop-block-preserved c = record {
+  whole = omega (arith, c.loop-block.invariant.whole);
+  none = none_before (can_begin_at c.args.self.now.stations) c.args.from c.loop-block.block c.ready_among-set.result
+      c.loop-block.invariant.none c.ready_among-set.ensures.ready c.in_default.ensures.none;
+}
 
 pub returns-clause-none : goal.returns-clause-none
-returns-clause-none c =
-    subst (λ (test : ℕ → Bool). IfNone c.next.result ((k : ℕ) → c.args.from ≤ k → test k ≡ false))
-    (λ i place. ready_at c.self.invariant.0 c.self.view_is c.self.inside.ready c.self.invariant.2.readies place i)
-    (none_on IsReady (indices_from c.self.inside.at_turn.items c.self.inside.retired c.self.inside.count) c.self.inside.rows.items c.self.inside.ready c.self.invariant.2.readies c.next.result c.args.from c.self.inside.count (sym (length-indices c.self.inside.at_turn.items c.self.inside.retired c.self.inside.count)) c.next.ensures.none)
+returns-clause-none c = λ k behind. elim (cases_lt k c.loop-block.block) [
+  | inl before ↦ c.loop-block.invariant.none k behind before
+  | inr past ↦ no_begin_past c.args.self.now.stations k
+      (omega (arith, past, c.loop-block-test.false, length_seen c.self.invariant.0 c.self.view_is, length-indices c.self.inside.at_turn.items c.self.inside.retired c.self.inside.count))
+]

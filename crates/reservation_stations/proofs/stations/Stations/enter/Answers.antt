@@ -1,17 +1,32 @@
-use Rattle.std.proofs.Common.{◌≡◌, ◌∙◌, ◌+◌, ◌%◌, ◌<◌, [], ◌∷◌, ◌++◌, length, arith, refl, ap, sym, ◌||◌}
-use Rattle.std.specs.Prelude.{slice_set}
+use Rattle.std.proofs.Common.{◌≡◌, ◌∙◌, ◌+◌, ◌%◌, ◌<◌, [], ◌∷◌, ◌++◌, ℕ, Some, true, length, reverse, arith, refl, ap, sym, subst}
+use Rattle.std.specs.Prelude.{vec_len, slice_set}
 use Rattle.std.proofs.lemmas.List.{length-set}
 use Rattle.reservation_stations.specs.declared.row.Row.{Row}
 use Rattle.reservation_stations.specs.declared.station.Mark.TheVariants.{Waiting}
-use Rattle.reservation_stations.specs.Mask.{is_index}
-use Rattle.reservation_stations.specs.Readiness.{Window}
+use Rattle.reservation_stations.specs.Readiness.{Window, executes_at}
+use Rattle.reservation_stations.specs.AreTables.{AreHeld, station_in, row_at, stations_at}
 use Rattle.reservation_stations.specs.Turns.{indices_from}
+use Rattle.reservation_stations.specs.Places.{place_of}
+use Rattle.reservation_stations.specs.AreSets.{AreSets, AreSetsOf, Missing, nothing, missing, missing_at, waits_at, put}
 use Rattle.reservation_stations.proofs.Kept.{seen}
 use Rattle.reservation_stations.proofs.Entering.{room, is_fresh, waiting_fits, AreTables-entered, seen-entered, own_tables, own_seen}
-use Rattle.reservation_stations.proofs.Noted.{covered_entered}
 use Rattle.reservation_stations.proofs.Turns.{length-indices, indices_entered}
-use Rattle.reservation_stations.proofs.Places.{entered_placed}
+use Rattle.reservation_stations.proofs.Reading.{all_held, awaited_seen, length_seen}
+use Rattle.reservation_stations.proofs.Places.{turned_entered}
+use Rattle.reservation_stations.proofs.Among.{seen_sets}
+use Rattle.reservation_stations.proofs.Standing.{nothing_yet, place_there}
+use Rattle.reservation_stations.proofs.OfStations.{AreSets-entered}
 use Rattle.reservation_stations.proofs.stations.Stations.enter.Goals as goal
+
+pub awaited-first-requires-clause-held : goal.awaited-first-requires-clause-held
+awaited-first-requires-clause-held c =
+    let long : length c.self.inside.rows.items ≡ vec_len c.self.inside.rows = omega (arith, c.self.inside.rows.ok) in
+    subst (AreHeld c.self.inside.producers.items) long (all_held c.self.invariant.0 c.self.view_is)
+
+pub awaited-second-requires-clause-held : goal.awaited-second-requires-clause-held
+awaited-second-requires-clause-held c =
+    let long : length c.self.inside.rows.items ≡ vec_len c.self.inside.rows = omega (arith, c.self.inside.rows.ok) in
+    subst (AreHeld c.self.inside.producers.items) long (all_held c.self.invariant.0 c.self.view_is)
 
 pub overflow_cast-turn : goal.overflow_cast-turn
 overflow_cast-turn c =
@@ -36,33 +51,59 @@ overflow_add-self-2 c = omega (arith, waiting_fits c.self.invariant.0 c.self.vie
 
 pub invariant_of-self : goal.invariant_of-self
 invariant_of-self c =
-    let within : c.args.index < length c.self.inside.rows.items =
-    omega (arith, c.requires.within, ap (λ (w : Window). w.capacity) c.self.view_is)
-    in
+    let rows = c.self.inside.rows.items in
+    let index = c.args.index in
+    let within : index < length rows = omega (arith, c.requires.within, ap (λ (w : Window). w.capacity) c.self.view_is) in
     let items = c.self.inside.at_turn.items in
     let retired = c.self.inside.retired in
     let count = c.self.inside.count in
     let indices = indices_from items retired count in
     let long : length indices ≡ count = length-indices items retired count in
-    let few : length indices < length c.self.inside.rows.items = room c.self.invariant.0 c.self.view_is c.args.index c.requires.within c.requires.free in
+    let few : length indices < length rows = room c.self.invariant.0 c.self.view_is index c.requires.within c.requires.free in
     let fits : count < 256 = omega (arith, few, long, c.self.invariant.0.limit) in
     let turn = (retired + count) % 256 in
-    let behind : indices_from (slice_set items turn c.args.index) retired (count + 1) ≡ indices ++ c.args.index ∷ [] =
-    indices_entered items retired count turn c.args.index c.self.invariant.3 fits refl
+    let behind : indices_from (slice_set items turn index) retired (count + 1) ≡ indices ++ index ∷ [] =
+    indices_entered items retired count turn index c.self.invariant.3 fits refl
+    in
+    let row : Row = record {
+      first = c.args.sources.0;
+      second = c.args.sources.1;
+      destination = c.args.destination;
+      mark = Waiting;
+      turn = turn;
+    } in
+    let stations = c.args.self.now.stations in
+    let station = station_in index row in
+    let many : length stations ≡ count = length_seen c.self.invariant.0 c.self.view_is ∙ long in
+    let there : place_of retired turn ≡ length stations = place_there retired count (omega arith) fits ∙ sym many in
+    let old : AreSetsOf (length rows) retired stations c.self.inside.sets =
+    seen_sets (length rows) retired c.self.inside.sets (seen (length rows) indices rows) c.args.self.now c.self.invariant.2 c.self.view_is
+    in
+    let missed : ℕ → Missing = λ u. missing_at stations (place_of retired u) in
+    let free : missed turn ≡ nothing = nothing_yet missing nothing (λ older. refl) retired (omega arith) stations station (omega (arith, many, fits)) turn (omega arith) there in
+    let entered = c.enter.ensures.entered (length rows) _ _ missed free old in
+    let value : record { first = c.awaited-first.result; second = c.awaited-second.result } ≡ missing (reverse stations) (Some station) =
+    λ i. record {
+      first = (c.awaited-first.ensures.awaited (stations_at (row_at rows) (reverse indices)) c.self.invariant.0.each_producer ∙ awaited_seen c.self.invariant.0 c.self.view_is c.args.sources.0) i;
+      second = (c.awaited-second.ensures.awaited (stations_at (row_at rows) (reverse indices)) c.self.invariant.0.each_producer ∙ awaited_seen c.self.invariant.0 c.self.view_is c.args.sources.1) i;
+    }
+    in
+    let now : AreSetsOf (length rows) retired (stations ++ station ∷ []) c.enter.new.self =
+    AreSets-entered stations station retired turn refl refl (omega arith) (omega (arith, many, fits)) (omega arith) there
+    (subst (λ (v : Missing). AreSets (length rows) (put turn true (λ u. waits_at stations (place_of retired u))) (λ u. executes_at stations (place_of retired u)) (put turn v missed) c.enter.new.self) value entered)
+    in
+    let seen_now = seen-entered c.self.invariant.0 c.self.view_is index c.requires.within c.requires.free row in
+    let own : AreSetsOf (length rows) retired (stations_at (row_at (slice_set rows index row)) (indices ++ index ∷ [])) c.enter.new.self =
+    subst (λ (w : Window). AreSetsOf (length rows) retired w.stations c.enter.new.self) (sym seen_now) now
     in (
-      own_tables {capacity = length c.self.inside.rows.items} (rw behind
-          (AreTables-entered c.self.invariant.0 c.self.view_is c.args.index c.requires.within c.requires.free _ c.set_producer.new.producers.items
-          (λ k i. is_index k (c.awaited-first.ensures.awaited i) || is_index k (c.awaited-second.ensures.awaited i))
-          c.producer-displaced.ensures.producer refl c.set_producer.ensures.set)),
-      covered_entered c.self.inside.rows.items c.self.inside.dependents.items c.note.new.dependents.items c.note-2.new.dependents.items c.args.index
-          c.awaited-first.result c.awaited-second.result _ c.self.invariant.1 c.note.ensures.noted c.note-2.ensures.noted
-          within
-          (λ k. refl),
+      own_tables {capacity = length rows} (rw behind
+          (AreTables-entered c.self.invariant.0 c.self.view_is index c.requires.within c.requires.free row c.set_producer.new.producers.items
+          refl c.set_producer.ensures.set)),
       rw behind
-          (entered_placed retired c.args.index indices c.self.inside.rows.items c.self.inside.ready c.self.inside.executing c.note_ready.new.ready _ c.self.invariant.2
-          (omega arith) (omega (arith, fits, long)) (is_fresh c.self.invariant.0 c.self.view_is c.args.index c.requires.within c.requires.free) within refl
-          (ap (λ n. (retired + n) % 256) (sym long)) c.note_ready.ensures.noted),
-      length-set items turn c.args.index ∙ c.self.invariant.3,
+          (turned_entered retired indices rows index row c.self.invariant.1 within (is_fresh c.self.invariant.0 c.self.view_is index c.requires.within c.requires.free)
+          (omega arith) (omega (arith, fits, long)) (ap (λ n. (retired + n) % 256) (sym long))),
+      rw (behind, length-set rows index row) own,
+      length-set items turn index ∙ c.self.invariant.3,
     )
 
 pub returns : goal.returns
@@ -79,8 +120,6 @@ returns c =
       second = c.args.sources.1;
       destination = c.args.destination;
       mark = Waiting;
-      waits = record { first = c.awaited-first.result; second = c.awaited-second.result };
-      displaced = c.producer-displaced.result;
       turn = (retired + count) % 256;
     } in
     let new = slice_set rows c.args.index row in

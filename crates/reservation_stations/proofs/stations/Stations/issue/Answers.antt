@@ -1,16 +1,17 @@
-use Rattle.std.proofs.Common.{◌≡◌, ◌∙◌, ap, sym, arith, refl, length}
+use Rattle.std.proofs.Common.{◌≡◌, ap, sym, arith, refl, length}
 use Rattle.std.specs.Prelude.{slice_set}
 use Rattle.std.proofs.lemmas.List.{get_or_read, length-set}
 use Rattle.reservation_stations.specs.declared.row.Row.{Row}
 use Rattle.reservation_stations.specs.declared.station.Mark.TheVariants.{Waiting, Issued}
-use Rattle.reservation_stations.specs.Readiness.{is_waiting}
-use Rattle.reservation_stations.specs.AreTables.{row_at, free_row}
-use Rattle.reservation_stations.specs.Places.{place_in}
+use Rattle.reservation_stations.specs.AreTables.{row_at, free_row, stations_at}
+use Rattle.reservation_stations.specs.Places.{place_of}
+use Rattle.reservation_stations.specs.AreSets.{missing_at}
 use Rattle.reservation_stations.specs.Turns.{indices_from}
 use Rattle.reservation_stations.proofs.Entering.{own_tables, own_seen}
-use Rattle.reservation_stations.proofs.Kept.{held_with, some_wait, AreTables-fewer, seen-written}
-use Rattle.reservation_stations.proofs.Noted.{covered_marked}
-use Rattle.reservation_stations.proofs.Places.{issued_placed}
+use Rattle.reservation_stations.proofs.Kept.{none, held_with, some_wait, AreTables-fewer, seen-written}
+use Rattle.reservation_stations.proofs.Places.{turned_marked}
+use Rattle.reservation_stations.proofs.Feeding.{losing_none}
+use Rattle.reservation_stations.proofs.OfStations.{AreSets-marked}
 use Rattle.reservation_stations.proofs.stations.Stations.issue.Goals as goal
 
 pub index-requires : goal.index-requires
@@ -26,16 +27,19 @@ overflow_sub-self c =
 pub invariant_of-self : goal.invariant_of-self
 invariant_of-self c =
     let rows = c.self.inside.rows.items in
+    let retired = c.self.inside.retired in
     let index = c.args.index in
+    let indices = indices_from c.self.inside.at_turn.items retired c.self.inside.count in
     let held = held_with c.self.invariant.0 c.self.view_is index Waiting c.requires.waiting in
     let row = c.index_mut.result.now in
     let read : row ≡ row_at rows index = get_or_read rows index row held.0 c.index_mut.ensures.value free_row in
     let first : c.index.result.now ≡ row_at rows index = get_or_read rows index c.index.result.now held.0 c.index.ensures free_row in (
       own_tables (AreTables-fewer c.self.invariant.0 c.self.view_is index Waiting Issued c.requires.waiting row c.index_mut.ensures.value refl refl refl),
-      covered_marked rows c.self.inside.dependents.items index c.self.invariant.1 row Issued held.0 c.index_mut.ensures.value,
-      issued_placed c.self.inside.retired (indices_from c.self.inside.at_turn.items c.self.inside.retired c.self.inside.count) rows c.self.inside.ready c.self.inside.executing c.remove.new.self c.insert.new.self index c.place-place.result row
-          c.self.invariant.2 held.0 read (ap (λ (e : Row). is_waiting e.mark) read ∙ ap is_waiting held.1)
-          (c.place-place.ensures.place ∙ ap (place_in c.self.inside.retired) (first ∙ sym read)) c.remove.ensures.removed c.insert.ensures.inserted,
+      turned_marked retired indices rows index (record row { mark = Issued }) c.self.invariant.1 held.0 (ap (λ (e : Row). e.turn) read),
+      AreSets-marked c.self.invariant.0 c.self.view_is index Waiting Issued c.requires.waiting row c.index_mut.ensures.value retired (omega arith) c.self.invariant.1
+          c.index.result.now.turn (omega arith) (ap (λ (e : Row). e.turn) (sym first)) none (λ other differ. refl) refl
+          (c.begin.ensures.began (length rows) _ _ _ c.self.invariant.2) (λ t within. refl) (λ t within. refl)
+          (λ t within. sym (losing_none (missing_at (stations_at (row_at rows) indices) (place_of retired t)))),
       c.self.invariant.3,
     )
 

@@ -1,6 +1,8 @@
 use Rattle.std.proofs.Common.{◌≡◌, ◌-◌, length}
 use Rattle.mono_model.specs.declared.setup.Setup.{Setup}
 use Rattle.timing_side.specs.Timing.{Timing}
+use Rattle.in_flight.specs.Flight.{may_start_at}
+use Rattle.in_flight.specs.Snapshot.{IsSnapshot}
 use Rattle.timing_core.specs.CoreStandsFor.{CoreStandsFor}
 use Rattle.timing_core.specs.Small.{IsSmall}
 use Rattle.timing_core.specs.Units.{used_in}
@@ -10,6 +12,7 @@ use Rattle.timing_core.proofs.state.TimingCore.issue_all.Given as goal
 abbrev pub invariant-loop-from : goal.invariant-loop-from
 invariant-loop-from l = record {
   size : length l.self.flight.slots ≡ l.len;
+  ready : IsSnapshot (may_start_at l.self.flight.slots) l.from l.ready;
   walked : (s : Setup) (t : Timing) → CoreStandsFor s t l.fn.self → IsSmall t → HasWalked s t l.busy l.self l.from (used_in l.used);
 }
 

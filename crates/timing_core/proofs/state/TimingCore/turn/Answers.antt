@@ -3,10 +3,12 @@ use Rattle.std.proofs.lemmas.Option.{slice_get_within}
 use Rattle.std.specs.Prelude.{slice_set}
 use Rattle.reorder_buffer.specs.declared.slot.Slot.{Slot}
 use Rattle.reorder_buffer.specs.declared.slot.SlotState.TheVariants.{Until}
+use Rattle.reorder_buffer.specs.Window.{Contents}
 use Rattle.mono_model.specs.declared.params.Params.{Params}
 use Rattle.mono_model.specs.Issue.{latency_of, cached}
 use Rattle.timing_side.specs.Issue.{Turned}
-use Rattle.in_flight.specs.Flight.{older_at}
+use Rattle.in_flight.specs.Flight.{older_at, may_start_at}
+use Rattle.in_flight.proofs.Snapshots.{begun_behind, waits_there}
 use Rattle.timing_core.specs.Units.{used_in}
 use Rattle.timing_core.proofs.Walks.{turn_begins, turn_rests}
 use Rattle.timing_core.proofs.Issuing.{same_found, same_test, IsTurned, turn_at, rests, begins, end_cycle}
@@ -65,3 +67,13 @@ returns-clause-used c = λ s t slot k small at.
     c.with.ensures.counted
     ∙ sym (ap (λ (turned : Turned). turned.used) (turn_begins s t.cycle busy (older_at t.slots place) found used t.caches test))
     ∙ ap (λ (x : Slot). (turn_at s t core place busy used x).used) same
+
+pub returns-clause-behind : goal.returns-clause-behind
+returns-clause-behind c = λ k behind.
+    let slots = c.args.self.now.flight.slots in let place = c.args.place in let found = c.at-slot.result in
+    let until = c.saturating_add-until.result in
+    let Begun : Option Slot → Type 0 = λ at_place. IfSome at_place
+    (λ x. c.begin.new.self ≡ record c.args.self.now.flight { slots = slice_set slots place (record x { state = Until until }) }) in
+    let begun = subst Begun c.at-slot.ensures.slot c.begin.ensures.begun in
+    ap (λ (f : Contents). may_start_at f.slots k) begun ∙ begun_behind slots place until found c.at-slot.ensures.slot
+    (waits_there slots place found c.requires.ready c.at-slot.ensures.slot) k behind

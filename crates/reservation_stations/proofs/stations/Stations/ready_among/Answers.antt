@@ -1,0 +1,17 @@
+use Rattle.std.proofs.Common.{length, rules, arith}
+use Rattle.reservation_stations.specs.Turns.{indices_from}
+use Rattle.reservation_stations.proofs.Kept.{seen}
+use Rattle.reservation_stations.proofs.Among.{seen_sets, ready_there, has_within}
+use Rattle.reservation_stations.proofs.stations.Stations.ready_among.Goals as goal
+
+pub returns-clause-ready : goal.returns-clause-ready
+returns-clause-ready c place behind inside =
+    let rows = c.self.inside.rows.items in
+    let retired = c.self.inside.retired in
+    ready_there (length rows) retired c.args.self.now.stations c.self.inside.sets
+    (seen_sets (length rows) retired c.self.inside.sets (seen (length rows) (indices_from c.self.inside.at_turn.items retired c.self.inside.count) rows) c.args.self.now
+    c.self.invariant.2 c.self.view_is)
+    (omega arith) c.args.from c.ready_from.result c.requires.inside place behind inside c.ready_from.ensures.word
+
+pub returns-clause-others : goal.returns-clause-others
+returns-clause-others c place there = has_within c.args.from c.ready_from.result place (search rules) there

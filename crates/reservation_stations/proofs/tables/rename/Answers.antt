@@ -1,0 +1,64 @@
+use Rattle.std.proofs.Common.{◌≡◌, ◌∙◌, ◌+◌, ◌%◌, ◌<◌, length, Some, ap, sym, arith, subst}
+use Rattle.std.specs.Prelude.{vec_len}
+use Rattle.std.proofs.lemmas.List.{get_or_read}
+use Rattle.reservation_stations.specs.Readiness.{is_waiting}
+use Rattle.reservation_stations.specs.AreTables.{row_at, free_row}
+use Rattle.reservation_stations.proofs.Leaving.{length-with_producer}
+use Rattle.reservation_stations.proofs.Keeping.{producers_more, waiting_more, waiting_within, counted_one, counted_within, Each-turn}
+use Rattle.reservation_stations.proofs.tables.rename.Goals as goal
+
+pub index-requires-in-loop-place : goal.index-requires-in-loop-place
+index-requires-in-loop-place c =
+    let turns = c.args.at_turn.now.items in
+    let own = (c.args.from + c.loop-place.place) % 256 in
+    let inside : own < length turns = omega (arith, c.requires.every_turn, c.args.at_turn.now.ok) in
+    let read = c.from-index.ensures ∙ get_or_read turns own c.index.result.now inside c.index.ensures 0 in
+    subst (λ s. s < vec_len c.args.rows.now) (sym read)
+    (Each-turn (λ s. s < vec_len c.args.rows.now) turns c.args.from c.args.count c.loop-place.place c.loop-place-test.true c.requires.within)
+
+pub overflow_add-waiting : goal.overflow_add-waiting
+overflow_add-waiting c =
+    let turns = c.args.at_turn.now.items in
+    let place = c.loop-place.place in
+    omega (
+      arith,
+      c.requires.few,
+      c.loop-place-test.true,
+      c.loop-place.invariant.waiting,
+      waiting_within turns c.args.from place c.args.rows.now.items,
+      c.from-waiting.ensures,
+      counted_within c.is_waiting.result,
+    )
+
+pub loop-place-preserved : goal.loop-place-preserved
+loop-place-preserved c =
+    let turns = c.args.at_turn.now.items in
+    let rows = c.args.rows.now.items in
+    let place = c.loop-place.place in
+    let own = (c.args.from + place) % 256 in
+    let index = c.from-index.result in
+    let row = c.index-in-loop-place.result.now in
+    let old = c.loop-place.producers in
+    let new = c.set_producer.new.producers in
+    let inside : own < length turns = omega (arith, c.requires.every_turn, c.args.at_turn.now.ok) in
+    let read = c.from-index.ensures ∙ get_or_read turns own c.index.result.now inside c.index.ensures 0 in
+    let below : index < vec_len c.args.rows.now =
+    subst (λ s. s < vec_len c.args.rows.now) (sym read)
+    (Each-turn (λ s. s < vec_len c.args.rows.now) turns c.args.from c.args.count place c.loop-place-test.true c.requires.within)
+    in
+    let is : row ≡ row_at rows index = get_or_read rows index row (omega (arith, below, c.args.rows.now.ok)) c.index-in-loop-place.ensures free_row in
+    record {
+      every_register = omega (
+        arith,
+        c.loop-place.invariant.every_register,
+        old.ok,
+        new.ok,
+        ap length c.set_producer.ensures.set,
+        length-with_producer row.destination (Some index) old.items,
+      );
+      renamed = producers_more turns c.args.from place rows index read row is old.items new.items
+          (omega (arith, c.loop-place.invariant.every_register, old.ok)) c.loop-place.invariant.renamed c.set_producer.ensures.set;
+      waiting = ap (λ n. c.loop-place.waiting + n) c.from-waiting.ensures
+          ∙ counted_one c.loop-place.waiting (is_waiting row.mark) c.is_waiting.result c.is_waiting.ensures
+          ∙ waiting_more turns c.args.from place rows index read row is c.loop-place.waiting c.loop-place.invariant.waiting;
+    }

@@ -1,0 +1,6 @@
+use Rattle.std.proofs.Common.{rules}
+use Rattle.reservation_stations.proofs.Words.{is_set-without}
+use Rattle.reservation_stations.proofs.turn_set.TurnSet.remove.Goals as goal
+
+pub returns : goal.returns
+returns c = record { removed = is_set-without c.args.self.now.words c.args.turn c.ranges.turn.fits (search rules) (search rules) }

@@ -1,0 +1,194 @@
+//! What is known of each station by its turn: whether it waits, executes, and misses operands.
+ghost use Rattle.std.specs.Prelude.{◌≡◌, ℕ, ◌+◌, ◌%◌, ◌<◌, ◌==◌, ◌&&◌, not, true, false, Bool};
+ghost use Rattle.std.specs.Prelude.{◌||◌, is_some, vec_len, IfOk, if◌then◌else◌};
+ghost use Rattle.std.specs.Option.{ForSome};
+ghost use Rattle.std.specs.Int.{bit_at};
+ghost use Rattle.reservation_stations.specs.Readiness.{is_done};
+ghost use Rattle.reservation_stations.specs.TurnSet.{holds};
+ghost use Rattle.reservation_stations.specs.Noting.{Notes, Keeps};
+ghost use Rattle.reservation_stations.specs.AreSets.{AreSets, Missing, nothing, awaits, are_two};
+ghost use Rattle.reservation_stations.specs.AreSets.{fed, put};
+
+use crate::station::Mark;
+use crate::turn_set::TurnSet;
+use fsim_base::NoMemory;
+use std::alloc::Global;
+
+/// The turns of the stations of which something is true.
+#[derive(Debug, Drop)]
+pub struct Sets {
+    /// Those that wait, for operands or a unit.
+    idle: TurnSet,
+    /// Those that execute.
+    executing: TurnSet,
+    /// Those that miss an operand.
+    short: TurnSet,
+    /// Those that miss both, of two stations.
+    both: TurnSet,
+    /// For each index, those that await the value of its station.
+    dependents: Vec<TurnSet>,
+}
+
+impl Sets {
+    /// The sets of no stations, with so many indices.
+    pub fn new(alloc: Global, capacity: u32) -> Result<Sets, NoMemory>
+        ensures empty { IfOk result (λ it. AreSets capacity (λ turn. false) (λ turn. false)
+            (λ turn. nothing) it) }
+    {
+        let Ok(dependents) = vec![in alloc; TurnSet::none(); capacity as usize] else {
+            return Err(NoMemory);
+        };
+        Ok(Sets {
+            idle: TurnSet::none(),
+            executing: TurnSet::none(),
+            short: TurnSet::none(),
+            both: TurnSet::none(),
+            dependents,
+        })
+    }
+
+    /// A station takes a turn. It waits, and awaits the values of these indices, if they are given.
+    #[inline(always)]
+    pub fn enter(&mut self, turn: u8, first: Option<u32>, second: Option<u32>)
+        requires inside { ForSome first (λ index. index < vec_len self.old.dependents) }
+        requires inside_second { ForSome second (λ index. index < vec_len self.old.dependents) }
+        ensures entered { (capacity : ℕ) (idles executes : ℕ → Bool) (missed : ℕ → Missing)
+            → missed turn ≡ nothing → AreSets capacity idles executes missed self.old
+            → AreSets capacity (put turn true idles) executes
+            (put turn (record { first = first; second = second }) missed) self.new }
+    {
+        note(&mut self.dependents, first, turn);
+        note(&mut self.dependents, second, turn);
+        self.idle.insert(turn);
+        self.short.insert_if(turn, is_either(first, second));
+        self.both.insert_if(turn, are_two(first, second));
+    }
+
+    /// The station of a turn waits no longer, and executes.
+    #[inline(always)]
+    pub fn begin(&mut self, turn: u8)
+        ensures began { (capacity : ℕ) (idles executes : ℕ → Bool) (missed : ℕ → Missing)
+            → AreSets capacity idles executes missed self.old
+            → AreSets capacity (put turn false idles) (put turn true executes) missed self.new }
+    {
+        self.idle.remove(turn);
+        self.executing.insert(turn);
+    }
+
+    /// The station of a turn executes no longer.
+    #[inline(always)]
+    pub fn finish(&mut self, turn: u8)
+        ensures finished { (capacity : ℕ) (idles executes : ℕ → Bool) (missed : ℕ → Missing)
+            → AreSets capacity idles executes missed self.old
+            → AreSets capacity idles (put turn false executes) missed self.new }
+    {
+        self.executing.remove(turn);
+    }
+
+    /// No station awaits the value of an index any longer.
+    #[inline(always)]
+    pub fn tell(&mut self, index: u32)
+        requires inside { index < vec_len self.old.dependents }
+        ensures told { (capacity : ℕ) (idles executes : ℕ → Bool) (missed : ℕ → Missing)
+            → AreSets capacity idles executes missed self.old
+            → AreSets capacity idles executes (λ turn. fed index (missed turn)) self.new }
+    {
+        let told = self.dependents[index as usize];
+        // Those that missed this one alone miss none now.
+        let mut all_there = told;
+        all_there.take_out(&self.both);
+        self.short.take_out(&all_there);
+        self.both.take_out(&told);
+        self.dependents[index as usize] = TurnSet::none();
+    }
+
+    /// The station of an index, which has this turn and this mark, leaves as the oldest. One that
+    /// is done is in no set, and none awaits its value.
+    #[inline(always)]
+    pub fn retire(&mut self, index: u32, turn: u8, mark: Mark)
+        requires inside { index < vec_len self.old.dependents }
+        ensures retired { (capacity : ℕ) (idles executes : ℕ → Bool) (missed : ℕ → Missing)
+            → AreSets capacity idles executes missed self.old
+            → (is_done mark ≡ true → (idles turn ≡ false) × (executes turn ≡ false)
+            × ((other : ℕ) → other < 256 → awaits index (missed other) ≡ false))
+            → AreSets capacity (put turn false idles) (put turn false executes)
+            (λ other. fed index (missed other)) self.new }
+    {
+        if !mark.is_done() {
+            self.tell(index);
+            self.idle.remove(turn);
+            self.executing.remove(turn);
+        }
+    }
+
+    /// The stations of these turns stay, and no others.
+    pub fn keep(&mut self, live: &TurnSet)
+        ensures kept { (capacity : ℕ) (idles executes : ℕ → Bool) (missed : ℕ → Missing)
+            → AreSets capacity idles executes missed self.old
+            → AreSets capacity (λ turn. idles turn && holds live.now turn)
+            (λ turn. executes turn && holds live.now turn)
+            (λ turn. if holds live.now turn then missed turn else nothing) self.new }
+    {
+        self.idle.keep(live);
+        self.executing.keep(live);
+        self.short.keep(live);
+        self.both.keep(live);
+        keep_each(&mut self.dependents, live);
+    }
+
+    /// Of the 64 turns from one on, around behind the last, those whose stations wait and miss no
+    /// operand, as a word.
+    #[inline(always)]
+    pub fn ready_from(&self, turn: u8) -> u64
+        ensures word { (k : ℕ) → k < 64 → (bit_at result k == 1) ≡ (holds self.now.idle
+            ((turn + k) % 256) && not (holds self.now.short ((turn + k) % 256))) }
+    {
+        self.idle.word_from(turn) & !self.short.word_from(turn)
+    }
+
+    /// Of the 64 turns from one on, around behind the last, those whose stations execute, as a
+    /// word.
+    #[inline(always)]
+    pub fn executing_from(&self, turn: u8) -> u64
+        ensures word { (k : ℕ) → k < 64
+            → (bit_at result k == 1) ≡ holds self.now.executing ((turn + k) % 256) }
+    {
+        self.executing.word_from(turn)
+    }
+}
+
+/// Whether one of two indices is given.
+#[inline(always)]
+fn is_either(first: Option<u32>, second: Option<u32>) -> bool
+    ensures either { result ≡ (is_some first || is_some second) }
+{
+    first.is_some() || second.is_some()
+}
+
+/// Whether both are given, and differ.
+#[inline(always)]
+fn are_two(first: Option<u32>, second: Option<u32>) -> bool
+    ensures two { result ≡ are_two first second }
+{
+    first.is_some() && second.is_some() && first != second
+}
+
+/// Notes a turn among those that await the value of an index, if one is given.
+#[inline(always)]
+fn note(dependents: &mut Vec<TurnSet>, on: Option<u32>, turn: u8)
+    requires inside { ForSome on (λ index. index < vec_len dependents.old) }
+    ensures noted { Notes on turn dependents.old.items dependents.new.items }
+{
+    if let Some(on) = on {
+        dependents[on as usize].insert(turn);
+    }
+}
+
+/// Keeps these turns alone among those that await the value of each index.
+fn keep_each(dependents: &mut Vec<TurnSet>, live: &TurnSet)
+    ensures kept { Keeps live.now dependents.old.items dependents.new.items }
+{
+    for turns in dependents.iter_mut() {
+        turns.keep(live);
+    }
+}

@@ -1,0 +1,114 @@
+//! A set of turns, in four words.
+ghost use Rattle.std.specs.Prelude.{◌≡◌, ◌+◌, ◌-◌, ◌%◌, ◌<◌, ◌≤◌, ◌==◌, ◌&&◌, ◌||◌, not, ℕ};
+ghost use Rattle.std.specs.Prelude.{false, nat_lt};
+ghost use Rattle.std.specs.Int.{bit_at};
+ghost use Rattle.reservation_stations.specs.TurnSet.{holds};
+ghost use Rattle.reservation_stations.specs.Places.{place_of};
+
+/// A set of turns.
+#[derive(Clone, Copy, Debug, PartialEq, Eq)]
+pub struct TurnSet {
+    /// Bit `turn % 64` of word `turn / 64` tells whether a turn is in the set.
+    words: [u64; 4],
+}
+
+impl TurnSet {
+    /// The empty set.
+    pub fn none() -> TurnSet
+        ensures none { (turn : ℕ) → holds result turn ≡ false }
+    {
+        TurnSet { words: [0; 4] }
+    }
+
+    /// So many turns from one on, around behind the last.
+    pub fn turns_from(from: u8, count: u32) -> TurnSet
+        requires few { count ≤ 256 }
+        ensures those { (turn : ℕ) → turn < 256
+            → holds result turn ≡ nat_lt (place_of from turn) count }
+    {
+        let mut set = TurnSet::none();
+        for place in 0..count {
+            set.insert(from.wrapping_add(place as u8));
+        }
+        set
+    }
+
+    /// Puts a turn into the set.
+    pub fn insert(&mut self, turn: u8)
+        ensures inserted { (other : ℕ)
+            → holds self.new other ≡ (holds self.old other || (other == turn)) }
+    {
+        self.words[(turn / 64) as usize] |= 1 << (turn % 64);
+    }
+
+    /// Puts a turn into the set, if it is to be there.
+    pub fn insert_if(&mut self, turn: u8, there: bool)
+        ensures inserted { (other : ℕ)
+            → holds self.new other ≡ (holds self.old other || (there && (other == turn))) }
+    {
+        self.words[(turn / 64) as usize] |= u64::from(there) << (turn % 64);
+    }
+
+    /// Takes a turn out of the set.
+    pub fn remove(&mut self, turn: u8)
+        ensures removed { (other : ℕ)
+            → holds self.new other ≡ (holds self.old other && not (other == turn)) }
+    {
+        self.words[(turn / 64) as usize] &= !(1 << (turn % 64));
+    }
+
+    /// Takes the turns of another set out of it.
+    #[inline(always)]
+    pub fn take_out(&mut self, other: &TurnSet)
+        ensures taken { (turn : ℕ)
+            → holds self.new turn ≡ (holds self.old turn && not (holds other.now turn)) }
+    {
+        let [first, second, third, fourth] = self.words;
+        let [no_first, no_second, no_third, no_fourth] = other.words;
+        self.words = [
+            first & !no_first,
+            second & !no_second,
+            third & !no_third,
+            fourth & !no_fourth,
+        ];
+    }
+
+    /// Keeps those of the turns that another set holds.
+    #[inline(always)]
+    pub fn keep(&mut self, other: &TurnSet)
+        ensures kept { (turn : ℕ)
+            → holds self.new turn ≡ (holds self.old turn && holds other.now turn) }
+    {
+        let [first, second, third, fourth] = self.words;
+        let [in_first, in_second, in_third, in_fourth] = other.words;
+        self.words = [
+            first & in_first,
+            second & in_second,
+            third & in_third,
+            fourth & in_fourth,
+        ];
+    }
+
+    /// The 64 turns from one on, around behind the last, as a word: the first as its lowest bit.
+    #[inline(always)]
+    pub fn word_from(&self, turn: u8) -> u64
+        ensures word { (k : ℕ) → k < 64
+            → (bit_at result k == 1) ≡ holds self.now ((turn + k) % 256) }
+    {
+        let word = self.words[(turn / 64) as usize];
+        let next = self.words[(turn / 64 + 1) as usize % 4];
+        joined(word, next, turn % 64)
+    }
+}
+
+/// The upper bits of a word from one on, and above them the lower ones of the next.
+#[inline(always)]
+fn joined(word: u64, next: u64, from: u8) -> u64
+    requires within { from < 64 }
+    ensures word { (k : ℕ) → k + from < 64 → bit_at result k ≡ bit_at word (k + from) }
+    ensures next { (k : ℕ) → k < 64 → 64 ≤ k + from
+        → bit_at result k ≡ bit_at next (k + from - 64) }
+{
+    // A shift by 64 isn't one, so the next word goes up in two steps.
+    (word >> from) | (next << 1 << (63 - from))
+}
