@@ -5,11 +5,8 @@ use fsim_base::NoMemory;
 use mono_model::{End, Setup, Stats};
 use std::alloc::Global;
 use std::marker::Model;
-use time_model::{Stepping, Taken, Turn};
+use time_model::{STEPS, Stepping, Taken, Turn};
 use trace_entry::Entry;
-
-/// No call of [`InorderSide::run`] makes more steps.
-const STEPS: u32 = 64;
 
 /// The timing side of the in-order machine. It stands for a setup and a number of steps of its
 /// demand run: it makes the steps, tells their orders, and is handed the entries that they need.

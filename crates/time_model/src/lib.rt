@@ -10,6 +10,6 @@ mod telling;
 mod turn;
 
 pub use side::{Taken, TimeSide};
-pub use stepping::Stepping;
+pub use stepping::{STEPS, Stepping};
 pub use telling::Telling;
 pub use turn::Turn;

@@ -1,7 +1,7 @@
 ghost use Rattle.std.specs.Prelude.{◌≡◌, ◌↔◌, ◌&&◌, ℕ, true, Some, None, IfOk, is_none};
 
 use crate::state::TimeState;
-use crate::stepping::Stepping;
+use crate::stepping::{STEPS, Stepping};
 use crate::turn::Turn;
 use fsim_base::NoMemory;
 use mono_model::{End, Setup, Stats};
@@ -9,13 +9,10 @@ use std::alloc::Global;
 use std::marker::Model;
 use trace_entry::Entry;
 
-/// No call of [`TimeSide::run`] makes more steps.
-const STEPS: u32 = 64;
-
 /// What became of an entry that was handed over.
 #[derive(Clone, Copy, Debug, PartialEq, Eq)]
 pub enum Taken {
-    /// It is held for the next try.
+    /// It is of the side's epoch: held for the next try, or tried at once where it is fed.
     Used,
     /// It is of another epoch, and of no use.
     Dropped,

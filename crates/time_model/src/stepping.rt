@@ -3,6 +3,9 @@ ghost use Rattle.std.specs.Prelude.{◌≡◌, Bool, true, false, unwrap_or};
 use crate::turn::Turn;
 use rollback_cmds::Order;
 
+/// No run of a timing side makes more steps in one call.
+pub const STEPS: u32 = 64;
+
 /// A timing side that makes its turns one by one, each behind what the last one still has to tell.
 /// A step and a run are the same of every such side.
 pub trait Stepping: Drop {
