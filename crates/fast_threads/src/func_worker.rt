@@ -1,7 +1,7 @@
 ghost use Rattle.std.specs.Prelude.{◌≡◌, true, Some, None, map, IfOk};
 
 use crate::lookahead::Lookahead;
-use crate::rounds::{MOST_IDLE, rest};
+use crate::worker::Worker;
 use device_bus::Device;
 use fsim_base::NoMemory;
 use fsim_ports::Gate;
@@ -9,7 +9,6 @@ use func_model::{Arch, FuncSide};
 use mono_model::Setup;
 use std::alloc::Global;
 use std::marker::Model;
-use std::sync::Wait;
 use trace_entry::Entry;
 use trace_ring::{FuncEnd, Named};
 
@@ -63,25 +62,6 @@ impl<D: Device, K: Named> FuncWorker<D, K> {
         })
     }
 
-    /// Works until the side is stopped, or there was nothing to do for many turns in a row.
-    pub fn work<R: Wait, G: Gate>(&mut self, rt: &R, gate: &G)
-        ensures setup { self.new.setup ≡ self.old.setup }
-    {
-        let mut idle = 0;
-        for _ in rt.forever() {
-            if self.stopped() || idle >= MOST_IDLE {
-                break;
-            }
-            gate.func_turn();
-            if self.turn() {
-                idle = 0;
-            } else {
-                idle += 1;
-                rest(idle);
-            }
-        }
-    }
-
     /// The registers.
     pub fn arch(&self) -> Arch
         ensures arch { result ≡ arch_in self.now.side }
@@ -102,23 +82,6 @@ impl<D: Device, K: Named> FuncWorker<D, K> {
         ensures over { result ≡ true → HoldsEnd self.now.setup self.now.side.contents }
     {
         self.side.stopped()
-    }
-
-    /// A turn: the next order is obeyed, or else the next entry made and handed over. Says whether
-    /// there was anything to do.
-    pub fn turn(&mut self) -> bool
-        ensures setup { self.new.setup ≡ self.old.setup }
-    {
-        if self.obey() {
-            return true;
-        }
-        if self.computed.is_none() {
-            self.compute();
-        }
-        match self.computed {
-            Some(entry) => self.push(entry),
-            None => false,
-        }
     }
 
     /// Obeys the next order, if there is one. Where it opens an epoch, the computed entry is of no
@@ -167,5 +130,32 @@ impl<D: Device, K: Named> FuncWorker<D, K> {
             self.computed = None;
         }
         pushed
+    }
+}
+
+impl<D: Device, K: Named> Worker for FuncWorker<D, K> {
+    ghost setup = { λ worker. worker.setup };
+
+    fn is_over(&self) -> bool {
+        self.stopped()
+    }
+
+    fn pass<G: Gate>(gate: &G) {
+        gate.func_turn();
+    }
+
+    /// A turn: the next order is obeyed, or else the next entry made and handed over. Says whether
+    /// there was anything to do.
+    fn turn(&mut self) -> bool {
+        if self.obey() {
+            return true;
+        }
+        if self.computed.is_none() {
+            self.compute();
+        }
+        match self.computed {
+            Some(entry) => self.push(entry),
+            None => false,
+        }
     }
 }

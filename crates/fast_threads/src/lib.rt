@@ -7,6 +7,7 @@ mod lookahead;
 mod rounds;
 mod session;
 mod time_worker;
+mod worker;
 
 pub use session::Session;
 pub use trace_ring::Named;

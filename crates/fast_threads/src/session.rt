@@ -2,6 +2,7 @@ ghost use Rattle.std.specs.Prelude.{◌≡◌, true, map, IfOk};
 
 use crate::func_worker::FuncWorker;
 use crate::time_worker::TimeWorker;
+use crate::worker::Worker;
 use device_bus::Device;
 use fsim_base::NoMemory;
 use fsim_ports::Gate;

@@ -1,13 +1,12 @@
 ghost use Rattle.std.specs.Prelude.{◌≡◌, true, Some, None, IfOk};
 
-use crate::rounds::{MOST_IDLE, rest};
+use crate::worker::Worker;
 use fsim_base::NoMemory;
 use fsim_ports::Gate;
 use mono_model::{End, Setup, Stats};
 use rollback_cmds::Order;
 use std::alloc::Global;
 use std::marker::Model;
-use std::sync::Wait;
 use time_model::{TimeSide, Turn};
 use trace_ring::{Named, TimeEnd};
 
@@ -55,25 +54,6 @@ impl<K: Named> TimeWorker<K> {
         })
     }
 
-    /// Works until the run is over, or there was nothing to do for many turns in a row.
-    pub fn work<R: Wait, G: Gate>(&mut self, rt: &R, gate: &G)
-        ensures setup { self.new.setup ≡ self.old.setup }
-    {
-        let mut idle = 0;
-        for _ in rt.forever() {
-            if self.halted() || idle >= MOST_IDLE {
-                break;
-            }
-            gate.time_turn();
-            if self.turn() {
-                idle = 0;
-            } else {
-                idle += 1;
-                rest(idle);
-            }
-        }
-    }
-
     /// Whether the run is over and its last order sent.
     pub fn halted(&self) -> bool
         ensures halted { result ≡ self.now.is_halted }
@@ -95,21 +75,6 @@ impl<K: Named> TimeWorker<K> {
             result ≡ stats_of self.now.setup (mono self.now.setup self.now.setup.cycles) }
     {
         self.side.stats()
-    }
-
-    /// A turn: the order in hand is sent, or else the entry taken that the side needs, or steps are
-    /// made. Says whether there was anything to do.
-    pub fn turn(&mut self) -> bool
-        ensures setup { self.new.setup ≡ self.old.setup }
-    {
-        if let Some(order) = self.hand {
-            return self.send(order);
-        }
-        if self.side.wants() {
-            return self.take();
-        }
-        self.step();
-        true
     }
 
     /// Sends the order in hand, if the queue has room for it.
@@ -152,5 +117,30 @@ impl<K: Named> TimeWorker<K> {
             Turn::Want => {}
             Turn::CycleEnd => {}
         }
+    }
+}
+
+impl<K: Named> Worker for TimeWorker<K> {
+    ghost setup = { λ worker. worker.setup };
+
+    fn is_over(&self) -> bool {
+        self.halted()
+    }
+
+    fn pass<G: Gate>(gate: &G) {
+        gate.time_turn();
+    }
+
+    /// A turn: the order in hand is sent, or else the entry taken that the side needs, or steps are
+    /// made. Says whether there was anything to do.
+    fn turn(&mut self) -> bool {
+        if let Some(order) = self.hand {
+            return self.send(order);
+        }
+        if self.side.wants() {
+            return self.take();
+        }
+        self.step();
+        true
     }
 }
