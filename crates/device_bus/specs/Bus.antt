@@ -7,7 +7,7 @@ use Rattle.device_bus.specs.declared.kind.DeviceKind.TheVariants.{Console, Timer
 use Rattle.device_bus.specs.declared.place.Place.{Place}
 use Rattle.device_bus.specs.declared.undo.DevUndo.{DevUndo}
 use Rattle.device_bus.specs.Undo.{state_undone}
-use Rattle.device_bus.specs.Device.{DeviceAccess, DeviceAnswer, renumbered, answer_of, state_after}
+use Rattle.device_bus.specs.Device.{DeviceAccess, DeviceAnswer, answer_of, state_after}
 pub use Rattle.device_bus.specs.Device.{DeviceState, opening_state}
 pub use Rattle.device_bus.specs.Range.{DeviceRange, range_of, IsInRange, is_in_range}
 unfoldable pub use Rattle.device_bus.specs.Range.{accepts_of}
@@ -71,11 +71,6 @@ abbrev pub with_state : Devices → DeviceKind → DeviceState → Devices
 with_state devices Console state = record devices { console = state }
 with_state devices Timer state = record devices { timer = state }
 with_state devices Finisher state = record devices { finisher = state }
-
--- the devices with the numbers of one of them replaced, and all else as it is
-abbrev pub with_numbers : Devices → DeviceKind → List ℕ → Devices
-with_numbers devices kind numbers =
-    with_state devices kind (renumbered (state_of devices kind) numbers)
 
 -- what one of the devices does at an access
 abbrev pub answer_at : Devices → DeviceKind → DeviceAccess → DeviceAnswer

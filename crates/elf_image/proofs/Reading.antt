@@ -61,11 +61,6 @@ segment_placed bytes ram i below has clear =
       inside = clear.inside some;
     }
 
--- a segment's number and place, as its header has them
-index-segment_at : (bytes : List ℕ) (i : ℕ) → (segment_at bytes i).index ≡ i
-unfolding segment_at
-index-segment_at bytes i = refl
-
 -- the image of bytes without a fault can be loaded
 pub IsSound-image_of : (bytes : List ℕ) (ram : RamRange) → HasTable bytes → image_fault bytes ram ≡ None → IsSound (image_of bytes) ram
 unfolding image_of segment_at

@@ -1,5 +1,5 @@
 -- One word of clap's walk, and what the walk over words comes to.
-use Rattle.std.proofs.Common.{◌≡◌, ◌∙◌, ℕ, Bool, List, [], ◌∷◌, refl, sym, ap}
+use Rattle.std.proofs.Common.{◌≡◌, ◌∙◌, ℕ, Bool, List, [], ◌∷◌, refl, ap}
 use Rattle.std.specs.Prelude.{Option, Some, None, fold, option_map}
 use Rattle.std.specs.Option.{option_map_or}
 use Rattle.clap.specs.Faults.{settle_fault, step_fault, turn_fault, use_fault, walk_fault, word_fault}
@@ -107,10 +107,3 @@ pub step_on : (t : Kinds) (rows : List Row) (x : Option (List Row)) (next : Opti
     → option_map values_among (after t x) ≡ (option_map values_among (accepted t rows) >>= g)
 step_on [] rows x next g h later same = later ∙ same
 step_on (k ∷ ks) rows x next g h later same = refl
-
--- a word that doesn't
-pub step_off : (t : Kinds) (rows : List Row) (fails : Kinds) (x : Option (List Row)) (g : Values → Option Values)
-    → g (values_among rows) ≡ None → (t ≡ [] → after fails x ≡ None)
-    → option_map values_among (after (or_else t fails) x) ≡ (option_map values_among (accepted t rows) >>= g)
-step_off [] rows fails x g none fault = ap (option_map values_among) (fault refl) ∙ sym none
-step_off (k ∷ ks) rows fails x g none fault = refl

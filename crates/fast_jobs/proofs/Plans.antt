@@ -1,12 +1,12 @@
 -- A plan read byte by byte.
-use Rattle.std.proofs.Common.{◌≡◌, ◌≢◌, ℕ, suc, ◌+◌, ◌<◌, ◌≤◌, length, drop, get_or, option_map, drop-cons, length-drop, arith, true, false, if◌then◌else◌, List, [], ◌∷◌, ◌++◌, Option, Some, None, Ok, Err, append_assoc, refl, ap, sym, ◌∙◌}
+use Rattle.std.proofs.Common.{◌≡◌, ◌≢◌, ℕ, suc, ◌+◌, ◌<◌, ◌≤◌, length, drop, get_or, option_map, drop-cons, length-drop, arith, true, if◌then◌else◌, List, [], ◌∷◌, ◌++◌, Option, Some, None, Ok, Err, append_assoc, refl, ap, sym, ◌∙◌}
 use Rattle.std.proofs.lemmas.List.{append-nil, nil_from_length}
 use Rattle.std.specs.List.{filter_map, cons_option, position_from}
 use Rattle.std.specs.Option.{option_to_list}
 use Rattle.split_core.specs.declared.event.Event.{Event}
 use Rattle.fast_jobs.specs.Gives.{unless}
 use Rattle.fast_jobs.specs.Job.{plan_in}
-use Rattle.fast_jobs.specs.Plan.{IsAdded, IsBadAt, event_of, is_bad, plan_events, first_bad}
+use Rattle.fast_jobs.specs.Plan.{IsBadAt, event_of, is_bad, plan_events, first_bad}
 use Rattle.report_text.specs.declared.status.Status.{Status}
 use Rattle.report_text.specs.declared.status.Status.TheVariants.{Pass, Fail, Limit, OutputFull, Running, Shown, Usage, Image, Machine, Missing, ReadFault, WriteFault, Memory, TooLong, BadPlan, Later, BadScript, Sets}
 
@@ -14,14 +14,7 @@ added : (xs zs : List Event) (o : Option Event) → (xs ++ option_to_list o) ++ 
 added xs zs None = ap (λ ys. ys ++ zs) (append-nil xs)
 added xs zs (Some event) = append_assoc xs (event ∷ []) zs
 
--- the events of what is left, behind those that were added
-pub events-added : (byte : ℕ) (before after : List Event) (rest : List ℕ) → IsAdded byte before after → after ++ filter_map event_of rest ≡ before ++ filter_map event_of (byte ∷ rest)
-events-added byte before after rest is =
-    ap (λ (events : List Event). events ++ filter_map event_of rest) is.same ∙ added before (filter_map event_of rest) (event_of byte)
-
 -- the first bad byte of what is left
-pub bad-behind : (byte at : ℕ) (rest : List ℕ) → is_bad byte ≡ false → position_from is_bad at (byte ∷ rest) ≡ position_from is_bad (at + 1) rest
-bad-behind byte at rest good = ap (λ b. if b then Some at else position_from is_bad (at + 1) rest) good
 
 pub bad-here : (byte at : ℕ) (rest : List ℕ) → is_bad byte ≡ true → position_from is_bad at (byte ∷ rest) ≡ Some at
 bad-here byte at rest bad = ap (λ b. if b then Some at else position_from is_bad (at + 1) rest) bad

@@ -26,9 +26,6 @@ use Rattle.fast_jobs.specs.SweepFiles.{AreTold, HasLine, HasSets, finals_behind,
 pub sets-fewer : (more fewer : ℕ) (kinds : List DeviceKind) → fewer ≤ more → HasSets more kinds → HasSets fewer kinds
 sets-fewer more fewer kinds less has = record { sets = has.sets; enough = omega arith; order = has.order }
 
-pub sets-of : (sets least : ℕ) (kinds : List DeviceKind) → least ≤ sets → AreSets sets kinds → HasSets least kinds
-sets-of sets least kinds enough are = record { sets = sets; enough = enough; order = are.order }
-
 left-of : (least sets : ℕ) (a b c : DeviceKind) (kinds : List DeviceKind) → least + 1 ≤ sets
     → a ∷ b ∷ c ∷ kinds ≡ sets_order sets → HasSets least kinds
 left-of least zero a b c kinds enough order = absurd (omega arith)
@@ -187,12 +184,6 @@ told-batch files all before next rest old new batch earlier later reports parts 
     let each : old ++ (batch ++ refusals) ≡ new ++ refusals = sym (append_assoc old batch refusals) ∙ ap (λ (rs : List (Option Status)). rs ++ refusals) (sym more) in
     let ends : earlier ++ (reports ++ finals) ≡ later ++ finals = sym (append_assoc earlier reports finals) ∙ ap (λ (fs : List Final). fs ++ finals) (sym further) in
     subst (λ rs. AreTold files all rs (later ++ finals)) each (subst (λ fs. AreTold files all (old ++ (batch ++ refusals)) fs) ends whole)
-
--- at first nothing is told
-pub told-first : (files : SweepFiles) (machines : List NamedMachine) (none : List (Option Status)) (nothing : List Final) → none ≡ [] → nothing ≡ []
-    → (refusals : List (Option Status)) (finals : List Final) → AreTold files machines refusals finals → AreTold files machines (none ++ refusals) (nothing ++ finals)
-told-first files machines none nothing no_refusal no_final refusals finals told =
-    subst (λ rs. AreTold files machines (rs ++ refusals) (nothing ++ finals)) (sym no_refusal) (subst (λ fs. AreTold files machines refusals (fs ++ finals)) (sym no_final) told)
 
 none-left : (files : SweepFiles) (machines : List NamedMachine) → length machines ≡ 0 → AreTold files machines [] []
 none-left files [] none = tt

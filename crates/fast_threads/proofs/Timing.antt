@@ -26,7 +26,7 @@ use Rattle.time_model.proofs.Turns.{told_turn}
 use Rattle.time_model.specs.Standing.{TimeSideStandsFor, IsStep, IsMade, IsRight, is_told_out, wants_in}
 use Rattle.time_model.proofs.Owing.{stands_wants}
 use Rattle.trace_ring.specs.Ring.{IsNamed}
-use Rattle.trace_ring.specs.Ends.{TimeAt, time_start, time_pushed, time_taken}
+use Rattle.trace_ring.specs.Ends.{TimeAt, time_start, time_taken}
 use Rattle.fast_threads.specs.Workers.{in_hand, IsTimeAt}
 
 none_told : (s : Setup) → length (told (place s 0)) ≡ 0
@@ -43,19 +43,6 @@ time_starts s side sound stands = record {
   next = tt;
   over = λ is. cc;
 }
-
--- the order in hand is pushed
-pub time_sends : (end behind : TimeAt) (side : TimeState) (o : Order) (is_halted : Bool) → IsTimeAt end side (Some o) is_halted → behind ≡ time_pushed end → IsTimeAt behind side None is_halted
-time_sends end behind side o is_halted is pushed =
-    let P : TimeAt → Type 0 = λ x. IsTimeAt x side None is_halted in
-    subst P (sym pushed) (record {
-      sound = is.sound;
-      steps = is.steps;
-      stands = is.stands;
-      orders = omega (arith, is.orders);
-      next = tt;
-      over = is.over;
-    })
 
 pub time_same : (end behind : TimeAt) (side : TimeState) (hand : Option Order) (is_halted : Bool) → IsTimeAt end side hand is_halted → behind ≡ end → IsTimeAt behind side hand is_halted
 time_same end behind side hand is_halted is same =

@@ -1,8 +1,8 @@
 -- What several puts write together.
-use Rattle.std.proofs.Common.{◌≡◌, ℕ, ◌+◌, ◌-◌, ◌≤◌, List, ◌++◌, length, take, drop, Option, Some, None, Result, Ok, Err, refl, ap, sym, ◌∙◌, inl, inr, append_assoc, length-append, arith}
+use Rattle.std.proofs.Common.{◌≡◌, ℕ, ◌+◌, ◌-◌, ◌≤◌, List, ◌++◌, length, take, drop, Option, Some, None, Result, Ok, Err, refl, ap, sym, ◌∙◌, append_assoc, length-append, arith}
 use Rattle.std.proofs.Math.Seq.{take-add, take-append-add}
 use Rattle.std.proofs.lemmas.List.{take-append-le, take_rest}
-use Rattle.fsim_ports.specs.Sink.{grown, Breaks, Puts, Wrote}
+use Rattle.fsim_ports.specs.Sink.{grown, Breaks, Puts}
 
 -- one text behind another
 pub grown_twice : (old : Option (List ℕ)) (a b : List ℕ) → grown (grown old a) b ≡ grown old (a ++ b)
@@ -35,8 +35,3 @@ breaks_second a {b} {before} {middle} {after} {old} {mid} {new} first later brok
 pub puts_second : {E : Type 0} (a b : List ℕ) {before middle : ℕ} (after : ℕ) (old : Option (List ℕ)) {mid : Option (List ℕ)} (new : Option (List ℕ)) (r : Result (Unit {0}) E) → mid ≡ grown old a → before ≤ middle → Puts b middle after mid new r → Puts (a ++ b) before after old new r
 puts_second a b {before} {middle} after old {mid} new (Ok done) first later puts = puts ∙ ap (λ w. grown w b) first ∙ grown_twice old a b
 puts_second a b after old new (Err fault) first later puts = breaks_second a first later puts
-
--- the text was written whole or broke off, whatever was answered
-pub wrote_either : {E : Type 0} (text : List ℕ) (before after : ℕ) (old new : Option (List ℕ)) (r : Result (Unit {0}) E) → Puts text before after old new r → Wrote text before after old new
-wrote_either text before after old new (Ok done) puts = inl puts
-wrote_either text before after old new (Err fault) puts = inr puts

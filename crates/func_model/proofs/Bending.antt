@@ -12,7 +12,7 @@ use Rattle.mono_model.specs.Demand.{number_of}
 use Rattle.func_model.specs.declared.contents.Contents.{Contents}
 use Rattle.func_model.specs.declared.walk.Walk.{Walk}
 use Rattle.func_model.specs.Contents.{ContentsStandFor}
-use Rattle.func_model.specs.Walk.{LeadsBack, IsOnPath, WalkStandsFor, IsStanding, IsOver, IsSameBut, IsMoved, IsObeyed, HasRoom, given_at, committed_of, bytes_before}
+use Rattle.func_model.specs.Walk.{LeadsBack, IsOnPath, WalkStandsFor, IsStanding, IsOver, IsSameBut, IsMoved, HasRoom, given_at, committed_of, bytes_before}
 use Rattle.mono_model.proofs.Path.{path_below, path_at_set, path_at_interrupt, path_at_time, path_at_sync, path_commit, path_stop}
 use Rattle.func_model.proofs.Leading.{leads_along}
 use Rattle.func_model.proofs.Outputs.{bytes_before_is}
@@ -175,19 +175,6 @@ commit_from order n k is from = let P : Order → Type 0 = λ o. k ≤ number_of
 
 pub commit_within : {D : Type 0} (order : Order) (n : ℕ) (walk : Walk D) → order ≡ Commit n → HasRoom order walk walk.limit → bytes_before walk n ≤ walk.limit
 commit_within order n walk is within = let P : Order → Type 0 = λ o. HasRoom o walk walk.limit in subst P is within
-
-pub commit_obeyed : {D : Type 0} (order : Order) (n : ℕ) (old walk : Walk D) → order ≡ Commit n → walk ≡ record old { journal = walk.journal; committed = n } →
-    walk.journal.room ≡ old.journal.room → IsObeyed order old walk
-commit_obeyed {D} order n old walk is same room =
-    let P : Order → Type 0 = λ o. IsObeyed {D = D} o old walk in
-    subst P (sym is) (record {
-      position = ap (λ (w : Walk D). w.position) same;
-      committed = ap (λ (w : Walk D). w.committed) same;
-      stopped = ap (λ (w : Walk D). w.is_stopped) same;
-      epoch = ap (λ (w : Walk D). w.epoch) same ∙ omega arith;
-      room = room;
-      limit = ap (λ (w : Walk D). w.limit) same;
-    })
 
 -- what an order to commit asks for
 pub record MayCommit {D : Type 0} (order : Order) (walk : Walk D) : Type 0 where

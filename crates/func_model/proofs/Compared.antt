@@ -30,8 +30,3 @@ compare_in cmp x a here same = same ∙ ap (λ (y : Arch). compare_of y.devices)
 
 pub compare_for : (cmp : ℕ) (x a : Arch) → x ≡ a → cmp ≡ compare_of x.devices → cmp ≡ compare_of a.devices
 compare_for cmp x a here same = same ∙ ap (λ (y : Arch). compare_of y.devices) here
-
--- where nothing changed the devices
-pub compare_same : (cmp : ℕ) (x a y b : Arch) → x ≡ a → y ≡ b → y.devices ≡ x.devices → cmp ≡ compare_of a.devices → cmp ≡ compare_of b.devices
-compare_same cmp x a y b here there alike same =
-    compare_for cmp y b there (compare_in cmp x a here same ∙ ap compare_of (sym alike))

@@ -1,11 +1,10 @@
 -- What evaluation tells of an instruction's access and destination.
-use Rattle.std.proofs.Common.{◌≡◌, ℕ, ◌<◌, ◌==◌, Bool, true, false, if◌then◌else◌, Option, Some, None, refl, sym, subst, arith}
+use Rattle.std.proofs.Common.{◌≡◌, ℕ, ◌==◌, Bool, true, false, if◌then◌else◌, Option, Some, None, refl, sym, subst, arith}
 use Rattle.std.proofs.lemmas.Grind.{common_steps}
 use Rattle.fsim_base.specs.declared.cause.Cause.{Cause}
 use Rattle.rv_decode.specs.declared.insn.Insn.{Insn}
 use Rattle.rv_decode.specs.declared.insn.Insn.TheVariants as insn
-use Rattle.rv_decode.specs.Class.{dest_of, written}
-use Rattle.rv_decode.specs.Fits.{Fits}
+use Rattle.rv_decode.specs.Class.{dest_of}
 use Rattle.rv_exec.specs.declared.outcome.Outcome.{Outcome}
 use Rattle.rv_exec.specs.declared.outcome.Reach.{Reach}
 use Rattle.rv_exec.specs.declared.outcome.Reach.TheVariants as reach
@@ -13,7 +12,6 @@ use Rattle.rv_exec.specs.Eval.{eval_of, branched}
 use Rattle.rv_exec.specs.Branch.{branch_taken}
 use Rattle.fsim_base.specs.Number.{wrap_sum}
 use Rattle.mono_model.specs.Found.{is_csr_insn, is_mret_insn}
-use Rattle.func_model.specs.Hart.{IsDestination}
 use Rattle.func_model.specs.Steps.{AlignedBy, IsAlignedReach, is_transfer}
 
 aligned_zero : (n : ℕ) → (n == 0) ≡ true → n ≡ 0
@@ -52,32 +50,6 @@ pub aligned_by : (o : Outcome) (i : Insn) (addr a b : ℕ) → o ≡ eval_of i a
 aligned_by o i addr a b is =
     let P : Outcome → Type 0 = λ x. AlignedBy x.cause x.reach in
     subst P (sym is) (outcome_aligned i addr a b)
-
-written_exists : (rd : ℕ) → rd < 32 → IsDestination (written rd)
-written_exists rd small = by_zero (rd == 0)
-  where
-    by_zero : (zero_is : Bool) → IsDestination (if zero_is then None else Some rd)
-    by_zero true = tt
-    by_zero false = small
-
--- the destination of an instruction that some word spells exists
-pub destination_exists : (i : Insn) → Fits i → IsDestination (dest_of i)
-destination_exists (insn.Lui rd imm) fits = written_exists rd fits.0
-destination_exists (insn.Auipc rd imm) fits = written_exists rd fits.0
-destination_exists (insn.Jal rd imm) fits = written_exists rd fits.0
-destination_exists (insn.Jalr rd rs1 imm) fits = written_exists rd fits.0
-destination_exists (insn.Branch kind rs1 rs2 imm) fits = tt
-destination_exists (insn.Load kind rd rs1 imm) fits = written_exists rd fits.2
-destination_exists (insn.Store kind rs1 rs2 imm) fits = tt
-destination_exists (insn.OpImm kind alt rd rs1 imm) fits = written_exists rd fits.2
-destination_exists (insn.Op kind alt rd rs1 rs2) fits = written_exists rd fits.2
-destination_exists (insn.MulDiv kind rd rs1 rs2) fits = written_exists rd fits.1
-destination_exists (insn.Fence rd rs1 upper fetch) fits = tt
-destination_exists insn.Ecall fits = tt
-destination_exists insn.Ebreak fits = tt
-destination_exists insn.Mret fits = tt
-destination_exists insn.Wfi fits = tt
-destination_exists (insn.Csr kind rd rs1 csr) fits = written_exists rd fits.3
 
 -- a store writes no register
 abbrev pub NoDestination : Option ℕ → Reach → Type 0

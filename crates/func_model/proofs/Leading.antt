@@ -115,7 +115,3 @@ module _ (range : RamRange) (at along : ℕ → Arch) (end : ℕ) (below : (k : 
       LeadsBack range along m steps
   leads_along x bent m steps ends leads =
       leads_alike (λ past. ap (λ (a : Arch). undone range past a) bent ∙ undone_pc range past (at end) x) m steps ends leads
-
-  -- whose end is the same too
-  pub leads_along_same : along end ≡ at end → (m : ℕ) (steps : List Past) → m + length steps ≡ end → LeadsBack range at m steps → LeadsBack range along m steps
-  leads_along_same same m steps ends leads = leads_alike (λ past. ap (λ (a : Arch). undone range past a) same) m steps ends leads

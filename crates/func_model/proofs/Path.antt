@@ -23,9 +23,6 @@ goes_on_time m v os = omega arith
 pub goes_on_sync : (m : ℕ) (os : List Order) → GoesOn (Sync m ∷ os) m
 goes_on_sync m os = omega arith
 
-pub goes_on_commit : (m : ℕ) (os : List Order) (n : ℕ) → GoesOn os n → GoesOn (Commit m ∷ os) n
-goes_on_commit m os n on = on
-
 -- one instruction retires at most
 seq_retired : (s : Setup) (time : Option ℕ) (a : Arch) → (seq s time a).csrs.retired ≤ a.csrs.retired + 1
 unfolding seq

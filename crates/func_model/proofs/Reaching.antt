@@ -1,10 +1,10 @@
 -- How far an order may take a walk.
-use Rattle.std.proofs.Common.{◌≡◌, ◌⊎◌, ℕ, ◌≤◌, ◌<◌, ◌+◌, ◌^◌, Bool, true, false, refl, sym, ◌∙◌, subst, arith, inl, inr}
+use Rattle.std.proofs.Common.{◌≡◌, ◌⊎◌, ℕ, ◌≤◌, ◌<◌, Bool, true, false, refl, sym, ◌∙◌, subst, arith, inl, inr}
 use Rattle.rollback_cmds.specs.declared.order.Order.{Order}
 use Rattle.rollback_cmds.specs.declared.order.Order.TheVariants.{Commit}
 use Rattle.mono_model.specs.Demand.{number_of}
 use Rattle.func_model.specs.declared.walk.Walk.{Walk}
-use Rattle.func_model.specs.Walk.{IsStanding, IsOver, CanReach, CanGoTo}
+use Rattle.func_model.specs.Walk.{IsStanding, IsOver}
 
 -- beyond the position only a walk that isn't stopped goes
 pub runs_beyond : {D : Type 0} (n : ℕ) (walk : Walk D) → (walk.is_stopped ≡ true → n ≤ walk.position) → walk.position < n → walk.is_stopped ≡ false
@@ -13,27 +13,6 @@ runs_beyond n walk reach beyond = at walk.is_stopped refl
     at : (b : Bool) → walk.is_stopped ≡ b → walk.is_stopped ≡ false
     at true is = absurd (omega (arith, reach is))
     at false is = is
-
-can_reach : {D : Type 0} (n : ℕ) (walk : Walk D) → (IsStanding walk ⊎ IsOver walk) → walk.committed ≤ n → (walk.is_stopped ≡ true → n ≤ walk.position) → CanReach n walk
-can_reach n walk able from reach = elim able [
-  | inl standing ↦ record {
-    back = λ less. record { setup = standing.setup; orders = standing.orders; holds = standing.stands.holds };
-    on = λ beyond. standing;
-    running = runs_beyond n walk reach;
-  }
-  | inr over ↦ record {
-    back = λ less. absurd (omega (arith, over.here));
-    on = λ beyond. absurd (omega (arith, reach over.stopped));
-    running = runs_beyond n walk reach;
-  }
-]
-
--- by the order
-pub order_goes : {D : Type 0} (order it : Order) (walk : Walk D) → order ≡ it → (IsStanding walk ⊎ IsOver walk) → walk.committed ≤ number_of order →
-    (walk.is_stopped ≡ true → number_of order ≤ walk.position) → number_of order ≤ walk.committed + walk.journal.room → number_of order < 2 ^ 63 → CanGoTo (number_of it) walk
-order_goes order it walk is able from reach room bounded =
-    let P : Order → Type 0 = λ o. CanGoTo (number_of o) walk in
-    subst P is (record { reach = can_reach (number_of order) walk able from reach; from = from; room = room; bounded = bounded })
 
 pub commit_running : {D : Type 0} (order : Order) (n : ℕ) (walk : Walk D) → order ≡ Commit n → (walk.is_stopped ≡ true → number_of order ≤ walk.position) → walk.position < n → walk.is_stopped ≡ false
 commit_running order n walk is reach =

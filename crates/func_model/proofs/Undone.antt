@@ -14,12 +14,8 @@ use Rattle.mono_model.specs.Effect.{counted, effect, effect_by, retired, note_of
 use Rattle.machine_csr.specs.declared.csrs.Csrs.{Csrs}
 use Rattle.mono_model.specs.Sequence.{byte_in}
 use Rattle.func_model.specs.declared.performed.Performed.{Performed}
-use Rattle.func_model.specs.declared.found.Fetched.{Fetched}
-use Rattle.func_model.specs.declared.found.Fetched.TheVariants as fetched
-use Rattle.func_model.specs.Hart.{found_in, FetchedFits, IsDestination}
 use Rattle.func_model.specs.Steps.{is_full, stepped_by, behind, Told}
-use Rattle.func_model.specs.Undo.{registers_back, shortened, undone, uncounted, is_executed, IsRestorable, TakesBack, register_before, past_of}
-use Rattle.func_model.proofs.Evaluated.{destination_exists}
+use Rattle.func_model.specs.Undo.{registers_back, shortened, undone, uncounted, is_executed, TakesBack, register_before, past_of}
 
 -- an output that isn't full lets the instruction be executed
 not_full : (limit : ℕ) (output : List ℕ) (what : Note) → length output < limit → is_full limit output what ≡ false
@@ -115,19 +111,3 @@ undone_execute range number found r time limit a b done told made back room =
     (back.csrs (ap is_executed told.stepped ∙ was_executed limit a.output (note_of r a) room))
     back.devices
     (ap (λ (o : List ℕ). if is_some done.sent then shortened o else o) (ap (λ (x : Arch). x.output) e ∙ effect_output found r time a.pc a) ∙ output_back (note_of r a) done.sent a.output told.sent)
-
--- what an undo step names exists
-register_exists : (destination : Option ℕ) (regs : ℕ → ℕ) → IsDestination destination → (register_before destination regs).register < 32
-register_exists None regs exists = omega arith
-register_exists (Some d) regs exists = exists
-
-pub fetched_exists : (what : Fetched) → FetchedFits what → IsDestination (destination_in (found_in what))
-fetched_exists (fetched.Refused cause) fits = tt
-fetched_exists (fetched.Unknown word) fits = tt
-fetched_exists (fetched.Known word insn) fits = destination_exists insn fits
-
-pub past_restorable : (range : RamRange) (number : ℕ) (what : Fetched) (a b : Arch) (done : Performed) → FetchedFits what → TakesBack range done a b → IsRestorable (past_of number (found_in what) a done)
-past_restorable range number what a b done fits back = record {
-  register = register_exists (destination_in (found_in what)) a.regs (fetched_exists what fits);
-  change = back.exists;
-}

@@ -1,5 +1,5 @@
 -- The count of the divisions that execute.
-use Rattle.std.proofs.Common.{◌≡◌, ℕ, zero, suc, ◌+◌, ◌≤◌, if◌then◌else◌, Bool, true, false, Some, List, [], ◌∷◌, ◌++◌, length, take, drop, refl, ap, arith}
+use Rattle.std.proofs.Common.{◌≡◌, ℕ, zero, suc, ◌+◌, ◌≤◌, if◌then◌else◌, Bool, true, false, Some, List, [], ◌∷◌, ◌++◌, length, take, refl, ap, arith}
 use Rattle.std.specs.Prelude.{slice_get, slice_set}
 use Rattle.fsim_base.specs.declared.instruction.Class.{Class}
 use Rattle.fsim_base.specs.declared.instruction.Class.TheVariants as class
@@ -59,13 +59,6 @@ division_counts (first ∷ slots) zero slot here =
     let same : division first ≡ division slot = ap division (let e : first ≡ slot = grind arith in e) in
     omega (arith, same)
 division_counts (first ∷ slots) (suc place) slot here = omega (arith, division_counts slots place slot here)
-
--- the oldest leaves
-pub divisions-left : (slots : List Slot) (slot : Slot) → slice_get slots 0 ≡ Some slot → busy_divisions (drop 1 slots) + division slot ≡ busy_divisions slots
-divisions-left [] slot here = absurd cc
-divisions-left (first ∷ slots) slot here =
-    let same : division first ≡ division slot = ap division (let e : first ≡ slot = grind arith in e) in
-    omega (arith, same)
 
 -- those in front of a place and the one at it
 pub divisions-more : (slots : List Slot) (place : ℕ) (slot : Slot) → slice_get slots place ≡ Some slot →

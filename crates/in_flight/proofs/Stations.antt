@@ -1,14 +1,13 @@
 -- The stations of slots, as these change.
 use Rattle.std.proofs.Common.{◌≡◌, ◌≢◌, ℕ, zero, suc, ◌==◌, false, Some, List, [], ◌∷◌, refl, ap, sym, ◌∙◌, arith, subst, IsNone, All}
-use Rattle.std.specs.Prelude.{slice_get, slice_set, option_map}
+use Rattle.std.specs.Prelude.{slice_get, slice_set}
 use Rattle.std.proofs.lemmas.Bool.{ne_eqb, eq-eqb}
 use Rattle.std.proofs.lemmas.List.Elements.{All-head, All-tail}
-use Rattle.std.proofs.lemmas.Option.{slice_get-map, slice_get_within, get_or_from_slice_get}
+use Rattle.std.proofs.lemmas.Option.{slice_get_within, get_or_from_slice_get}
 use Rattle.reorder_buffer.specs.declared.slot.Slot.{Slot}
 use Rattle.reorder_buffer.specs.Window.{HasOwnIndices, index_of}
 use Rattle.reservation_stations.specs.declared.station.Mark.{Mark}
-use Rattle.reservation_stations.specs.declared.station.Station.{Station}
-use Rattle.reservation_stations.specs.Readiness.{station_of, mark_of, marked, marked_if, oldest_index}
+use Rattle.reservation_stations.specs.Readiness.{station_of, mark_of, marked, marked_if}
 use Rattle.in_flight.specs.Step.{mark_in, station_in, stations_in}
 
 -- no station holds an index that no slot has
@@ -76,8 +75,3 @@ marks_at capacity mark (first ∷ slots) zero slot new apart here is =
 marks_at capacity mark (first ∷ slots) (suc place) slot new apart here is =
     rw (other_index capacity first slots place slot apart here)
     (ap (λ rest. station_in capacity first ∷ rest) (marks_at capacity mark slots place slot new (rest_apart capacity first slots apart) here is))
-
--- the oldest slot's station is the oldest
-pub oldest_at : (capacity : ℕ) (slots : List Slot) (slot : Slot) → slice_get slots 0 ≡ Some slot → oldest_index (stations_in capacity slots) ≡ Some (index_of capacity slot.number)
-oldest_at capacity slots slot here =
-    ap (option_map (λ (station : Station). station.index)) (slice_get-map (station_in capacity) slots 0 ∙ ap (option_map (station_in capacity)) here)

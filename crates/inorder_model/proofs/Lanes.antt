@@ -1,5 +1,5 @@
 -- The phases of the pipeline, from what its parts make.
-use Rattle.std.proofs.Common.{◌≡◌, ℕ, ◌+◌, ◌<◌, Bool, true, false, if◌then◌else◌, Option, Some, None, List, [], ◌∷◌, length, refl, ap, sym, ◌∙◌, arith}
+use Rattle.std.proofs.Common.{◌≡◌, ℕ, ◌+◌, Bool, true, false, if◌then◌else◌, Option, Some, None, List, [], ◌∷◌, length, refl, ap, sym, ◌∙◌, arith}
 use Rattle.std.specs.Prelude.{slice_get, slice_set}
 use Rattle.cache_timing.specs.Caches.{CachesState}
 use Rattle.rollback_cmds.specs.declared.order.Order.TheVariants.{Time}
@@ -21,15 +21,6 @@ use Rattle.inorder_model.specs.declared.stages.Executing as code
 use Rattle.inorder_model.specs.Stages.{executing_in}
 use Rattle.inorder_model.specs.LaneStandsFor.{LaneStandsFor}
 use Rattle.inorder_model.proofs.Deciding.{issue_youngest, issue_none}
-
--- Memory behind a phase
-pub behind_none : (slots : List Slot) (memory : Option ℕ) → length slots ≡ 0 → memory_behind slots memory ≡ None
-behind_none [] memory none = refl
-behind_none (slot ∷ rest) memory none = absurd (omega (arith, none))
-
-pub behind_some : (slots : List Slot) (memory : Option ℕ) → 0 < length slots → memory_behind slots memory ≡ memory
-behind_some [] memory some = absurd (omega (arith, some))
-behind_some (slot ∷ rest) memory some = refl
 
 abbrev pub lane_of : TimingCore → Option ℕ → LaneCore
 lane_of core memory = record { core = core; memory = memory }

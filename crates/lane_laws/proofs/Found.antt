@@ -45,10 +45,6 @@ no_store class.Load is = refl
 no_store class.Store is = cc
 no_store class.Serial is = refl
 
-no_unfinished : (store finished : Bool) → store ≡ false → (if store then (if finished then false else true) else false) ≡ false
-no_unfinished true finished is = cc
-no_unfinished false finished is = refl
-
 load_alike : (e : ℕ) (rec : Record) (older : List Record) → is_load_class (class_at rec) ≡ true → FoundAlike (rec ∷ older) (record rec { stage = valueless e rec.stage } ∷ older)
 load_alike e rec older load = record {
   written = λ regs register v is. by_register regs register v (is_register register (destination_in rec.found)) is;

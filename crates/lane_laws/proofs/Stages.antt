@@ -276,10 +276,6 @@ is_pipeline s k =
     let are : AreStaged (suc (memory_count p.run.memory)) p.run.demand.machine.window = all_staged p.run.at p.run.memory p.run.demand.machine.window (place_stands s k).staged in
     record { staged = are; within = omega (arith, staged_length (suc (memory_count p.run.memory)) p.run.demand.machine.window are, one_memory p.run.memory) }
 
--- a try is made where Decode is empty
-pub tries_empty : (s : Setup) (k : ℕ) → (lane_place s k).run.at ≡ trying → waiting_count (lane_place s k).run.demand.machine.window ≡ 0
-tries_empty s k is = subst (λ (at : LaneAt). MayTry at (lane_place s k).run.demand.machine.window) is (place_stands s k).tries
-
 pub stands_length : (at : LaneAt) (w : List Record) (memory : Option ℕ) → Stands at w memory → length w ≤ 4
 stands_length at w memory stands = omega (arith, staged_length (suc (memory_count memory)) w (all_staged at memory w stands.staged), one_memory memory)
 

@@ -177,10 +177,6 @@ pub lane_place_done : (s : Setup) (k : ℕ) → (lane_held_at s (lane_place s k)
 unfolding lane_held_at timing.seen
 lane_place_done s k = refl
 
-pub lane_place_memory : (s : Setup) (k : ℕ) → (lane_held_at s (lane_place s k)).lane.memory ≡ (lane_place s k).run.memory
-unfolding lane_held_at
-lane_place_memory s k = refl
-
 pub lane_place_at : (s : Setup) (k : ℕ) → (lane_held_at s (lane_place s k)).at ≡ (lane_place s k).run.at
 unfolding lane_held_at
 lane_place_at s k = refl

@@ -100,9 +100,6 @@ IsSmall s x = IsSmallIn s (mono_run s) x
 abbrev pub IsUnderWay : Setup → Split → Entry → Type 0
 IsUnderWay s x e = IsUnderWayIn s (mono_run s) x e
 
-abbrev pub IsLevel : Setup → Split → Type 0
-IsLevel s x = IsLevelIn s (mono_run s) x
-
 abbrev pub IsRun : Setup → Split → Type 0
 IsRun s x = IsRunIn s (mono_run s) x
 

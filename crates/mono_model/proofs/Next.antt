@@ -1,10 +1,10 @@
 -- The laws of the next step: of the run without a machine file, of a cycle, of a place and of a round to the boundary.
-use Rattle.std.proofs.Common.{◌≡◌, ℕ, suc, if◌then◌else◌, refl}
+use Rattle.std.proofs.Common.{◌≡◌, ℕ, suc, refl}
 use Rattle.mono_model.specs.declared.setup.Setup.{Setup}
 use Rattle.mono_model.specs.Alone.{alone, alone_step}
 use Rattle.mono_model.specs.Cycle.{cycled, mono}
 use Rattle.mono_model.specs.Demand.{step, place}
-use Rattle.mono_model.specs.Split.{Split, is_boundary, round, rounds_to_boundary}
+use Rattle.mono_model.specs.Split.{round}
 
 pub alone-suc : (s : Setup) (n : ℕ) → alone s (suc n) ≡ alone_step s (alone s n)
 unfolding alone
@@ -17,8 +17,3 @@ mono-suc s c = refl
 pub place-suc : (s : Setup) (k : ℕ) → place s (suc k) ≡ step s (place s k)
 unfolding place
 place-suc s k = refl
-
-pub rounds_to_boundary-suc : (s : Setup) (more : ℕ) (x : Split) →
-    rounds_to_boundary s (suc more) x ≡ (if is_boundary x then x else rounds_to_boundary s more (round s x))
-unfolding rounds_to_boundary
-rounds_to_boundary-suc s more x = refl

@@ -128,11 +128,3 @@ closed_output output = if ends_open output then output ++ line_feed else output
 -- what is written of the machine after so many cycles
 unfoldable pub text : Setup → ℕ → Text
 text s c = closed_output (mono s c).arch.output ++ report_text (final s c)
-
--- the exit status of an end
-abbrev pub status_of : End → ℕ
-status_of Pass = 0
-status_of (Fail code) = 1
-status_of Limit = 2
-status_of OutputFull = 3
-status_of Running = 4

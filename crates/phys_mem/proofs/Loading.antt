@@ -17,7 +17,7 @@ use Rattle.phys_mem.specs.declared.page.TextPage.{TextPage}
 use Rattle.phys_mem.specs.PageBytes.{bytes_of}
 use Rattle.phys_mem.specs.Page.{marked_in}
 use Rattle.phys_mem.specs.Ram.{page_of, memory_of, marks_of}
-use Rattle.phys_mem.specs.Segment.{with_bytes, with_text, with_segment}
+use Rattle.phys_mem.specs.Segment.{with_bytes, with_segment}
 use Rattle.phys_mem.proofs.Access.{inside_or, is_inside-true, memory_of-in, memory_of-out, memory_of-set, IsPage, page_is}
 use Rattle.phys_mem.proofs.Fetching.{marks_of-in, marks_of-out, IsEntry, entry_is}
 
@@ -95,11 +95,6 @@ marks_of-none range texts h = λ i x. at x i
     at : (x : ℕ) → marks_of range texts x ≡ false
     at x = ⊎_elim (λ in'. marks_of-in range texts x in' ∙ ap (λ e. marked_in e (x % 4096)) (h (page_of range x))) (marks_of-out range texts x) (inside_or range x)
 
--- no bytes, and one more
-pub with_bytes-none : (addr : ℕ) (memory : ℕ → ℕ) → with_bytes addr [] memory ≡ memory
-with_bytes-none addr memory =
-    let at : (x : ℕ) → with_bytes addr [] memory x ≡ memory x = λ x. grind (arith, nat_tests) in λ i x. at x i
-
 -- the first bytes of a list
 with_bytes-take : (addr : ℕ) (bytes : List ℕ) (i : ℕ) (memory : ℕ → ℕ) (x : ℕ) → i ≤ length bytes
     → with_bytes addr (take i bytes) memory x ≡ (if (nat_le addr x && nat_lt x (addr + i)) then slice_index bytes (x - addr) else memory x)
@@ -143,15 +138,6 @@ with_bytes-more addr bytes i memory within = λ j x. (front x ∙ sym (with_byte
         ap (λ b. if b then get_or bytes i 0 else with_bytes addr (take i bytes) memory x) test
         ∙ with_bytes-take addr bytes i memory x (omega arith) ∙ ap (λ b. if b then slice_index bytes (x - addr) else memory x) (apart x ne))
         (cases_eq x (addr + i))
-
--- no text, and one address more
-pub with_text-none : (addr : ℕ) (is_text : ℕ → Bool) → with_text addr 0 is_text ≡ is_text
-with_text-none addr is_text =
-    let at : (x : ℕ) → with_text addr 0 is_text x ≡ is_text x = λ x. grind (arith, nat_tests) in λ i x. at x i
-
-pub with_text-more : (addr i : ℕ) (is_text : ℕ → Bool) → (λ x. x == addr + i || with_text addr i is_text x) ≡ with_text addr (i + 1) is_text
-with_text-more addr i is_text =
-    let at : (x : ℕ) → (x == addr + i || with_text addr i is_text x) ≡ with_text addr (i + 1) is_text x = λ x. grind (arith, nat_tests) in λ j x. at x j
 
 -- two segments that both hold an address aren't apart
 both_hold : (a b : Segment) (x : ℕ) → AreApart a b → holds a x ≡ true → holds b x ≡ false

@@ -1,5 +1,5 @@
 -- The entries that wait at a timing end, and those that it has handed out before them.
-use Rattle.std.proofs.Common.{◌≡◌, Option, Some, None, IfSome, IfNone, ℕ, ◌-◌, ◌≤◌, List, [], ◌∷◌, ◌++◌, length, take, drop, refl, sym, ap, subst, ◌∙◌, arith, length-append, length-drop, length-take-le, append_assoc, append-nil, take_at, take_all}
+use Rattle.std.proofs.Common.{◌≡◌, Option, Some, None, IfSome, IfNone, ℕ, ◌-◌, ◌≤◌, List, [], ◌∷◌, ◌++◌, length, take, drop, sym, ap, subst, ◌∙◌, arith, length-append, length-drop, length-take-le, append_assoc, append-nil, take_at}
 use Rattle.std.proofs.lemmas.List.{drop_all}
 use Rattle.std.proofs.lemmas.Option.{IfSome_then}
 use Rattle.rtrb.specs.Fifo.{Allowed}
@@ -38,10 +38,6 @@ module _ {T : Type 0} (allows : List T → T → Type 0) where
 handed_front : (front waiting : List Entry) → handed (front ++ waiting) waiting ≡ front
 handed_front front waiting = let long = length-append front waiting in take_at front waiting _ (omega arith)
 
--- nothing came out of the ring yet
-pub ends_new : (setup : Setup) (room : ℕ) → room ≡ 64 → IsTimeEnd setup [] [] room
-ends_new setup room is = record { waits = refl; allowed = tt; room_is = is }
-
 -- entries come out of the ring where none waits
 module _ (setup : Setup) (received new after : List Entry) (room : ℕ) (is : IsTimeEnd setup received [] room)
     (came : after ≡ received ++ new) where
@@ -53,9 +49,6 @@ module _ (setup : Setup) (received new after : List Entry) (room : ℕ) (is : Is
         allowed = subst (λ (zs : List Entry). Allowed (MayFollow setup) [] zs) (sym came) (allowed_both (MayFollow setup) received new [] is.allowed allowed);
         room_is = is.room_is;
       }
-
-  pub handed_same : handed after new ≡ handed received []
-  handed_same = ap (λ (zs : List Entry). handed zs new) came ∙ handed_front received new ∙ sym (take_all (length received - 0) received (omega arith))
 
 -- the entry that has waited longest is handed out
 module _ (setup : Setup) (os : List Order) (received waiting rest : List Entry) (room : ℕ) (is : IsTimeEnd setup received waiting room) where
