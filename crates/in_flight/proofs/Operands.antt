@@ -1,4 +1,4 @@
--- A slot waits and has its operands exactly where its station can begin.
+-- A slot waits and has its operands exactly where its station can begin, and executes where its station does.
 use Rattle.std.proofs.Common.{◌≡◌, ℕ, ◌+◌, ◌&&◌, if◌then◌else◌, Option, Some, None, List, [], ◌∷◌, ◌++◌, map, reverse, take, refl, ap, sym, ◌∙◌}
 use Rattle.std.specs.Prelude.{slice_get, option_map}
 use Rattle.std.proofs.lemmas.List.{take-map, map-append, reverse-append}
@@ -7,14 +7,17 @@ use Rattle.fsim_base.specs.declared.cause.Cause.{Cause}
 use Rattle.reorder_buffer.specs.declared.slot.Slot.{Slot}
 use Rattle.reorder_buffer.specs.declared.slot.SlotState.{SlotState}
 use Rattle.reorder_buffer.specs.declared.slot.SlotState.TheVariants.{Waiting, Until, Done}
-use Rattle.reservation_stations.specs.Readiness.{is_waiting, is_issued, is_done, has_written_value, has_operand, older_than, can_begin, can_begin_at, waiting_count as stations_waiting}
+use Rattle.reorder_buffer.specs.Window.{Contents}
+use Rattle.reservation_stations.specs.Readiness.{is_waiting, is_issued, is_done, has_written_value, has_operand, older_than, can_begin, can_begin_at, waiting_count as stations_waiting, Window}
 use Rattle.reservation_stations.specs.Readiness as stations
+use Rattle.reservation_stations.specs.declared.sought.Sought.{Sought}
+use Rattle.reservation_stations.specs.declared.sought.Sought.TheVariants.{Ready, Executing}
 use Rattle.mono_model.specs.Found.{destination_in}
 use Rattle.mono_model.specs.Window.{is_register}
 use Rattle.timing_side.specs.Slots.{found_in, is_waiting_state, waiting_count}
 use Rattle.timing_side.specs.Issue.{gives_value, is_available, has_value, has_operands}
-use Rattle.in_flight.specs.Flight.{older_at, may_start, may_start_at, is_executing_state, executes, executes_at}
-use Rattle.in_flight.specs.Step.{mark_in, station_in, stations_in}
+use Rattle.in_flight.specs.Flight.{older_at, may_start, may_start_at, is_executing_state, executes, executes_at, is_sought_at}
+use Rattle.in_flight.specs.Step.{mark_in, station_in, stations_in, stations_of}
 
 -- a station is done where its slot gives a value, and waits where its slot waits
 gives : (state : SlotState) (cause : Option Cause) → is_done (mark_in state cause) ≡ gives_value state cause
@@ -58,7 +61,7 @@ starts : (capacity : ℕ) (older : List Slot) (at : Option Slot) → can_begin (
 starts capacity older None = refl
 starts capacity older (Some slot) = λ i. waits slot.state slot.cause i && operands capacity older slot i
 
-pub can_start : (capacity : ℕ) (slots : List Slot) (place : ℕ) → can_begin_at (stations_in capacity slots) place ≡ may_start_at slots place
+can_start : (capacity : ℕ) (slots : List Slot) (place : ℕ) → can_begin_at (stations_in capacity slots) place ≡ may_start_at slots place
 can_start capacity slots place =
     (λ i. can_begin (older capacity slots place i) (slice_get-map (station_in capacity) slots place i))
     ∙ starts capacity (older_at slots place) (slice_get slots place)
@@ -79,5 +82,16 @@ executes_in : (capacity : ℕ) (at : Option Slot) → stations.executes (option_
 executes_in capacity None = refl
 executes_in capacity (Some slot) = issued_in slot.state slot.cause
 
-pub executes_same : (capacity : ℕ) (slots : List Slot) (place : ℕ) → stations.executes_at (stations_in capacity slots) place ≡ executes_at slots place
+executes_same : (capacity : ℕ) (slots : List Slot) (place : ℕ) → stations.executes_at (stations_in capacity slots) place ≡ executes_at slots place
 executes_same capacity slots place = ap stations.executes (slice_get-map (station_in capacity) slots place) ∙ executes_in capacity (slice_get slots place)
+
+-- a station is one that a search looks for where its slot is
+sought_same : (sought : Sought) (capacity : ℕ) (slots : List Slot) (place : ℕ) → stations.is_sought_at sought (stations_in capacity slots) place ≡ is_sought_at sought slots place
+sought_same Ready = can_start
+sought_same Executing = executes_same
+
+pub sought_there : (sought : Sought) (window now : Contents) (those : Window) → those ≡ stations_of window.capacity window.slots → window ≡ now →
+    stations.is_sought_at sought those.stations ≡ is_sought_at sought now.slots
+sought_there sought window now those are is = λ i place.
+    (ap (λ (w : Window). stations.is_sought_at sought w.stations place) are ∙ sought_same sought window.capacity window.slots place
+    ∙ ap (λ (w : Contents). is_sought_at sought w.slots place) is) i

@@ -19,11 +19,11 @@ use Rattle.in_flight.specs.Snapshot.{IsSnapshot}
 use Rattle.in_flight.proofs.Operands.{reverse-map}
 
 -- the set of all of the first 64 places
-pub whole : (test other : ℕ → Bool) (set : PlaceSet) → ((place : ℕ) → other place ≡ test place) →
+pub whole : (test other : ℕ → Bool) (set : PlaceSet) → other ≡ test →
     ((place : ℕ) → 0 ≤ place → place < 64 → has set place ≡ other place) →
     ((place : ℕ) → IsTrue (has set place) → (0 ≤ place) × (place < 64)) → IsSnapshot test 0 set
 whole test other set same each within = record {
-  each = λ place behind before. each place behind before ∙ same place;
+  each = λ place behind before. each place behind before ∙ (λ i. same i place);
   passed = λ place before. absurd (omega (arith, before));
   first = λ place past. false_from_ne_true (has set place) (λ is. let inside = within place is in omega (arith, past, inside.1));
 }

@@ -4,6 +4,8 @@ use Rattle.std.specs.Prelude.{ℕ, ◌&&◌, ◌||◌, Bool, true, false, Option
 use Rattle.reorder_buffer.specs.declared.slot.Slot.{Slot}
 use Rattle.reorder_buffer.specs.declared.slot.SlotState.{SlotState}
 use Rattle.reorder_buffer.specs.declared.slot.SlotState.TheVariants.{Waiting, Until, Done}
+use Rattle.reservation_stations.specs.declared.sought.Sought.{Sought}
+use Rattle.reservation_stations.specs.declared.sought.Sought.TheVariants.{Ready, Executing}
 use Rattle.mono_model.specs.Found.{Found, first_source, second_source}
 use Rattle.mono_model.specs.Window.{is_register}
 use Rattle.timing_side.specs.Slots.{is_waiting_state}
@@ -47,3 +49,8 @@ executes (Some slot) = is_executing_state slot.state
 
 abbrev pub executes_at : List Slot → ℕ → Bool
 executes_at slots place = executes (slice_get slots place)
+
+-- whether the slot at a place is one that a search looks for
+abbrev pub is_sought_at : Sought → List Slot → ℕ → Bool
+is_sought_at Ready = may_start_at
+is_sought_at Executing = executes_at

@@ -6,7 +6,7 @@ use fsim_base::NoMemory;
 use known_words::{KnownWords, OfWord};
 use load_store_queue::StoreQueue;
 use reorder_buffer::{Slot, SlotState, Window};
-use reservation_stations::{PlaceSet, Stations};
+use reservation_stations::{PlaceSet, Sought, Stations};
 use std::alloc::Global;
 use std::marker::Model;
 use trace_entry::Entry;
@@ -49,8 +49,7 @@ impl InFlight {
     ghost use Rattle.timing_side.specs.Issue.{busy_divisions, are_stores_done};
     ghost use Rattle.mono_model.specs.Found.{destination_in};
     ghost use Rattle.timing_side.specs.Slots.{found_in};
-    ghost use Rattle.in_flight.specs.Flight.{older_at, may_start_at, executes_at, IsExecuting};
-    ghost use Rattle.in_flight.specs.Flight.{reads_from};
+    ghost use Rattle.in_flight.specs.Flight.{older_at, is_sought_at, IsExecuting, reads_from};
     ghost use Rattle.in_flight.specs.Snapshot.{IsSnapshot};
 
     /// No instructions, with room for `capacity`, at most 256. All memory is taken here; want of it
@@ -170,87 +169,48 @@ impl InFlight {
         self.window.cut_from(number)
     }
 
-    /// The first place from a place on at which an instruction waits and has its operands; None
-    /// where there is none.
-    pub fn choose(&self, from: u32) -> Option<u32>
-        ensures behind { IfSome result (λ place. from ≤ place) }
-        ensures found { IfSome result (λ place. IsTrue (may_start_at self.now.slots place)) }
-        ensures first { IfSome result (λ place. (k : ℕ) → from ≤ k → k < place → may_start_at
-            self.now.slots k ≡ false) }
-        ensures none { IfNone result ((k : ℕ) → from ≤ k → may_start_at self.now.slots k ≡ false) }
-    {
-        self.stations.choose(from)
-    }
-
-    /// The first place from a place on at which an instruction executes; None where there is none.
-    pub fn executing(&self, from: u32) -> Option<u32>
-        ensures behind { IfSome result (λ place. from ≤ place) }
-        ensures found { IfSome result (λ place. IsTrue (executes_at self.now.slots place)) }
-        ensures first { IfSome result (λ place. (k : ℕ) → from ≤ k → k < place → executes_at
-            self.now.slots k ≡ false) }
-        ensures none { IfNone result ((k : ℕ) → from ≤ k → executes_at self.now.slots k ≡ false) }
-    {
-        self.stations.executing(from)
-    }
-
-    /// Those of the first 64 places at which an instruction waits and has its operands.
+    /// The first place from a place on at which an instruction is sought; None where there is none.
     #[inline(always)]
-    pub fn ready(&self) -> PlaceSet
-        ensures all { IsSnapshot (may_start_at self.now.slots) 0 result }
+    pub fn first(&self, sought: Sought, from: u32) -> Option<u32>
+        ensures behind { IfSome result (λ place. from ≤ place) }
+        ensures found { IfSome result (λ place. IsTrue (is_sought_at sought self.now.slots place)) }
+        ensures first { IfSome result (λ place. (k : ℕ) → from ≤ k → k < place →
+            is_sought_at sought self.now.slots k ≡ false) }
+        ensures none { IfNone result ((k : ℕ) → from ≤ k →
+            is_sought_at sought self.now.slots k ≡ false) }
     {
-        self.stations.ready_among(0)
+        self.stations.first(sought, from)
     }
 
-    /// The first place from a place on at which an instruction waits and has its operands; None
-    /// where there is none. It is taken out of `ready`, which has such places of the first 64.
+    /// Those of the first 64 places at which an instruction is sought.
     #[inline(always)]
-    pub fn choose_next(&self, ready: &mut PlaceSet, from: u32) -> Option<u32>
-        requires all { IsSnapshot (may_start_at self.now.slots) from ready.old }
+    pub fn snapshot(&self, sought: Sought) -> PlaceSet
+        ensures all { IsSnapshot (is_sought_at sought self.now.slots) 0 result }
+    {
+        self.stations.among(sought, 0)
+    }
+
+    /// The first place from a place on at which an instruction is sought; None where there is none.
+    /// It is taken out of a snapshot, which has such places of the first 64.
+    #[inline(always)]
+    pub fn next(&self, sought: Sought, snapshot: &mut PlaceSet, from: u32) -> Option<u32>
+        requires all { IsSnapshot (is_sought_at sought self.now.slots) from snapshot.old }
         ensures behind { IfSome result (λ place. from ≤ place) }
-        ensures found { IfSome result (λ place. IsTrue (may_start_at self.now.slots place)) }
-        ensures first { IfSome result (λ place. (k : ℕ) → from ≤ k → k < place → may_start_at
-            self.now.slots k ≡ false) }
-        ensures none { IfNone result ((k : ℕ) → from ≤ k → may_start_at self.now.slots k ≡ false) }
+        ensures found { IfSome result (λ place. IsTrue (is_sought_at sought self.now.slots place)) }
+        ensures first { IfSome result (λ place. (k : ℕ) → from ≤ k → k < place →
+            is_sought_at sought self.now.slots k ≡ false) }
+        ensures none { IfNone result ((k : ℕ) → from ≤ k →
+            is_sought_at sought self.now.slots k ≡ false) }
         ensures left { IfSome result (λ place.
-            IsSnapshot (may_start_at self.now.slots) (place + 1) ready.new) }
+            IsSnapshot (is_sought_at sought self.now.slots) (place + 1) snapshot.new) }
     {
-        if let Some(place) = ready.take_first() {
+        if let Some(place) = snapshot.take_first() {
             return Some(place);
         }
         if self.len() <= 64 {
             return None;
         }
-        self.choose(from.max(64))
-    }
-
-    /// Those of the first 64 places at which an instruction executes.
-    #[inline(always)]
-    pub fn executes(&self) -> PlaceSet
-        ensures all { IsSnapshot (executes_at self.now.slots) 0 result }
-    {
-        self.stations.executing_among(0)
-    }
-
-    /// The first place from a place on at which an instruction executes; None where there is none.
-    /// It is taken out of `executes`, which has such places of the first 64.
-    #[inline(always)]
-    pub fn executing_next(&self, executes: &mut PlaceSet, from: u32) -> Option<u32>
-        requires all { IsSnapshot (executes_at self.now.slots) from executes.old }
-        ensures behind { IfSome result (λ place. from ≤ place) }
-        ensures found { IfSome result (λ place. IsTrue (executes_at self.now.slots place)) }
-        ensures first { IfSome result (λ place. (k : ℕ) → from ≤ k → k < place → executes_at
-            self.now.slots k ≡ false) }
-        ensures none { IfNone result ((k : ℕ) → from ≤ k → executes_at self.now.slots k ≡ false) }
-        ensures left { IfSome result (λ place.
-            IsSnapshot (executes_at self.now.slots) (place + 1) executes.new) }
-    {
-        if let Some(place) = executes.take_first() {
-            return Some(place);
-        }
-        if self.len() <= 64 {
-            return None;
-        }
-        self.executing(from.max(64))
+        self.first(sought, from.max(64))
     }
 
     /// Whether all stores older than the instruction at a place are done.

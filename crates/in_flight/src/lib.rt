@@ -9,3 +9,4 @@ mod reading;
 mod registers;
 
 pub use flight::InFlight;
+pub use reservation_stations::Sought;

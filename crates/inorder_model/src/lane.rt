@@ -2,6 +2,7 @@ use crate::stages::{
     Executing, done_count, execute_latency, in_execute, is_load, is_past_fetch, memory_latency,
 };
 use fsim_base::NoMemory;
+use in_flight::Sought;
 use mono_model::Setup;
 use reorder_buffer::Slot;
 use std::alloc::Global;
@@ -255,7 +256,7 @@ impl LaneCore {
     fn is_idle(&self) -> bool
         ensures idle { result ≡ is_none (in_execute self.now.core.flight.slots) }
     {
-        self.core.flight().executing(0).is_none()
+        self.core.flight().first(Sought::Executing, 0).is_none()
     }
 
     /// Whether the sources of the youngest slot, at this place, have values, if it waits.
@@ -266,7 +267,8 @@ impl LaneCore {
             ≡ has_operands (found_in_order self.now.memory
             (older_at self.now.core.flight.slots place)) slot.now }
     {
-        self.core.flight().choose(place).is_some() && !self.waits_for_load(place, slot)
+        self.core.flight().first(Sought::Ready, place).is_some()
+            && !self.waits_for_load(place, slot)
     }
 
     /// Whether the slot at a place reads what a load in Memory, which has no value yet, writes.

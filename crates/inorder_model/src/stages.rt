@@ -8,7 +8,7 @@ ghost use Rattle.lane_side.specs.Issue.{is_past_fetch};
 ghost use Rattle.inorder_model.specs.Stages.{executing_in};
 
 use fsim_base::Class;
-use in_flight::InFlight;
+use in_flight::{InFlight, Sought};
 use mono_model::Params;
 use reorder_buffer::{Slot, SlotState};
 use timing_core::latency_of;
@@ -25,7 +25,7 @@ pub(crate) struct Executing {
 pub(crate) fn in_execute(flight: &InFlight) -> Option<Executing>
     ensures executing { executing_in result ≡ in_execute flight.now.slots }
 {
-    let Some(place) = flight.executing(0) else {
+    let Some(place) = flight.first(Sought::Executing, 0) else {
         return None;
     };
     let slot = flight.at(place);

@@ -8,7 +8,9 @@ use Rattle.std.proofs.lemmas.Option.{slice_get_past}
 use Rattle.std.proofs.lemmas.Nat.Bits.{bit_at_above}
 use Rattle.reservation_stations.specs.declared.station.Station.{Station}
 use Rattle.reservation_stations.specs.declared.sets.Sets.{Sets}
-use Rattle.reservation_stations.specs.Readiness.{Window, is_waiting, older_than, can_begin, can_begin_at, executes_at, executes}
+use Rattle.reservation_stations.specs.declared.sought.Sought.{Sought}
+use Rattle.reservation_stations.specs.declared.sought.Sought.TheVariants.{Ready, Executing}
+use Rattle.reservation_stations.specs.Readiness.{Window, is_waiting, older_than, can_begin, can_begin_at, executes_at, executes, is_sought_at}
 use Rattle.reservation_stations.specs.TurnSet.{holds}
 use Rattle.reservation_stations.specs.PlaceSet.{has}
 use Rattle.reservation_stations.specs.Places.{place_of}
@@ -72,11 +74,15 @@ module _ (capacity retired : ℕ) (stations : List Station) (sets : Sets) (are :
       ∙ are.executing t fits ∙ ap (executes_at stations) its
 
 -- none behind the list
-pub no_begin_past : (stations : List Station) (place : ℕ) → length stations ≤ place → can_begin_at stations place ≡ false
+no_begin_past : (stations : List Station) (place : ℕ) → length stations ≤ place → can_begin_at stations place ≡ false
 no_begin_past stations place past = ap (can_begin (older_than place stations)) (slice_get_past stations place past)
 
-pub no_executes_past : (stations : List Station) (place : ℕ) → length stations ≤ place → executes_at stations place ≡ false
+no_executes_past : (stations : List Station) (place : ℕ) → length stations ≤ place → executes_at stations place ≡ false
 no_executes_past stations place past = ap executes (slice_get_past stations place past)
+
+pub none_past : (sought : Sought) (stations : List Station) (place : ℕ) → length stations ≤ place → is_sought_at sought stations place ≡ false
+none_past Ready = no_begin_past
+none_past Executing = no_executes_past
 
 pub seen_sets : (capacity retired : ℕ) (sets : Sets) (v w : Window) → AreSetsOf capacity retired v.stations sets → v ≡ w → AreSetsOf capacity retired w.stations sets
 seen_sets capacity retired sets v w are is = subst (λ (u : Window). AreSetsOf capacity retired u.stations sets) is are

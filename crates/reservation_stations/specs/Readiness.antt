@@ -4,6 +4,8 @@ use Rattle.std.specs.Prelude.{ℕ, ◌+◌, ◌==◌, ◌&&◌, if◌then◌else
 use Rattle.reservation_stations.specs.declared.station.Mark.{Mark}
 use Rattle.reservation_stations.specs.declared.station.Mark.TheVariants.{Waiting, Issued, Done, Faulted}
 use Rattle.reservation_stations.specs.declared.station.Station.{Station}
+use Rattle.reservation_stations.specs.declared.sought.Sought.{Sought}
+use Rattle.reservation_stations.specs.declared.sought.Sought.TheVariants.{Ready, Executing}
 
 -- how many indices there are, and the stations of the instructions in the window, the oldest first
 pub record Window : Type 0 where
@@ -69,6 +71,11 @@ executes (Some station) = is_issued station.mark
 
 abbrev pub executes_at : List Station → ℕ → Bool
 executes_at stations place = executes (slice_get stations place)
+
+-- whether the station at a place is one that a search looks for
+abbrev pub is_sought_at : Sought → List Station → ℕ → Bool
+is_sought_at Ready = can_begin_at
+is_sought_at Executing = executes_at
 
 -- the station that holds an index, and its mark
 abbrev pub station_of : ℕ → List Station → Option Station

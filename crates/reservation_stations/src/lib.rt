@@ -5,6 +5,7 @@
 mod place_set;
 mod row;
 mod sets;
+mod sought;
 mod station;
 mod stations;
 mod tables;
@@ -13,5 +14,6 @@ mod tests;
 mod turn_set;
 
 pub use place_set::PlaceSet;
+pub use sought::Sought;
 pub use station::{Mark, Station};
 pub use stations::Stations;

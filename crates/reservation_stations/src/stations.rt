@@ -1,6 +1,7 @@
 use crate::place_set::PlaceSet;
 use crate::row::Row;
 use crate::sets::Sets;
+use crate::sought::Sought;
 use crate::station::Mark;
 use crate::tables::{awaited, drop_producer, rename, set_producer, uncounted};
 use crate::turn_set::TurnSet;
@@ -65,7 +66,7 @@ impl Stations {
     ghost use Rattle.std.specs.Prelude.{if◌then◌else◌};
     ghost use Rattle.reservation_stations.specs.Readiness.{Window, station_of, mark_of};
     ghost use Rattle.reservation_stations.specs.Readiness.{oldest_index};
-    ghost use Rattle.reservation_stations.specs.Readiness.{can_begin_at, executes_at};
+    ghost use Rattle.reservation_stations.specs.Readiness.{can_begin_at, is_sought_at};
     ghost use Rattle.reservation_stations.specs.Readiness.{marked, entered, waiting_count};
     ghost use Rattle.reservation_stations.specs.PlaceSet.{has};
 
@@ -215,29 +216,23 @@ impl Stations {
         ensures none { IfNone result ((k : ℕ) → from ≤ k →
             can_begin_at self.now.stations k ≡ false) }
     {
-        let mut block = from / 64 * 64;
-        while block < self.count {
-            let set = self.ready_among(block as u8);
-            if let Some(place) = set.first_from(from) {
-                return Some(place);
-            }
-            block += 64;
-        }
-        None
+        self.first(Sought::Ready, from)
     }
 
-    /// The place in the list of the first station from a place on that executes.
-    pub fn executing(&self, from: u32) -> Option<u32>
+    /// The place in the list of the first station from a place on that is sought.
+    #[inline(always)]
+    pub fn first(&self, sought: Sought, from: u32) -> Option<u32>
         ensures behind { IfSome result (λ place. from ≤ place) }
-        ensures found { IfSome result (λ place. IsTrue (executes_at self.now.stations place)) }
+        ensures found { IfSome result (λ place.
+            IsTrue (is_sought_at sought self.now.stations place)) }
         ensures first { IfSome result (λ place. (k : ℕ) → from ≤ k → k < place →
-            executes_at self.now.stations k ≡ false) }
+            is_sought_at sought self.now.stations k ≡ false) }
         ensures none { IfNone result ((k : ℕ) → from ≤ k →
-            executes_at self.now.stations k ≡ false) }
+            is_sought_at sought self.now.stations k ≡ false) }
     {
         let mut block = from / 64 * 64;
         while block < self.count {
-            let set = self.executing_among(block as u8);
+            let set = self.among(sought, block as u8);
             if let Some(place) = set.first_from(from) {
                 return Some(place);
             }
@@ -246,36 +241,25 @@ impl Stations {
         None
     }
 
-    /// Among the 64 places from one on, those at which a station waits and its operands have
-    /// values.
+    /// Among the 64 places from one on, those at which a station is sought.
     #[inline(always)]
-    pub fn ready_among(&self, from: u8) -> PlaceSet
+    pub fn among(&self, sought: Sought, from: u8) -> PlaceSet
         requires inside { from ≤ 192 }
-        ensures ready { (place : ℕ) → from ≤ place → place < from + 64
-            → has result place ≡ can_begin_at self.now.stations place }
+        ensures all { (place : ℕ) → from ≤ place → place < from + 64
+            → has result place ≡ is_sought_at sought self.now.stations place }
         ensures others { (place : ℕ) → IsTrue (has result place)
             → (from ≤ place) × (place < from + 64) }
     {
         let turn = self.retired.wrapping_add(from);
-        PlaceSet {
-            from,
-            word: self.sets.ready_from(turn),
-        }
-    }
-
-    /// Among the 64 places from one on, those at which a station executes.
-    #[inline(always)]
-    pub fn executing_among(&self, from: u8) -> PlaceSet
-        requires inside { from ≤ 192 }
-        ensures executes { (place : ℕ) → from ≤ place → place < from + 64
-            → has result place ≡ executes_at self.now.stations place }
-        ensures others { (place : ℕ) → IsTrue (has result place)
-            → (from ≤ place) × (place < from + 64) }
-    {
-        let turn = self.retired.wrapping_add(from);
-        PlaceSet {
-            from,
-            word: self.sets.executing_from(turn),
+        match sought {
+            Sought::Ready => PlaceSet {
+                from,
+                word: self.sets.ready_from(turn),
+            },
+            Sought::Executing => PlaceSet {
+                from,
+                word: self.sets.executing_from(turn),
+            },
         }
     }
 }

@@ -1,4 +1,4 @@
-use crate::Stations;
+use crate::{Sought, Stations};
 use std::test::Fail;
 
 /// How many wait, and the first two places that can begin.
@@ -25,9 +25,17 @@ fn a_source_waits_for_its_youngest_older_writer(rt: HostRuntime) -> Result<(), F
         "both loads have their operand"
     );
     stations.issue(3);
-    assert_eq!(rt; stations.executing(0), Some(0), "the first load executes");
+    assert_eq!(rt;
+        stations.first(Sought::Executing, 0),
+        Some(0),
+        "the first load executes"
+    );
     stations.wake(3, false);
-    assert_eq!(rt; stations.executing(0), None, "none executes any more");
+    assert_eq!(rt;
+        stations.first(Sought::Executing, 0),
+        None,
+        "none executes any more"
+    );
     assert_eq!(rt; seen(&stations), (2, Some(1), Some(2)), "x5 has its value");
     stations.keep(2);
     stations.enter(1, (Some(5), Some(6)), None);

@@ -3,7 +3,7 @@ ghost use Rattle.timing_side.specs.Complete.{is_finishing, is_mispredicted, comp
 
 use crate::orders::Orders;
 use crate::state::TimingCore;
-use in_flight::InFlight;
+use in_flight::{InFlight, Sought};
 use reorder_buffer::{Slot, SlotState};
 use rollback_cmds::Order;
 
@@ -46,10 +46,10 @@ fn finish_due(flight: &mut InFlight, cycle: u64) -> Option<Redirect>
         { slots = take r.kept flight.new.slots; redirect = Some r.addr }) }
 {
     let len = flight.len();
-    let mut executes = flight.executes();
+    let mut executes = flight.snapshot(Sought::Executing);
     let mut from = 0;
     while from < len {
-        let Some(place) = flight.executing_next(&mut executes, from) else {
+        let Some(place) = flight.next(Sought::Executing, &mut executes, from) else {
             return None;
         };
         let slot = flight.at(place);

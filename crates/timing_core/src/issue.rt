@@ -5,6 +5,7 @@ use crate::orders::Orders;
 use crate::state::TimingCore;
 use crate::units::{Used, latency_of};
 use fsim_base::{Access, Class, Spot};
+use in_flight::Sought;
 use reorder_buffer::{Slot, SlotState};
 use rollback_cmds::Order;
 
@@ -187,11 +188,11 @@ impl TimingCore {
     {
         let busy = self.flight.dividing();
         let len = self.flight.len();
-        let mut ready = self.flight.ready();
+        let mut ready = self.flight.snapshot(Sought::Ready);
         let mut used = Used::none();
         let mut from = 0;
         while from < len {
-            let Some(place) = self.flight.choose_next(&mut ready, from) else {
+            let Some(place) = self.flight.next(Sought::Ready, &mut ready, from) else {
                 return;
             };
             used = self.turn(place, busy, used);

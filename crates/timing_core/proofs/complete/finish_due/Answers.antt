@@ -39,7 +39,7 @@ loop-from-preserved c =
           record {
             room = ap (λ (f : Contents). f.capacity) done ∙ c.loop-from.invariant.room;
             count = ap (λ (f : Contents). length f.slots) done ∙ length-set slots place (finished slot) ∙ c.loop-from.invariant.count;
-            executes = still _ _ (place + 1) c.executing_next.new.executes
+            executes = still _ _ (place + 1) c.next.new.snapshot
                 (λ k behind. ap (λ (f : Contents). executes_at f.slots k) done ∙ executes_behind slots place (finished slot) k (omega (arith, behind))) c.in-Some.ensures.left;
             whole =
                 moved c.args.cycle place (slice_set slots place (finished slot)) c.if-is_finishing.flight (completes c.args.cycle c.args.flight.now.slots) (ap (λ (f : Contents). f.slots) done)
@@ -50,7 +50,7 @@ loop-from-preserved c =
           record {
             room = ap (λ (f : Contents). f.capacity) w.flight-is ∙ c.loop-from.invariant.room;
             count = ap (λ (f : Contents). length f.slots) w.flight-is ∙ c.loop-from.invariant.count;
-            executes = still _ _ (place + 1) c.executing_next.new.executes (λ k behind. ap (λ (f : Contents). executes_at f.slots k) w.flight-is) c.in-Some.ensures.left;
+            executes = still _ _ (place + 1) c.next.new.snapshot (λ k behind. ap (λ (f : Contents). executes_at f.slots k) w.flight-is) c.in-Some.ensures.left;
             whole =
                 moved c.args.cycle place slots c.if-is_finishing.flight (completes c.args.cycle c.args.flight.now.slots) (ap (λ (f : Contents). f.slots) w.flight-is)
                 (c.loop-from.invariant.whole ∙ come ∙ passes c.args.cycle place slots slot c.at-slot.ensures.slot (sym c.is_finishing.ensures.due ∙ w.if-is_finishing.false));

@@ -16,7 +16,7 @@ returns-then-is_some c =
     let flight = c.flight.ensures.flight in
     let here = ap (λ (f : Contents). slice_get f.slots place) flight ∙ c.requires.there in
     let last = ap (λ (f : Contents). length f.slots) flight ∙ c.requires.last in
-    let starts = starts_is c.flight.result.now.slots place slot c.choose.result here last c.choose.ensures.behind c.choose.ensures.found c.choose.ensures.none in
+    let starts = starts_is c.flight.result.now.slots place slot c.first.result here last c.first.ensures.behind c.first.ensures.found c.first.ensures.none in
     let ready : may_start (older_at slots place) (Some slot) ≡ true =
     ap (λ (f : Contents). may_start (older_at f.slots place) (Some slot)) (sym flight) ∙ sym starts ∙ sym c.is_some.ensures ∙ c.if-is_some.true in
     record {

@@ -8,7 +8,7 @@ use Rattle.timing_core.proofs.state.TimingCore.issue_all.Goals as goal
 pub loop-from-init : goal.loop-from-init
 loop-from-init c = record {
   size = sym c.len-len.ensures.count;
-  ready = c.ready-ready.ensures.all;
+  ready = c.snapshot-ready.ensures.all;
   walked = λ s t k small. walks_from_start s t c.dividing-busy.result c.args.self.now (used_in c.none-used.result) k c.none-used.ensures.none;
 }
 
@@ -31,7 +31,7 @@ overflow_add-from c =
 pub loop-from-preserved : goal.loop-from-preserved
 loop-from-preserved c = record {
   size = c.turn-used.ensures.size ∙ c.loop-from.invariant.size;
-  ready = still _ _ (c.in-Some.place + 1) c.choose_next.new.ready (λ k behind. c.turn-used.ensures.behind k (omega (arith, behind))) c.in-Some.ensures.left;
+  ready = still _ _ (c.in-Some.place + 1) c.next.new.snapshot (λ k behind. c.turn-used.ensures.behind k (omega (arith, behind))) c.in-Some.ensures.left;
   walked = λ s t k small.
       let core = c.loop-from.self in let place = c.in-Some.place in let busy = c.dividing-busy.result in let used = used_in c.loop-from.used in
       let here = walks_to s t busy core c.loop-from.from place used (c.loop-from.invariant.walked s t k small) c.in-Some.ensures.behind c.in-Some.ensures.first in

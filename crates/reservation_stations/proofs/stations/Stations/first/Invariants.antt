@@ -1,12 +1,12 @@
 use Rattle.std.proofs.Common.{◌≡◌, ℕ, ◌-◌, ◌%◌, ◌≤◌, ◌<◌, false}
-use Rattle.reservation_stations.specs.Readiness.{executes_at}
-use Rattle.reservation_stations.proofs.stations.Stations.executing.Given as goal
+use Rattle.reservation_stations.specs.Readiness.{is_sought_at}
+use Rattle.reservation_stations.proofs.stations.Stations.first.Given as goal
 
 -- there is none in front of the 64 places
 abbrev pub invariant-loop-block : goal.invariant-loop-block
 invariant-loop-block l = record {
   whole : l.block % 64 ≡ 0;
-  none : (k : ℕ) → l.from ≤ k → k < l.block → executes_at l.self.stations k ≡ false;
+  none : (k : ℕ) → l.from ≤ k → k < l.block → is_sought_at l.sought l.self.stations k ≡ false;
 }
 
 abbrev pub decreases-loop-block : goal.decreases-loop-block
