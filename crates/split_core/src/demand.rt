@@ -84,14 +84,12 @@ impl<D: Device, T: Timing> SplitState<D, T> {
         requires clear { IsClear self.old }
         ensures plays { Plays T.timed self.old self.new }
     {
-        let mut turn = Turn::Moved;
-        // each step may want an entry first
-        for _ in 0..self.steps.saturating_mul(2) {
-            turn = match turn {
-                Turn::Want => self.hand_over(),
+        for _ in 0..self.steps {
+            match self.play_turn() {
                 Turn::Halted => return,
-                Turn::Moved | Turn::CycleEnd | Turn::Ordered(_) => self.play_turn(),
-            };
+                Turn::Want => self.hand_over_wanted(),
+                Turn::Moved | Turn::CycleEnd | Turn::Ordered(_) => {}
+            }
         }
     }
 
@@ -108,11 +106,26 @@ impl<D: Device, T: Timing> SplitState<D, T> {
         turn
     }
 
+    /// Hands over one entry after the other, as long as the timing side wants the next one.
+    fn hand_over_wanted(&mut self)
+        requires standing { IsStandingOn T.timed self.old }
+        requires clear { IsClear self.old }
+        ensures plays { Plays T.timed self.old self.new }
+        ensures clear { IsClear self.new }
+    {
+        let mut entry = Entry::BLANK;
+        for _ in 0..self.steps {
+            if self.hand_over(&mut entry) != Turn::Want {
+                return;
+            }
+        }
+    }
+
     /// Hands the timing side the next entry as it is computed, if it wants one: as where it goes
     /// through the list of entries, with none before it. The order that the steps with it tell is
     /// obeyed at once. Behind a turn that wants an entry neither early answer is given: the tests
-    /// are there for the conditions of the calls.
-    fn hand_over(&mut self) -> Turn
+    /// are there for the conditions of the calls. The entry is written over the one before it.
+    fn hand_over(&mut self, entry: &mut Entry) -> Turn
         requires standing { IsStandingOn T.timed self.old }
         requires clear { IsClear self.old }
         ensures plays { Plays T.timed self.old self.new }
@@ -121,11 +134,10 @@ impl<D: Device, T: Timing> SplitState<D, T> {
         if !self.time.wants() {
             return Turn::Moved;
         }
-        let mut entry = Entry::BLANK;
-        if !self.func.produce_into(&mut entry) {
+        if !self.func.produce_into(entry) {
             return Turn::Moved;
         }
-        let turn = self.time.feed(&entry);
+        let turn = self.time.feed(entry);
         self.obey_told(order_told(turn));
         turn
     }

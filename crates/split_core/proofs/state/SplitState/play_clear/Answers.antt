@@ -7,28 +7,32 @@ use Rattle.split_core.proofs.state.SplitState.play_clear.Goals.{in-Want, in-Move
 pub loop-init : goal.loop-init
 loop-init g c = record { far = demand_start g.T.Timing.timed g.met.T.Timing.laws c.args.self.now c.requires.standing; clear = c.requires.clear }
 
-pub hand_over-turn-requires : goal.hand_over-turn-requires
-hand_over-turn-requires g c = record { standing = c.loop.invariant.far.standing; clear = c.loop.invariant.clear }
-
-pub play_turn-turn-requires : goal.play_turn-turn-requires
-play_turn-turn-requires g c = record { standing = c.loop.invariant.far.standing; clear = c.loop.invariant.clear }
-
-pub loop-preserved : goal.loop-preserved
-loop-preserved g c = record {
-  far = elim c.match-turn.branch [
-    | in-Want w ↦ subst (OnDemand g.T.Timing.timed c.args.self.now) (sym w.self-is)
-        (demand_more g.T.Timing.timed g.met.T.Timing.laws c.args.self.now c.loop.self w.hand_over-turn.new.self c.loop.invariant.far w.hand_over-turn.ensures.plays)
-    | in-Moved w ↦ subst (OnDemand g.T.Timing.timed c.args.self.now) (sym w.self-is)
-        (demand_more g.T.Timing.timed g.met.T.Timing.laws c.args.self.now c.loop.self w.play_turn-turn.new.self c.loop.invariant.far w.play_turn-turn.ensures.plays)
-  ];
-  clear = elim c.match-turn.branch [
-    | in-Want w ↦ subst IsClear (sym w.self-is) w.hand_over-turn.ensures.clear
-    | in-Moved w ↦ subst IsClear (sym w.self-is) w.play_turn-turn.ensures.clear
-  ];
-}
+pub play_turn-requires : goal.play_turn-requires
+play_turn-requires g c = record { standing = c.loop.invariant.far.standing; clear = c.loop.invariant.clear }
 
 pub returns-in-Halted : goal.returns-in-Halted
-returns-in-Halted g c = record { plays = c.loop.invariant.far.plays }
+returns-in-Halted g c = record {
+  plays = (demand_more g.T.Timing.timed g.met.T.Timing.laws c.args.self.now c.loop.self c.play_turn.new.self c.loop.invariant.far c.play_turn.ensures.plays).plays;
+}
 
-pub returns : goal.returns
-returns g c = record { plays = c.loop.invariant.far.plays }
+pub hand_over_wanted-requires : goal.hand_over_wanted-requires
+hand_over_wanted-requires g c = record {
+  standing = (demand_more g.T.Timing.timed g.met.T.Timing.laws c.args.self.now c.loop.self c.play_turn.new.self c.loop.invariant.far c.play_turn.ensures.plays).standing;
+  clear = c.play_turn.ensures.clear;
+}
+
+pub loop-preserved : goal.loop-preserved
+loop-preserved g c =
+    let turned : OnDemand g.T.Timing.timed c.args.self.now c.play_turn.new.self =
+    demand_more g.T.Timing.timed g.met.T.Timing.laws c.args.self.now c.loop.self c.play_turn.new.self c.loop.invariant.far c.play_turn.ensures.plays in
+    record {
+      far = elim c.match-play_turn.branch [
+        | in-Want w ↦ subst (OnDemand g.T.Timing.timed c.args.self.now) (sym w.self-is)
+            (demand_more g.T.Timing.timed g.met.T.Timing.laws c.args.self.now c.play_turn.new.self w.hand_over_wanted.new.self turned w.hand_over_wanted.ensures.plays)
+        | in-Moved w ↦ subst (OnDemand g.T.Timing.timed c.args.self.now) (sym w.self-is) turned
+      ];
+      clear = elim c.match-play_turn.branch [
+        | in-Want w ↦ subst IsClear (sym w.self-is) w.hand_over_wanted.ensures.clear
+        | in-Moved w ↦ subst IsClear (sym w.self-is) c.play_turn.ensures.clear
+      ];
+    }
