@@ -12,7 +12,6 @@ use Rattle.mono_model.specs.Arch.{Arch, start}
 use Rattle.mono_model.specs.Sequence.{seq, entry_at}
 use Rattle.mono_model.specs.Path.{path, entry, time_of}
 use Rattle.mono_model.specs.Split.{room}
-use Rattle.func_model.specs.declared.hart.Hart.{Hart}
 use Rattle.func_model.specs.declared.contents.Contents.{Contents}
 use Rattle.func_model.specs.declared.walk.Walk.{Walk}
 use Rattle.func_model.specs.Hart.{arch_of}
@@ -21,7 +20,6 @@ use Rattle.func_model.specs.Contents.{ContentsStandFor, output_in, retired_in}
 use Rattle.func_model.specs.Walk.{IsStep, LeadsBack, IsOnPath, WalkStandsFor, IsProduced, noted_in}
 use Rattle.mono_model.proofs.Path.{path_next, goes_on_more}
 use Rattle.func_model.proofs.Path.{retired_within}
-use Rattle.func_model.proofs.Fetching.{still_stands, still_room}
 use Rattle.func_model.proofs.Leading.{leads_more}
 use Rattle.func_model.proofs.Outputs.{outputs_on, outputs_within}
 
@@ -203,28 +201,6 @@ produced_on {D} s os old contents time told past new h running time_is stands sp
     record {
       entry_is = told_is ∙ ap (λ (t : Option ℕ). entry_at s t a old.position old.epoch) time_is ∙ ap (λ (e : ℕ). entry_at s (time_of os old.position) a old.position e) h.holds.epoch;
       stands = subst W (sym new_is) (noted_on s os old contents past h running made number (subst U time_is back) restorable);
-    }
-
--- a walk whose hart has fetched stands as before
-pub walk_still : {D : Type 0} (s : Setup) (os : List Order) (walk : Walk D) (contents : Contents D) (hart : Hart) → hart ≡ record walk.contents.hart { decoded = hart.decoded } →
-    contents ≡ record walk.contents { hart = hart } → WalkStandsFor s os walk → WalkStandsFor s os (record walk { contents = contents })
-walk_still {D} s os walk contents hart others is h =
-    let C : Contents D → Type 0 = λ x. ContentsStandFor s (path s os walk.position) x in
-    record {
-      holds = record {
-        contents = subst C (sym is) (still_stands s (path s os walk.position) walk.contents hart others h.holds.contents);
-        back = h.holds.back;
-        held = h.holds.held;
-        capacity = h.holds.capacity;
-        limit = h.holds.limit;
-        space = ap (λ (x : Contents D). x.hart.room) is ∙ still_room walk.contents.hart hart others ∙ h.holds.space;
-        given = h.holds.given;
-        epoch = h.holds.epoch;
-        within = h.holds.within;
-      };
-      done = h.done;
-      stopped = h.stopped;
-      on = h.on;
     }
 
 -- a walk at the start of a run

@@ -1,4 +1,5 @@
 pub mod Hart
+pub mod Memory
 pub mod Undo
 pub mod Steps
 pub mod Contents

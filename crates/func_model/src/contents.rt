@@ -8,13 +8,12 @@ ghost use Rattle.func_model.specs.Undo.{ended_in, is_device};
 
 use crate::found::Fetched;
 use crate::hart::{Hart, compare, plain, trap_before};
+use crate::memory::Memory;
 use crate::performed::{Interrupted, Made, PastStep, Performed, Stepped};
 use device_bus::{Bus, Device};
 use fsim_base::{Access, Class, Halt, NoMemory, RamRange, Width};
-use known_words::KnownWords;
 use machine_csr::Csrs;
 use mono_model::{End, Final, Setup, Stats, end_of};
-use phys_mem::Ram;
 use rv_decode::Insn;
 use std::alloc::Global;
 use trace_entry::Entry;
@@ -267,7 +266,7 @@ impl<D: Device> Contents<D> {
         };
         let mut bus = Bus::new(devices);
         bus.start(alloc, setup.input.as_slice())?;
-        let memory = Ram::new(alloc, range, &setup.image)?;
+        let memory = Memory::new(alloc, range, &setup.image)?;
         let room = setup.output + ahead;
         let Ok(output) = Vec::with_capacity(alloc, room as usize) else {
             return Err(NoMemory);
@@ -279,7 +278,6 @@ impl<D: Device> Contents<D> {
             memory,
             output,
             room,
-            decoded: KnownWords::new(alloc)?,
         };
         let cmp = compare(&bus);
         Ok(Contents { hart, bus, cmp })

@@ -9,15 +9,13 @@ ghost use Rattle.func_model.specs.Steps.{plain_with, reaches_out, is_transfer};
 ghost use Rattle.func_model.specs.Undo.{csr_back, flags_before, trap_before};
 ghost use Rattle.machine_csr.specs.Csr.{csr_written};
 
-use crate::decoded::Decoding;
 use crate::found::Fetched;
+use crate::memory::Memory;
 use crate::performed::{Performed, Stepped};
 use device_bus::{Bus, Device, Note};
 use fsim_base::{Access, Cause, Spot, Width, wrap_add};
-use known_words::KnownWords;
 use machine_csr::address::{MCAUSE, MEPC, MSCRATCH, MTVAL, MTVEC};
 use machine_csr::{CsrWrite, Csrs, reads_time};
-use phys_mem::Ram;
 use rv_decode::Insn;
 use rv_exec::{Outcome, Reach, eval, extend};
 use undo_journal::{Change, OldCsr, OldRegister, OldTrap, Past};
@@ -28,13 +26,11 @@ pub struct Hart {
     pub pc: u32,
     pub regs: [u32; 32],
     pub csrs: Csrs,
-    pub memory: Ram,
+    pub memory: Memory,
     /// The bytes sent to the console.
     pub output: Vec<u8>,
     /// How many of them have room.
     pub room: u32,
-    /// Words that need not be decoded again: no part of the state that the hart is in.
-    pub decoded: KnownWords<Decoding>,
     ghost holds: { room ≤ vec_capacity output },
 }
 
@@ -230,25 +226,15 @@ impl Hart {
     ghost use Rattle.fsim_base.specs.declared.access.RamRange.{RamRange};
     ghost use Rattle.undo_journal.specs.declared.past.Change.TheVariants.{Csr};
 
-    /// What stands at the next address. Nothing of the hart changes but its decoded words.
-    #[tactic(auto, unfolding(crate::specs::Hart::found_by))]
+    /// What stands at the next address.
     #[inline(always)]
     pub fn fetch(&mut self) -> Fetched
         ensures found { found_in result
             ≡ found_by (exec_of self.old.memory) (text_of self.old.memory) self.old.pc }
         ensures fits { FetchedFits result }
-        ensures others { self.new ≡ record self.old { decoded = self.new.decoded } }
+        ensures others { self.new ≡ self.old }
     {
-        if self.pc % 4 != 0 {
-            return Fetched::Refused(Cause::InstructionMisaligned);
-        }
-        let Some(word) = self.memory.text(self.pc) else {
-            return Fetched::Refused(Cause::InstructionAccess);
-        };
-        match self.decoded.told(self.pc, word).insn {
-            None => Fetched::Unknown(word),
-            Some(insn) => Fetched::Known(word, insn),
-        }
+        self.memory.fetch(self.pc)
     }
 
     /// The value of a source register, and 0 where there is none.

@@ -4,10 +4,10 @@
 #![tactic(auto)]
 
 mod contents;
-mod decoded;
 mod found;
 mod hart;
 mod history;
+mod memory;
 mod performed;
 mod side;
 mod trail;

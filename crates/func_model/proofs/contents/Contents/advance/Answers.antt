@@ -1,4 +1,4 @@
-use Rattle.std.proofs.Common.{◌≡◌, ℕ, ◌≤◌, ◌+◌, true, Some, None, ap, sym, ◌∙◌, subst}
+use Rattle.std.proofs.Common.{◌≡◌, true, Some, None, ap, sym, ◌∙◌, arith}
 use Rattle.machine_csr.specs.declared.csrs.Csrs.{Csrs}
 use Rattle.device_bus.specs.declared.undo.Note.TheVariants as note
 use Rattle.mono_model.specs.Setup.{ram_range}
@@ -8,11 +8,13 @@ use Rattle.mono_model.specs.Effect.{note_of}
 use Rattle.mono_model.specs.Result.{Result}
 use Rattle.mono_model.specs.Sequence.{found_next, result_at}
 use Rattle.phys_mem.specs.Ram.{exec_of, range_of}
+use Rattle.func_model.specs.declared.hart.Hart.{Hart}
 use Rattle.func_model.specs.Hart.{arch_of, found_in}
 use Rattle.func_model.specs.Steps.{result_of}
 use Rattle.func_model.proofs.Compared.{compare_kept, compare_in, compare_for}
 use Rattle.func_model.proofs.Advance.{met_found, met_behind, met_stepped, after_plain, after_fence, fence_plain, fence_silent, result_same}
-use Rattle.func_model.proofs.Fetching.{still_stands, still_bound}
+use Rattle.func_model.proofs.Counts.{behind_retired}
+use Rattle.func_model.proofs.Fetching.{still_stands}
 use Rattle.func_model.proofs.contents.Contents.advance.Goals as goal
 
 pub returns-then-is_fence_i-clause-stepped : goal.returns-then-is_fence_i-clause-stepped
@@ -70,15 +72,9 @@ returns-then-is_fence_i-clause-stands g c = λ s a is h.
 pub returns-then-is_fence_i-clause-bound : goal.returns-then-is_fence_i-clause-bound
 unfolding arch_of
 returns-then-is_fence_i-clause-bound g c =
-    let P : ℕ → Type 0 = λ n. n ≤ c.args.self.now.hart.csrs.retired + 1 in
-    subst P (sym (ap (λ (x : Csrs). x.retired) c.sync.ensures.csrs ∙ ap (λ (x : Arch). x.csrs.retired) c.execute-done.ensures.arch))
-    (still_bound c.args.limit (found_in c.fetch-fetched.result) (result_of (range_of c.fetch-fetched.new.self.memory) (found_in c.fetch-fetched.result) (Some c.args.time) (arch_of c.fetch-fetched.new.self c.args.self.now.bus)) (Some c.args.time) c.args.self.now.hart c.fetch-fetched.new.self c.args.self.now.bus
-    c.fetch-fetched.ensures.others)
+    omega (arith, ap (λ (x : Csrs). x.retired) c.sync.ensures.csrs, ap (λ (x : Arch). x.csrs.retired) c.execute-done.ensures.arch, ap (λ (x : Hart). x.csrs.retired) c.fetch-fetched.ensures.others, behind_retired c.args.limit (found_in c.fetch-fetched.result) (result_of (range_of c.fetch-fetched.new.self.memory) (found_in c.fetch-fetched.result) (Some c.args.time) (arch_of c.fetch-fetched.new.self c.args.self.now.bus)) (Some c.args.time) (arch_of c.fetch-fetched.new.self c.args.self.now.bus))
 
 pub returns-else-is_fence_i-clause-bound : goal.returns-else-is_fence_i-clause-bound
 unfolding arch_of
 returns-else-is_fence_i-clause-bound g c =
-    let P : ℕ → Type 0 = λ n. n ≤ c.args.self.now.hart.csrs.retired + 1 in
-    subst P (sym (ap (λ (x : Arch). x.csrs.retired) c.execute-done.ensures.arch))
-    (still_bound c.args.limit (found_in c.fetch-fetched.result) (result_of (range_of c.fetch-fetched.new.self.memory) (found_in c.fetch-fetched.result) (Some c.args.time) (arch_of c.fetch-fetched.new.self c.args.self.now.bus)) (Some c.args.time) c.args.self.now.hart c.fetch-fetched.new.self c.args.self.now.bus
-    c.fetch-fetched.ensures.others)
+    omega (arith, ap (λ (x : Arch). x.csrs.retired) c.execute-done.ensures.arch, ap (λ (x : Hart). x.csrs.retired) c.fetch-fetched.ensures.others, behind_retired c.args.limit (found_in c.fetch-fetched.result) (result_of (range_of c.fetch-fetched.new.self.memory) (found_in c.fetch-fetched.result) (Some c.args.time) (arch_of c.fetch-fetched.new.self c.args.self.now.bus)) (Some c.args.time) (arch_of c.fetch-fetched.new.self c.args.self.now.bus))

@@ -1,0 +1,173 @@
+ghost use Rattle.std.specs.Prelude.{◌≡◌, ◌%◌, ◌^◌, All, OnOk, IfOk, IfErr, IfSome, IfNone, length};
+ghost use Rattle.fsim_base.specs.Width.{width_bytes};
+ghost use Rattle.elf_image.specs.Sound.{IsSound};
+ghost use Rattle.elf_image.specs.Load.{image_byte, is_executable};
+ghost use Rattle.mono_model.specs.Found.{refused};
+ghost use Rattle.phys_mem.specs.Ram.{ram_of, exec_of, text_of, range_of, text_from, loaded, stored};
+ghost use Rattle.func_model.specs.Hart.{found_in, FetchedFits, found_by};
+ghost use Rattle.func_model.specs.Memory.{IsOfText};
+
+use crate::found::Fetched;
+use elf_image::Image;
+use fsim_base::{Cause, NoMemory, RamRange, Width};
+use phys_mem::Ram;
+use rv_decode::{Insn, decode};
+use std::alloc::Global;
+use std::marker::Model;
+
+/// How many words of the text are kept: as many as 16 KiB have.
+const KEPT: usize = 4096;
+
+/// Beyond every address.
+const NOWHERE: u64 = 1 << 32;
+
+/// A word of the text by its address, with its instruction, if it is one.
+#[derive(Clone, Copy, Debug)]
+struct TextWord {
+    /// `NOWHERE` where no word is kept.
+    addr: u64,
+    word: u32,
+    insn: Option<Insn>,
+}
+
+/// Keeps the word of the text at an address, in place of another one, or says why there is none.
+#[tactic(auto, unfolding(crate::specs::Hart::found_by))]
+#[inline(never)]
+fn keep(ram: &Ram, addr: u32, kept: &mut TextWord) -> Result<(), Cause>
+    ensures kept { OnOk result (kept.new.addr ≡ addr) }
+    ensures refused { IfErr result (λ cause. refused cause
+        ≡ found_by (exec_of ram.now) (text_of ram.now) addr) }
+    ensures text { IsOfText (exec_of ram.now) (text_of ram.now) kept.old
+        → IsOfText (exec_of ram.now) (text_of ram.now) kept.new }
+{
+    if addr % 4 != 0 {
+        return Err(Cause::InstructionMisaligned);
+    }
+    let Some(word) = ram.text(addr) else {
+        return Err(Cause::InstructionAccess);
+    };
+    *kept = TextWord {
+        addr: u64::from(addr),
+        word,
+        insn: decode(word),
+    };
+    Ok(())
+}
+
+/// Keeps none of these words.
+fn forget(words: &mut Vec<TextWord>)
+    ensures length { length words.new.items ≡ length words.old.items }
+    ensures nowhere { All (λ kept. kept.addr ≡ 2 ^ 32) words.new.items }
+{
+    for kept in words.iter_mut() {
+        kept.addr = NOWHERE;
+    }
+}
+
+/// RAM, with words of its text that fetch was asked for and what they decode to. The text changes
+/// only where fetch is let see memory; until then what is kept stays true.
+#[derive(Drop)]
+pub struct Memory {
+    ram: Ram,
+    /// A word is kept in the place that its address selects.
+    words: Vec<TextWord>,
+}
+
+impl Model for Memory {
+    ghost use Rattle.std.specs.Prelude.{◌≡◌, All, length};
+    ghost use Rattle.phys_mem.specs.declared.ram.Ram.{Ram};
+
+    ghost Value = { Ram };
+
+    ghost use Rattle.phys_mem.specs.Ram.{exec_of, text_of};
+    ghost use Rattle.func_model.specs.Memory.{IsOfText};
+
+    ghost view = { λ memory. memory.ram };
+
+    ghost invariant = { λ memory. (length memory.words.items ≡ 4096)
+        × All (IsOfText (exec_of memory.ram) (text_of memory.ram)) memory.words.items };
+}
+
+impl Memory {
+    /// RAM as an image that is sound for its range leaves it. All memory is taken here; want of it
+    /// is the one refusal.
+    pub fn new(alloc: Global, range: RamRange, image: &Image) -> Result<Memory, NoMemory>
+        requires sound { IsSound image.now range }
+        ensures range { IfOk result (λ ram. range_of ram ≡ range) }
+        ensures ram { IfOk result (λ ram. ram_of ram ≡ image_byte image.now) }
+        ensures exec { IfOk result (λ ram. exec_of ram ≡ is_executable image.now) }
+        ensures text { IfOk result (λ ram. text_of ram
+            ≡ text_from (is_executable image.now) (image_byte image.now)) }
+    {
+        let ram = Ram::new(alloc, range, image)?;
+        let none = TextWord {
+            addr: NOWHERE,
+            word: 0,
+            insn: None,
+        };
+        let Ok(words) = vec![in alloc; none; KEPT] else {
+            return Err(NoMemory);
+        };
+        Ok(Memory { ram, words })
+    }
+
+    /// The value of an aligned access, none where it isn't inside RAM. Little endian.
+    pub fn get(&self, addr: u32, width: Width) -> Option<u32>
+        requires aligned { addr % width_bytes width ≡ 0 }
+        ensures value { result ≡ loaded (range_of self.now) (ram_of self.now) addr width }
+    {
+        self.ram.get(addr, width)
+    }
+
+    /// Stores the low bytes of a value by an aligned access, and gives the value that it replaces;
+    /// none, and nothing changes, where the access isn't inside RAM. Little endian. Storing the
+    /// value that was given restores RAM.
+    pub fn set(&mut self, addr: u32, width: Width, value: u32) -> Option<u32>
+        requires aligned { addr % width_bytes width ≡ 0 }
+        ensures old { result ≡ loaded (range_of self.old) (ram_of self.old) addr width }
+        ensures ram { ram_of self.new
+            ≡ stored (range_of self.old) (ram_of self.old) addr width value }
+        ensures back { IfSome result (λ old.
+            stored (range_of self.old) (ram_of self.new) addr width old ≡ ram_of self.old) }
+        ensures none { IfNone result (self.new ≡ self.old) }
+
+        // The text stays as it was.
+        ensures text { text_of self.new ≡ text_of self.old }
+        ensures exec { exec_of self.new ≡ exec_of self.old }
+        ensures range { range_of self.new ≡ range_of self.old }
+    {
+        self.ram.set(addr, width, value)
+    }
+
+    /// Lets fetch see memory as it stands: the text becomes memory's bytes.
+    pub fn sync(&mut self)
+        ensures text { text_of self.new ≡ text_from (exec_of self.old) (ram_of self.old) }
+
+        // All else stays as it was.
+        ensures ram { ram_of self.new ≡ ram_of self.old }
+        ensures exec { exec_of self.new ≡ exec_of self.old }
+        ensures range { range_of self.new ≡ range_of self.old }
+    {
+        self.ram.sync();
+        forget(&mut self.words);
+    }
+
+    /// What fetch finds at an address.
+    #[inline(always)]
+    pub fn fetch(&mut self, addr: u32) -> Fetched
+        ensures found { found_in result ≡ found_by (exec_of self.old) (text_of self.old) addr }
+        ensures fits { FetchedFits result }
+        ensures others { self.new ≡ self.old }
+    {
+        let kept = &mut self.words[(addr / 4) as usize % KEPT];
+        if kept.addr != u64::from(addr) {
+            if let Err(cause) = keep(&self.ram, addr, kept) {
+                return Fetched::Refused(cause);
+            }
+        }
+        match kept.insn {
+            None => Fetched::Unknown(kept.word),
+            Some(insn) => Fetched::Known(kept.word, insn),
+        }
+    }
+}
