@@ -214,6 +214,7 @@ impl InFlight {
     }
 
     /// Whether all stores older than the instruction at a place are done.
+    #[inline(always)]
     pub fn stores_done(&self, place: u32) -> bool
         requires within { place < length self.now.slots }
         ensures done { result ≡ are_stores_done (older_at self.now.slots place) }
@@ -241,6 +242,7 @@ impl InFlight {
     }
 
     /// Lets the instruction at a place, which waits, execute until a cycle.
+    #[inline(always)]
     pub fn begin(&mut self, place: u32, until: u64)
         requires within { place < length self.old.slots }
         requires waiting { IfSome (slice_get self.old.slots place) (λ slot. slot.state ≡ Waiting) }

@@ -130,6 +130,7 @@ impl TimingCore {
 
     /// The second phase of a cycle: the oldest slots, once done, leave in order, at most so many as
     /// the machine commits in a cycle.
+    #[inline(always)]
     pub fn commit(&mut self) -> Orders
         ensures kept { (s : Setup) (t : Timing) → CoreStandsFor s t self.old → IsSmall t
             → CoreStandsFor s (timing_commit s t).timing self.new }

@@ -79,6 +79,7 @@ impl TimingCore {
 
     /// The third phase of a cycle: slots whose latency is over are done, and the first mispredicted
     /// one flushes all younger slots.
+    #[inline(always)]
     pub fn complete(&mut self) -> Orders
         ensures kept { (s : Setup) (t : Timing) → CoreStandsFor s t self.old → IsSmall t
             → CoreStandsFor s (timing_complete t).timing self.new }

@@ -13,6 +13,7 @@ impl TimingCore {
     ghost use Rattle.timing_core.specs.CoreStandsFor.{CoreStandsFor};
 
     /// The end of a cycle. A run that has not ended ends at its limit of cycles.
+    #[inline(always)]
     pub fn end_cycle(&mut self)
         ensures kept { (s : Setup) (t : Timing) → CoreStandsFor s t self.old → IsSmall t
             → CoreStandsFor s (timing_end_of_cycle s t) self.new }

@@ -13,6 +13,7 @@ impl TimingCore {
 
     /// The first phase of a cycle: the timer interrupt, taken before the next instruction to
     /// commit.
+    #[inline(always)]
     pub fn interrupt(&mut self) -> Orders
         ensures kept { (s : Setup) (t : Timing) → CoreStandsFor s t self.old → IsSmall t
             → CoreStandsFor s (timing_interrupt t).timing self.new }

@@ -29,6 +29,7 @@ impl TimingCore {
     /// The fourth phase of a cycle: slots whose operands are there and that have a unit begin to
     /// execute, from the oldest to the youngest. But where the oldest reads the time and was given
     /// none, it is sent back to fetch for it.
+    #[inline(always)]
     pub fn issue(&mut self) -> Orders
         ensures kept { (s : Setup) (t : Timing) → CoreStandsFor s t self.old → IsSmall t
             → CoreStandsFor s (timing_issue s t).timing self.new }
@@ -58,6 +59,7 @@ impl TimingCore {
     }
 
     /// The slot at a place, which waits, executes until a cycle.
+    #[inline(always)]
     pub fn begin(&mut self, place: u32, until: u64)
         requires within { place < length self.old.flight.slots }
         requires waiting { IfSome (slice_get self.old.flight.slots place)
@@ -89,6 +91,7 @@ impl TimingCore {
     }
 
     /// Whether the oldest slot has passed the front, and reads the time and was given none.
+    #[inline(always)]
     fn wants_time(&self) -> bool
         ensures wanted { (s : Setup) (t : Timing) → CoreStandsFor s t self.now
             → result ≡ wants_time s t }
@@ -100,6 +103,7 @@ impl TimingCore {
     }
 
     /// Whether a slot waits and has passed the front of the pipeline.
+    #[inline(always)]
     fn is_past_front(&self, slot: &Slot) -> bool
         ensures passed { result ≡ is_past_front self.now.params self.now.cycle slot.now }
     {
@@ -112,6 +116,7 @@ impl TimingCore {
 
     /// Whether the class of the slot at a place allows it to begin: device loads and serial
     /// instructions only as the oldest, other loads only when all older stores are done.
+    #[inline(always)]
     pub fn class_allows(&self, place: u32, slot: &Slot) -> bool
         requires within { place < length self.now.flight.slots }
         ensures allowed { result
@@ -132,6 +137,7 @@ impl TimingCore {
     }
 
     /// Whether the slot at a place, which waits and has its operands, begins in this cycle.
+    #[inline(always)]
     fn may_begin(&self, place: u32, slot: &Slot, busy: u32, used: Used) -> bool
         requires there { slice_get self.now.flight.slots place ≡ Some slot.now }
         requires ready { may_start_at self.now.flight.slots place ≡ true }
@@ -147,6 +153,7 @@ impl TimingCore {
 
     /// The slot at a place, which waits and has its operands, begins where it may. The result is
     /// the units used then.
+    #[inline(always)]
     fn turn(&mut self, place: u32, busy: u32, used: Used) -> Used
         requires ready { may_start_at self.old.flight.slots place ≡ true }
         ensures kept { (s : Setup) (t : Timing) (slot : HeldSlot) → CoreStandsFor s t self.old
@@ -182,6 +189,7 @@ impl TimingCore {
     }
 
     /// Slots begin, from the oldest to the youngest.
+    #[inline(always)]
     fn issue_all(&mut self)
         ensures kept { (s : Setup) (t : Timing) → CoreStandsFor s t self.old → IsSmall t
             → CoreStandsFor s (issued s t) self.new }

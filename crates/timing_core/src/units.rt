@@ -34,6 +34,7 @@ impl Used {
 
     /// Whether a unit is free for a class, where so many divisions were executing when the phase
     /// began.
+    #[inline(always)]
     pub(crate) fn has_unit(self, params: &Params, busy: u32, class: Class) -> bool
         ensures unit { result ≡ has_unit params.now (busy + self.div) (used_in self) class }
         ensures countable { result ≡ true → kind_count class self < 2 ^ 32 - 1 }
@@ -47,6 +48,7 @@ impl Used {
     }
 
     /// One more of the class's kind.
+    #[inline(always)]
     pub(crate) fn with(self, class: Class) -> Used
         requires countable { kind_count class self < 2 ^ 32 - 1 }
         ensures counted { used_in result ≡ with_used class (used_in self) }
@@ -73,6 +75,7 @@ impl Used {
 }
 
 /// How many cycles the class's unit takes.
+#[inline(always)]
 pub fn latency_of(params: &Params, class: Class) -> u32
     ensures latency { result ≡ latency_of params.now class }
 {
