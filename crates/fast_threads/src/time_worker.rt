@@ -104,8 +104,8 @@ impl<K: Named> TimeWorker<K> {
         true
     }
 
-    /// Makes steps of the side up to the next order or want, and at most 64, where no order is in
-    /// hand.
+    /// Makes steps of the side up to the next order or want, at most as many as one call makes,
+    /// where no order is in hand.
     fn step(&mut self)
         requires none { self.old.hand ≡ None }
         ensures setup { self.new.setup ≡ self.old.setup }

@@ -5,7 +5,7 @@ use fsim_base::NoMemory;
 use mono_model::{End, Setup, Stats};
 use std::alloc::Global;
 use std::marker::Model;
-use time_model::{STEPS, Stepping, Taken, Turn};
+use time_model::{STRIDES, Stepping, Taken, Turn};
 use trace_entry::Entry;
 
 /// The timing side of the in-order machine. It stands for a setup and a number of steps of its
@@ -54,7 +54,7 @@ impl InorderSide {
         ensures made { (s : RunSetup) (k : ℕ) → IsInorder s → InorderStandsFor s k self.old
             → IsStep s k self.old self.new result }
     {
-        self.state.run(1)
+        self.state.run(0)
     }
 
     /// Makes steps of the demand run, up to the first that tells an order, needs an entry that
@@ -63,7 +63,7 @@ impl InorderSide {
     pub fn run(&mut self) -> Turn
         ensures made { IsRun Steps self.old self.new result }
     {
-        self.state.run(STEPS)
+        self.state.run(STRIDES)
     }
 
     /// Whether the next step needs the entry of the instruction to fetch next, and none is held.

@@ -217,8 +217,6 @@ impl Stepping for InorderState {
     ghost use Rattle.inorder_model.specs.Standing.{IsStanding, wants_in};
     ghost use Rattle.inorder_model.specs.Turning.{over_in};
 
-    type At = At;
-
     ghost stands = { IsStanding };
 
     ghost steps = { Steps };
@@ -227,9 +225,7 @@ impl Stepping for InorderState {
 
     ghost rests = { over_in };
 
-    ghost turn_next = { λ side. side.at };
-
-    ghost ends_cycle = { λ at. is_ending (at_in at) };
+    ghost ends = { λ side. is_ending (at_in side.at) };
 
     #[tactic(auto, unfolding(crate::specs::Standing::wants_in))]
     fn wants(&self) -> bool {
@@ -240,16 +236,21 @@ impl Stepping for InorderState {
         self.telling.owed.is_none() && matches!(self.at, At::Halted)
     }
 
+    fn ends_cycle(&self) -> bool {
+        matches!(self.at, At::Ending)
+    }
+
     fn advance(&mut self) -> Option<Order> {
         let orders = self.due();
         self.telling.tell(orders)
     }
 
-    fn at(&self) -> At {
-        self.at
+    // Strides made this machine slower: its turns stand once, in the loop of a run.
+    fn stride(&mut self) -> Option<Order> {
+        None
     }
 
-    fn ends_cycle(at: At) -> bool {
-        matches!(at, At::Ending)
+    fn has_stride(&self) -> bool {
+        false
     }
 }

@@ -10,6 +10,6 @@ mod telling;
 mod turn;
 
 pub use side::{Taken, TimeSide};
-pub use stepping::{STEPS, Stepping};
+pub use stepping::{STRIDES, Stepping};
 pub use telling::Telling;
 pub use turn::Turn;

@@ -1,7 +1,7 @@
 ghost use Rattle.std.specs.Prelude.{◌≡◌, ◌↔◌, ◌&&◌, ℕ, true, Some, None, IfOk, is_none};
 
 use crate::state::TimeState;
-use crate::stepping::{STEPS, Stepping};
+use crate::stepping::{STRIDES, Stepping};
 use crate::turn::Turn;
 use fsim_base::NoMemory;
 use mono_model::{End, Setup, Stats};
@@ -64,16 +64,16 @@ impl TimeSide {
         ensures made { (s : RunSetup) (k : ℕ) → is_setup s ≡ true → TimeSideStandsFor s k self.old
             → IsStep s k self.old self.new result }
     {
-        self.state.run(1)
+        self.state.run(0)
     }
 
     /// Makes steps of the demand run, up to the first that tells an order, needs an entry that
-    /// isn't held, or finds the run over; and at most 64 of them. The result is what the last one
-    /// did.
+    /// isn't held, or finds the run over; and at most those of 64 strides, with one behind each.
+    /// The result is what the last one did.
     pub fn run(&mut self) -> Turn
         ensures made { IsRun Steps self.old self.new result }
     {
-        self.state.run(STEPS)
+        self.state.run(STRIDES)
     }
 
     /// Whether the next step needs the entry of the instruction to fetch next, and none is held.

@@ -1,5 +1,5 @@
 ghost use Rattle.std.specs.Prelude.{◌≡◌, ◌&&◌, ℕ, true, false, if◌then◌else◌, Some, None, IfOk};
-ghost use Rattle.std.specs.Prelude.{is_none};
+ghost use Rattle.std.specs.Prelude.{is_none, IfSome, IfNone};
 
 use crate::at::At;
 use crate::stepping::Stepping;
@@ -29,7 +29,7 @@ impl TimeState {
     ghost use Rattle.trace_entry.specs.declared.Entry.{Entry as SpecEntry};
     ghost use Rattle.mono_model.specs.Setup.{is_setup};
     ghost use Rattle.mono_model.specs.Demand.{is_try, trying, ending};
-    ghost use Rattle.mono_model.specs.Split.{is_cycle_start};
+    ghost use Rattle.mono_model.specs.Split.{is_cycle_start, is_halted};
     ghost use Rattle.timing_side.specs.Timing.{Timing};
     ghost use Rattle.timing_side.specs.Turn.{timing_turn, try_or_end, at_after_commit};
     ghost use Rattle.timing_side.specs.Turn.{at_after_cycle};
@@ -37,7 +37,9 @@ impl TimeState {
     ghost use Rattle.timing_core.specs.Small.{IsSmall};
     ghost use Rattle.time_model.specs.At.{at_in};
     ghost use Rattle.time_model.specs.Standing.{TimeSideStandsFor, IsStanding, wants_in};
-    ghost use Rattle.time_model.specs.Running.{IsRun, Steps};
+    ghost use Rattle.time_model.specs.Turns.{turn_told};
+    ghost use Rattle.time_model.specs.Running.{IsRun, IsSilent, Steps};
+    ghost use Rattle.time_model.specs.declared.turn.Turn.TheVariants.{Ordered};
     ghost use Rattle.time_model.specs.Feeding.{holding};
     ghost use Rattle.time_model.specs.Turning.{MayTry, IsTurned, IsTold, over_in, held_by};
 
@@ -164,6 +166,7 @@ impl TimeState {
     }
 
     /// Makes the turn that comes next. A try needs that its entry is held.
+    #[inline(always)]
     fn turn(&mut self) -> Orders
         requires tries { is_try (at_in self.old.at) ≡ true → MayTry self.old }
         ensures made { (s : RunSetup) (t : Timing) (e : SpecEntry) → CoreStandsFor s t self.old.core
@@ -220,6 +223,7 @@ impl TimeState {
 
     /// The orders that stand to be told: the owed one, or else those of the turn that comes next,
     /// which is made.
+    #[inline(always)]
     fn due(&mut self) -> Orders
         requires standing { IsStanding self.old }
         requires holds { wants_in self.old ≡ false }
@@ -240,6 +244,34 @@ impl TimeState {
             }
             None => self.turn(),
         }
+    }
+
+    /// Tells the order that is owed, or else makes the turn that comes next and tells its first.
+    #[inline(always)]
+    fn tell_due(&mut self) -> Option<Order>
+        requires standing { IsStanding self.old }
+        requires holds { wants_in self.old ≡ false }
+        requires goes { over_in self.old ≡ false }
+        ensures made { Steps self.old self.new (turn_told result (at_in self.old.at)) }
+        ensures standing { IsStanding self.new }
+    {
+        let orders = self.due();
+        self.telling.tell(orders)
+    }
+
+    /// Makes this turn, which is no try, where it comes next, or tells the order that is owed
+    /// before it.
+    #[inline(always)]
+    #[tactic(auto, unfolding(crate::specs::Standing::wants_in))]
+    fn stride_over(&mut self, at: At) -> Option<Order>
+        requires standing { IsStanding self.old }
+        requires holds { is_try (at_in at) ≡ false }
+        requires goes { is_halted (at_in at) ≡ false }
+        ensures told { IfSome result (λ order. IsRun Steps self.old self.new (Ordered order)) }
+        ensures untold { IfNone result (IsSilent Steps self.old self.new) }
+        ensures standing { IsStanding self.new }
+    {
+        if self.at == at { self.tell_due() } else { None }
     }
 
     /// Makes the try that comes next with the entry that it needs, as if that were held; and tells
@@ -274,8 +306,6 @@ impl Stepping for TimeState {
     ghost use Rattle.time_model.specs.Standing.{IsStanding, wants_in};
     ghost use Rattle.time_model.specs.Turning.{over_in};
 
-    type At = At;
-
     ghost stands = { IsStanding };
 
     ghost steps = { Steps };
@@ -284,9 +314,7 @@ impl Stepping for TimeState {
 
     ghost rests = { over_in };
 
-    ghost turn_next = { λ side. side.at };
-
-    ghost ends_cycle = { λ at. is_ending (at_in at) };
+    ghost ends = { λ side. is_ending (at_in side.at) };
 
     #[tactic(auto, unfolding(crate::specs::Standing::wants_in))]
     fn wants(&self) -> bool {
@@ -299,16 +327,37 @@ impl Stepping for TimeState {
         self.telling.owed.is_none() && matches!(self.at, At::Halted)
     }
 
+    fn ends_cycle(&self) -> bool {
+        matches!(self.at, At::Ending)
+    }
+
+    #[inline(never)]
     fn advance(&mut self) -> Option<Order> {
-        let orders = self.due();
-        self.telling.tell(orders)
+        self.tell_due()
     }
 
-    fn at(&self) -> At {
-        self.at
+    #[inline(always)]
+    fn stride(&mut self) -> Option<Order> {
+        if let Some(order) = self.stride_over(At::Ending) {
+            return Some(order);
+        }
+        if let Some(order) = self.stride_over(At::Interrupting) {
+            return Some(order);
+        }
+        if let Some(order) = self.stride_over(At::Committing) {
+            return Some(order);
+        }
+        if let Some(order) = self.stride_over(At::Completing) {
+            return Some(order);
+        }
+        if let Some(order) = self.stride_over(At::Issuing) {
+            return Some(order);
+        }
+        None
     }
 
-    fn ends_cycle(at: At) -> bool {
-        matches!(at, At::Ending)
+    #[inline(always)]
+    fn has_stride(&self) -> bool {
+        matches!(self.at, At::Ending)
     }
 }

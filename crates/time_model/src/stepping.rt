@@ -1,21 +1,18 @@
-ghost use Rattle.std.specs.Prelude.{◌≡◌, Bool, true, false, unwrap_or};
+ghost use Rattle.std.specs.Prelude.{◌≡◌, Bool, true, false, unwrap_or, IfSome, IfNone};
 
 use crate::turn::Turn;
 use rollback_cmds::Order;
 
-/// No run of a timing side makes more steps in one call.
-pub const STEPS: u32 = 64;
+/// No run of a timing side makes more strides in one call.
+pub const STRIDES: u32 = 64;
 
 /// A timing side that makes its turns one by one, each behind what the last one still has to tell.
 /// A step and a run are the same of every such side.
 pub trait Stepping: Drop {
-    ghost use Rattle.std.specs.Prelude.{◌<◌};
     ghost use Rattle.time_model.specs.declared.turn.Turn.{Turn};
+    ghost use Rattle.time_model.specs.declared.turn.Turn.TheVariants.{Ordered};
     ghost use Rattle.time_model.specs.Turns.{told_or, untold_by};
-    ghost use Rattle.time_model.specs.Running.{IsRun};
-
-    /// Which turn comes next.
-    type At: Copy;
+    ghost use Rattle.time_model.specs.Running.{IsRun, IsSilent};
 
     // it stands somewhere in a run
     ghost stands: { Self → Type 0 };
@@ -29,11 +26,8 @@ pub trait Stepping: Drop {
     // the run is over, and all is told
     ghost rests: { Self → Bool };
 
-    // which turn comes next
-    ghost turn_next: { Self → Self.At };
-
-    // the turn that ends a cycle
-    ghost ends_cycle: { Self.At → Bool };
+    // the turn that comes next ends a cycle
+    ghost ends: { Self → Bool };
 
     /// Whether the step that comes next is a try whose entry is needed.
     fn wants(&self) -> bool
@@ -46,29 +40,35 @@ pub trait Stepping: Drop {
         ensures over { result ≡ rests self.now }
         ensures stays { result ≡ true → steps self.now self.now Turn.Halted };
 
+    /// Whether the turn that comes next ends a cycle.
+    fn ends_cycle(&self) -> bool
+        ensures ends { result ≡ ends self.now };
+
     /// Tells the order that is owed, or else makes the turn that comes next and tells its first.
     fn advance(&mut self) -> Option<Order>
         requires standing { stands self.old }
         requires holds { waits self.old ≡ false }
         requires goes { rests self.old ≡ false }
-        ensures made { steps self.old self.new
-            (told_or result (untold_by (ends_cycle (turn_next self.old)))) }
+        ensures made { steps self.old self.new (told_or result (untold_by (ends self.old))) }
         ensures standing { stands self.new };
 
-    /// Which turn comes next.
-    fn at(&self) -> Self::At
-        ensures at { result ≡ turn_next self.now };
+    /// Makes some of the steps that come next, or none, up to the first that tells an order, and
+    /// tells that. Which turns they make is known where they stand, so nothing is tested between
+    /// them.
+    fn stride(&mut self) -> Option<Order>
+        requires standing { stands self.old }
+        ensures told { IfSome result (λ order. IsRun steps self.old self.new (Ordered order)) }
+        ensures untold { IfNone result (IsSilent steps self.old self.new) }
+        ensures standing { stands self.new };
 
-    /// Whether this turn ends a cycle.
-    fn ends_cycle(at: Self::At) -> bool
-        ensures ends { result ≡ ends_cycle at };
+    /// Whether a stride begins with the turn that comes next. A run is right whatever this says.
+    fn has_stride(&self) -> bool;
 
     /// Makes one step of the demand run, if the entry that it needs is held. The result is what it
     /// did, and None where it was made and told no order.
     final fn step(&mut self) -> Option<Turn>
         requires standing { stands self.old }
-        ensures made { steps self.old self.new
-            (unwrap_or result (untold_by (ends_cycle (turn_next self.old)))) }
+        ensures made { steps self.old self.new (unwrap_or result (untold_by (ends self.old))) }
         ensures standing { stands self.new }
     {
         if self.wants() {
@@ -81,26 +81,32 @@ pub trait Stepping: Drop {
         Some(Turn::Ordered(order))
     }
 
-    /// Makes steps of the demand run, at least one and at most so many, up to the first that isn't
-    /// made or tells an order.
-    final fn run(&mut self, most: u32) -> Turn
-        requires some { 0 < most }
+    /// Makes steps of the demand run, up to the first that isn't made or tells an order: at most so
+    /// many strides, with at most one step behind each. Of no strides it makes one step.
+    final fn run(&mut self, strides: u32) -> Turn
         requires standing { stands self.old }
         ensures made { IsRun steps self.old self.new result }
-        ensures single { most ≡ 1 → steps self.old self.new result }
+        ensures single { strides ≡ 0 → steps self.old self.new result }
         ensures standing { stands self.new }
     {
-        let mut at = self.at();
-        for _ in 0..most {
-            at = self.at();
+        let mut left = strides;
+        loop {
+            if left > 0 {
+                left -= 1;
+                if let Some(order) = self.stride() {
+                    return Turn::Ordered(order);
+                }
+                if self.has_stride() {
+                    continue;
+                }
+            }
+            let ends = self.ends_cycle();
             if let Some(turn) = self.step() {
                 return turn;
             }
-        }
-        if Self::ends_cycle(at) {
-            Turn::CycleEnd
-        } else {
-            Turn::Moved
+            if left == 0 {
+                return if ends { Turn::CycleEnd } else { Turn::Moved };
+            }
         }
     }
 }

@@ -1,55 +1,53 @@
-use Rattle.std.proofs.Common.{◌≡◌, Bool, true, false, refl, ap, sym, subst, arith}
-use Rattle.time_model.specs.Turns.{untold_by}
-use Rattle.time_model.specs.Running.{IsRun, is_silent}
-use Rattle.time_model.proofs.Running.{run_start, run_more, run_ends, run_single}
+use Rattle.std.proofs.Common.{◌-◌, true, false, sym, subst, arith}
+use Rattle.time_model.proofs.Running.{HasRun, run_start, run_strides, run_steps, run_ends, run_untold, run_on}
+use Rattle.time_model.proofs.stepping.Stepping.run.Given as given
 use Rattle.time_model.proofs.stepping.Stepping.run.Goals as goal
+use Rattle.time_model.proofs.stepping.Stepping.run.Goals.{then-left-gt0+in_default+else-has_stride, else-left-gt0, After-step}
 
--- a turn that tells no order is silent
-untold_silent : (ends : Bool) → is_silent (untold_by ends) ≡ true
-untold_silent true = refl
-untold_silent false = refl
+pub loop-left-init : goal.loop-left-init
+loop-left-init g c = run_start g.Self.Stepping.steps g.Self.Stepping.stands c.args.strides c.args.self.now c.requires.standing
 
-pub loop-init : goal.loop-init
-loop-init g c = run_start g.Self.Stepping.steps g.Self.Stepping.stands c.args.self.now (untold_by (g.Self.Stepping.ends_cycle c.at-at.result)) c.requires.standing
+pub returns-in-Some-clause-made : goal.returns-in-Some-clause-made
+returns-in-Some-clause-made g c =
+    run_on g.Self.Stepping.steps c.loop-left.invariant.silent c.in-Some.ensures.told
 
-pub step-requires : goal.step-requires
-step-requires g c = record { standing = c.loop.invariant.standing }
+pub loop-left-preserved-then-has_stride : goal.loop-left-preserved-then-has_stride
+loop-left-preserved-then-has_stride g c =
+    run_strides g.Self.Stepping.steps g.Self.Stepping.stands c.args.strides c.loop-left.left c.args.self.now c.loop-left.self c.stride.new.self (omega (arith, c.if-left-gt0.true)) c.loop-left.invariant
+    c.in_default.ensures.untold c.in_default.ensures.standing
 
-pub returns-in-Some : goal.returns-in-Some
-returns-in-Some g c =
-    let last = untold_by (g.Self.Stepping.ends_cycle c.loop.at) in
+-- the run before a step
+before : (g : given.Over) (c : After-step g) → HasRun g.Self.Stepping.steps g.Self.Stepping.stands c.args.strides c.if-left-gt0.left c.args.self.now c.if-left-gt0.self
+before g c =
     let steps = g.Self.Stepping.steps in
     let stands = g.Self.Stepping.stands in
-    record {
-      made = run_ends steps stands c.loop.counter c.args.self.now c.loop.self c.step.new.self last c.in-Some.turn c.loop.invariant c.in-Some.ensures.made;
-      single = λ one. run_single steps stands c.loop.counter c.args.self.now c.loop.self c.step.new.self last c.in-Some.turn c.loop.invariant c.in-Some.ensures.made
-          (omega (arith, c.loop-test.true, one));
-      standing = c.in-Some.ensures.standing;
-    }
+    elim c.if-left-gt0.branch [
+      | then-left-gt0+in_default+else-has_stride w ↦
+          subst (λ left. HasRun steps stands c.args.strides left c.args.self.now c.if-left-gt0.self) (sym w.left-is)
+          (subst (HasRun steps stands c.args.strides (c.loop-left.left - 1) c.args.self.now) (sym w.self-is)
+          (run_strides steps stands c.args.strides c.loop-left.left c.args.self.now c.loop-left.self w.stride.new.self (omega (arith, w.if-left-gt0.true)) c.loop-left.invariant
+          w.in_default.ensures.untold w.in_default.ensures.standing))
+      | else-left-gt0 w ↦
+          subst (λ left. HasRun steps stands c.args.strides left c.args.self.now c.if-left-gt0.self) (sym w.left-is)
+          (subst (HasRun steps stands c.args.strides c.loop-left.left c.args.self.now) (sym w.self-is) c.loop-left.invariant)
+    ]
 
-pub loop-preserved : goal.loop-preserved
-loop-preserved g c =
-    let steps = g.Self.Stepping.steps in
-    let ends = g.Self.Stepping.ends_cycle in
-    let last = untold_by (ends c.loop.at) in
-    let what = untold_by (ends c.at-at-in-loop.result) in
-    run_more steps g.Self.Stepping.stands c.loop.counter c.args.self.now c.loop.self c.step.new.self last what c.loop.invariant (untold_silent (ends c.at-at-in-loop.result))
-    (subst (λ at. steps c.loop.self c.step.new.self (untold_by (ends at))) (sym c.at-at-in-loop.ensures.at) c.in_default.ensures.made) c.in_default.ensures.standing
+pub returns-in-Some-step-clause-made : goal.returns-in-Some-step-clause-made
+returns-in-Some-step-clause-made g c =
+    run_ends g.Self.Stepping.steps g.Self.Stepping.stands c.args.strides c.if-left-gt0.left c.args.self.now c.if-left-gt0.self c.step.new.self c.in-Some-step.turn (before g (goal.at.returns-in-Some-step-clause-made g c).After-step)
+    c.in-Some-step.ensures.made
 
-pub returns-then-ends_cycle : goal.returns-then-ends_cycle
-returns-then-ends_cycle g c =
-    let is = ap untold_by (c.if-ends_cycle.ensures.ends) in
-    record {
-      made = subst (IsRun g.Self.Stepping.steps c.args.self.now c.loop.self) (sym is) (c.loop.invariant.ends (omega (arith, c.loop-test.false, c.requires.some)));
-      single = λ one. subst (g.Self.Stepping.steps c.args.self.now c.loop.self) (sym is) (c.loop.invariant.single (omega (arith, c.loop-test.false, c.loop.auto.counter-end, one)));
-      standing = c.loop.invariant.standing;
-    }
+pub returns-then-ends-clause-made : goal.returns-then-ends-clause-made
+returns-then-ends-clause-made g c =
+    run_untold g.Self.Stepping.steps g.Self.Stepping.stands c.args.strides c.if-left-gt0.left c.args.self.now c.if-left-gt0.self c.step.new.self true (g.Self.Stepping.ends c.if-left-gt0.self) c.if-ends.ensures.ends
+    (before g (goal.at.returns-then-ends-clause-made g c).After-step) c.in_default-step.ensures.made
 
-pub returns-else-ends_cycle : goal.returns-else-ends_cycle
-returns-else-ends_cycle g c =
-    let is = ap untold_by (c.if-ends_cycle.ensures.ends) in
-    record {
-      made = subst (IsRun g.Self.Stepping.steps c.args.self.now c.loop.self) (sym is) (c.loop.invariant.ends (omega (arith, c.loop-test.false, c.requires.some)));
-      single = λ one. subst (g.Self.Stepping.steps c.args.self.now c.loop.self) (sym is) (c.loop.invariant.single (omega (arith, c.loop-test.false, c.loop.auto.counter-end, one)));
-      standing = c.loop.invariant.standing;
-    }
+pub returns-else-ends-clause-made : goal.returns-else-ends-clause-made
+returns-else-ends-clause-made g c =
+    run_untold g.Self.Stepping.steps g.Self.Stepping.stands c.args.strides c.if-left-gt0.left c.args.self.now c.if-left-gt0.self c.step.new.self false (g.Self.Stepping.ends c.if-left-gt0.self) c.if-ends.ensures.ends
+    (before g (goal.at.returns-else-ends-clause-made g c).After-step) c.in_default-step.ensures.made
+
+pub loop-left-preserved : goal.loop-left-preserved
+loop-left-preserved g c =
+    run_steps g.Self.Stepping.steps g.Self.Stepping.stands c.args.strides c.if-left-gt0.left c.args.self.now c.if-left-gt0.self c.step.new.self (g.Self.Stepping.ends c.if-left-gt0.self)
+    (omega (arith, c.if-left-eq0.false)) (before g (goal.at.loop-left-preserved g c).After-step) c.in_default-step.ensures.made c.in_default-step.ensures.standing

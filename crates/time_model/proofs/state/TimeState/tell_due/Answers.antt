@@ -7,7 +7,7 @@ use Rattle.time_model.specs.Turns.{turn_told}
 use Rattle.time_model.specs.Standing.{IsStep}
 use Rattle.time_model.proofs.Steps.{told_side, step_made}
 use Rattle.time_model.proofs.Sides.{going_step, stands_after}
-use Rattle.time_model.proofs.state.TimeStateStepping.advance.Goals as goal
+use Rattle.time_model.proofs.state.TimeState.tell_due.Goals as goal
 
 pub returns-clause-made : goal.returns-clause-made
 returns-clause-made c = λ s k sound h.
