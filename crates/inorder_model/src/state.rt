@@ -245,7 +245,7 @@ impl Stepping for InorderState {
         self.telling.tell(orders)
     }
 
-    // Strides made this machine slower: its turns stand once, in the loop of a run.
+    // None is made: with strides this machine was slower than with steps alone.
     fn stride(&mut self) -> Option<Order> {
         None
     }

@@ -67,6 +67,7 @@ impl TimeState {
     }
 
     /// A try of fetch where one may be made and is allowed, else the end of the cycle.
+    #[inline(always)]
     fn try_or_end(&self, allowed: u32) -> At
         ensures at { (s : RunSetup) (t : Timing) → CoreStandsFor s t self.now.core
             → at_in result ≡ try_or_end s allowed t }
@@ -165,7 +166,8 @@ impl TimeState {
         tried.orders
     }
 
-    /// Makes the turn that comes next. A try needs that its entry is held.
+    /// Makes the turn that comes next. A try needs that its entry is held. It goes inline wherever
+    /// it is made: in a stride which turn comes next is known, and nothing of the others is left.
     #[inline(always)]
     fn turn(&mut self) -> Orders
         requires tries { is_try (at_in self.old.at) ≡ true → MayTry self.old }
@@ -259,8 +261,7 @@ impl TimeState {
         self.telling.tell(orders)
     }
 
-    /// Makes this turn, which is no try, where it comes next, or tells the order that is owed
-    /// before it.
+    /// The same where this turn comes next, which is no try, and else nothing.
     #[inline(always)]
     #[tactic(auto, unfolding(crate::specs::Standing::wants_in))]
     fn stride_over(&mut self, at: At) -> Option<Order>
@@ -331,6 +332,7 @@ impl Stepping for TimeState {
         matches!(self.at, At::Ending)
     }
 
+    // It stays a call: a stride makes most turns, and inline they would all stand there once more.
     #[inline(never)]
     fn advance(&mut self) -> Option<Order> {
         self.tell_due()

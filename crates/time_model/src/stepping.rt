@@ -100,6 +100,7 @@ pub trait Stepping: Drop {
                     continue;
                 }
             }
+            // Steps are made here alone, so that one goes inline.
             let ends = self.ends_cycle();
             if let Some(turn) = self.step() {
                 return turn;
