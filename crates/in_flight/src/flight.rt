@@ -2,7 +2,7 @@ use crate::cutting::divisions_from;
 use crate::queueing::{finish_store, pop_oldest, put_store};
 use crate::reading::{divisions_in, slot_at};
 use crate::registers::Registers;
-use fsim_base::NoMemory;
+use fsim_base::{Class, NoMemory};
 use known_words::{KnownWords, OfWord};
 use load_store_queue::StoreQueue;
 use reorder_buffer::{Slot, SlotState, Window};
@@ -147,7 +147,9 @@ impl InFlight {
     {
         let (index, slot) = slot_at(&self.window, 0);
         pop_oldest(&mut self.stores, &self.window);
-        self.dividing -= divisions_in(&slot);
+        if divides(&slot) {
+            self.dividing -= 1;
+        }
         self.stations.retire(index);
         self.window.pop();
     }
@@ -256,7 +258,9 @@ impl InFlight {
             ..slot
         };
         self.window.mark(place, begun.state);
-        self.dividing += divisions_in(&begun);
+        if slot.class == Class::Div {
+            self.dividing += 1;
+        }
         self.stations.issue(index);
     }
 
@@ -272,7 +276,9 @@ impl InFlight {
     {
         let (index, slot) = slot_at(&self.window, place);
         self.window.mark(place, SlotState::Done);
-        self.dividing -= divisions_in(&slot);
+        if slot.class == Class::Div {
+            self.dividing -= 1;
+        }
         self.stations.wake(index, slot.cause.is_some());
         finish_store(&mut self.stores, &slot);
     }

@@ -1,5 +1,5 @@
 -- A turn of the walk, on what the timing side keeps.
-use Rattle.std.proofs.Common.{◌≡◌, ℕ, suc, ◌+◌, ◌-◌, ◌<◌, ◌≤◌, ◌^◌, min, Bool, true, false, if◌then◌else◌, Some, List, [], length, inl, inr, refl, ap, sym, subst, ◌∙◌, arith}
+use Rattle.std.proofs.Common.{◌≡◌, ℕ, suc, ◌+◌, ◌-◌, ◌%◌, ◌<◌, ◌≤◌, ◌^◌, Bool, true, false, if◌then◌else◌, Some, List, [], length, inl, inr, refl, ap, sym, subst, ◌∙◌, arith}
 use Rattle.std.specs.Prelude.{slice_get, slice_set}
 use Rattle.std.proofs.lemmas.Option.{slice_get_cases}
 use Rattle.cache_timing.specs.declared.caches.Caches.{Caches}
@@ -20,7 +20,7 @@ use Rattle.timing_core.specs.declared.state.TimingCore.{TimingCore}
 use Rattle.timing_core.specs.CoreStandsFor.{CoreStandsFor}
 use Rattle.timing_core.proofs.Sums.{risen}
 use Rattle.timing_core.proofs.Keeping.{keeps_slots, keeps_caches}
-use Rattle.timing_core.proofs.Walks.{turn_begins, turn_rests, same_slot, walk_from, walk_starts, walk_ends, walk_turns, passes_all}
+use Rattle.timing_core.proofs.Walks.{turn_begins, turn_rests, same_slot, walk_from, walk_starts, walk_ends, walk_turns, passes_all, rests_all}
 
 -- other slots and caches, and all else as it was
 kept_with : (s : Setup) (t : Timing) (core : TimingCore) → CoreStandsFor s t core →
@@ -82,8 +82,8 @@ module _ (s : Setup) (t : Timing) (core : TimingCore) (place busy : ℕ) (used :
       ∙ ap (λ (n : ℕ). slice_set t.slots place (record slot { state = Until n })) ends in
       subst P (sym same) (kept_with s t core k flight _ it d.state (ap (λ (f : Contents). f.capacity) begun) slots served)
 
--- the cycle in which a slot ends, by sums that stand still at their largest value
-pub end_cycle : (r middle n cycle latency added : ℕ) → middle ≡ min (n + latency) (2 ^ 64 - 1) → r ≡ min (middle + added) (2 ^ 64 - 1) →
+-- the cycle in which a slot ends, by sums in 64 bits
+pub end_cycle : (r middle n cycle latency added : ℕ) → middle ≡ (n + latency) % 2 ^ 64 → r ≡ (middle + added) % 2 ^ 64 →
     n ≡ cycle → cycle < 2 ^ 63 → latency < 2 ^ 32 → added < 2 ^ 32 → r ≡ cycle + latency + added
 end_cycle r middle n cycle latency added first second same small short few =
     risen r middle (cycle + latency) added second (risen middle n cycle latency first same (omega arith) (omega arith)) (omega arith) (omega arith)
@@ -145,6 +145,23 @@ walks_to_end s t core place used h over =
     let w = h.whole ∙ walk_ends s t.cycle (busy_divisions t.slots) core.flight.slots place used h.caches over in
     let P : Walked → Type 0 = λ walked. CoreStandsFor s (record t { slots = walked.slots; caches = walked.caches }) core in
     subst P (sym w) h.kept
+
+-- the front stays where it is
+pub still_past : (latest : ℕ) (core new : TimingCore) → new.params ≡ core.params → new.cycle ≡ core.cycle →
+    latest + core.params.core_front ≡ core.cycle → latest + new.params.core_front ≡ new.cycle
+still_past latest core new params cycle is = ap (λ (p : Params). latest + p.core_front) params ∙ is ∙ sym cycle
+
+-- where nothing has passed the front, no slot begins
+pub none_begins : (s : Setup) (t : Timing) (core : TimingCore) → CoreStandsFor s t core → core.cycle < core.params.core_front → CoreStandsFor s (issued s t) core
+none_begins s t core k short =
+    let busy = busy_divisions t.slots in
+    let front : t.cycle < s.params.core_front = rw (k.cycle, ap (λ (p : Params). p.core_front) k.params) at short in
+    let start = walks_from_start s t busy core none_used k refl in
+    let w = start.whole
+    ∙ rests_all s t.cycle busy front (length core.flight.slots) core.flight.slots 0 none_used start.caches
+    ∙ walk_ends s t.cycle busy core.flight.slots (0 + length core.flight.slots) none_used start.caches (omega arith) in
+    let P : Walked → Type 0 = λ walked. CoreStandsFor s (record t { slots = walked.slots; caches = walked.caches }) core in
+    subst P (sym w) start.kept
 
 -- where one can start there is a slot
 pub starts_there : (slots : List Slot) (place : ℕ) → may_start_at slots place ≡ true → (slot : Slot) × (place < length slots) × (slice_get slots place ≡ Some slot)

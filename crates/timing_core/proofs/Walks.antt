@@ -1,5 +1,5 @@
 -- The walk over the slots, gone as far as a place: a turn goes one place on, and slots that can't start are passed over.
-use Rattle.std.proofs.Common.{◌≡◌, ℕ, zero, suc, ◌+◌, ◌<◌, ◌≤◌, ◌&&◌, Bool, true, false, if◌then◌else◌, Some, List, [], ◌∷◌, ◌++◌, length, take, drop, reverse, refl, ap, sym, ◌∙◌, inl, inr, append_assoc, add-zero, arith}
+use Rattle.std.proofs.Common.{◌≡◌, ℕ, zero, suc, ◌+◌, ◌<◌, ◌≤◌, ◌&&◌, nat_le, Bool, true, false, if◌then◌else◌, Some, List, [], ◌∷◌, ◌++◌, length, take, drop, reverse, refl, ap, sym, ◌∙◌, inl, inr, append_assoc, add-zero, arith}
 use Rattle.std.specs.Prelude.{slice_get, slice_set}
 use Rattle.std.proofs.Math.Seq.{take-suc-set, drop-cons}
 use Rattle.std.proofs.lemmas.List.{set-get_or, drop-set-lt, reverse-append, take_all, append-nil}
@@ -37,6 +37,12 @@ never true true true allows free is = cc
 never true true false allows free is = refl
 never true false operands allows free is = refl
 never false passed operands allows free is = refl
+
+-- nor does one that has not passed the front
+early : (waits passed operands allows free : Bool) → passed ≡ false → (waits && passed && operands && allows && free) ≡ false
+early true true operands allows free is = cc
+early true false operands allows free is = refl
+early false passed operands allows free is = refl
 
 -- what lies in front of a walk
 abbrev pub fronted : List Slot → Walked → Walked
@@ -98,18 +104,22 @@ module _ (s : Setup) (cycle busy : ℕ) where
   same_slot slots place slot at =
       ap (λ (x : Slot). slice_set slots place x) (sym (get_or_from_slice_get slots place slot slot at)) ∙ set-get_or slots place slot
 
+  -- past a place whose slot rests
+  passes_rest : (slots : List Slot) (place : ℕ) (slot : Slot) (used : Used) (caches : CachesState) → slice_get slots place ≡ Some slot →
+      may_begin s.params cycle busy (older_at slots place) slot used ≡ false → walk_from slots place used caches ≡ walk_from slots (suc place) used caches
+  passes_rest slots place slot used caches there not =
+      walk_turns slots place slot used caches there
+      ∙ ap (λ (t : Turned). walk_from (slice_set slots place t.turned) (suc place) t.used t.caches) (turn_rests s cycle busy (older_at slots place) slot used caches not)
+      ∙ ap (λ (xs : List Slot). walk_from xs (suc place) used caches) (same_slot slots place slot there)
+
   -- past a place whose slot can't start, or isn't there
   passes_slot : (slots : List Slot) (place : ℕ) (slot : Slot) (used : Used) (caches : CachesState) → slice_get slots place ≡ Some slot →
       may_start_at slots place ≡ false → walk_from slots place used caches ≡ walk_from slots (suc place) used caches
   passes_slot slots place slot used caches there not =
       let older = older_at slots place in
       let idle : (is_waiting_state slot.state && has_operands older slot) ≡ false = rw there at not in
-      let rests : turn_of s cycle busy older slot used caches ≡ unchanged slot used caches =
-      turn_rests s cycle busy older slot used caches
-      (never (is_waiting_state slot.state) _ (has_operands older slot) (class_allows slot.class slot.access older) (has_unit s.params (busy + used.div) used slot.class) idle) in
-      walk_turns slots place slot used caches there
-      ∙ ap (λ (t : Turned). walk_from (slice_set slots place t.turned) (suc place) t.used t.caches) rests
-      ∙ ap (λ (xs : List Slot). walk_from xs (suc place) used caches) (same_slot slots place slot there)
+      passes_rest slots place slot used caches there
+      (never (is_waiting_state slot.state) _ (has_operands older slot) (class_allows slot.class slot.access older) (has_unit s.params (busy + used.div) used slot.class) idle)
 
   passes : (slots : List Slot) (place : ℕ) (used : Used) (caches : CachesState) → may_start_at slots place ≡ false →
       walk_from slots place used caches ≡ walk_from slots (suc place) used caches
@@ -127,4 +137,25 @@ module _ (s : Setup) (cycle busy : ℕ) where
       let e : suc place + count ≡ place + suc count = omega arith in
       passes slots place used caches (not place (omega arith) (omega arith))
       ∙ passes_all count slots (suc place) used caches (λ k above below. not k (omega arith) (omega arith))
+      ∙ ap (λ (k : ℕ). walk_from slots k used caches) e
+
+  -- past places whose slots have not passed the front
+  rests_early : cycle < s.params.core_front → (slots : List Slot) (place : ℕ) (used : Used) (caches : CachesState) →
+      walk_from slots place used caches ≡ walk_from slots (suc place) used caches
+  rests_early short slots place used caches = elim (slice_get_cases slots place).1 [
+    | inl there ↦
+        let slot = there.0 in let older = older_at slots place in
+        let behind : nat_le (slot.fetched + s.params.core_front) cycle ≡ false = grind arith in
+        passes_rest slots place slot used caches there.2
+        (early (is_waiting_state slot.state) _ (has_operands older slot) (class_allows slot.class slot.access older) (has_unit s.params (busy + used.div) used slot.class) behind)
+    | inr over ↦ walk_ends slots place used caches over.0 ∙ sym (walk_ends slots (suc place) used caches (omega arith))
+  ]
+
+  pub rests_all : cycle < s.params.core_front → (count : ℕ) (slots : List Slot) (place : ℕ) (used : Used) (caches : CachesState) →
+      walk_from slots place used caches ≡ walk_from slots (place + count) used caches
+  rests_all short zero slots place used caches = ap (λ (k : ℕ). walk_from slots k used caches) (sym (add-zero place))
+  rests_all short (suc count) slots place used caches =
+      let e : suc place + count ≡ place + suc count = omega arith in
+      rests_early short slots place used caches
+      ∙ rests_all short count slots (suc place) used caches
       ∙ ap (λ (k : ℕ). walk_from slots k used caches) e

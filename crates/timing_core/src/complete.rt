@@ -102,9 +102,9 @@ impl TimingCore {
             return Orders::none();
         };
         self.flush(redirect.kept);
-        self.counts.mispredicted = self.counts.mispredicted.saturating_add(1);
+        self.counts.mispredicted = self.counts.mispredicted.wrapping_add(1);
         Orders::one(Order::Set {
-            n: self.to_commit.saturating_add(u64::from(redirect.kept)),
+            n: self.to_commit.wrapping_add(u64::from(redirect.kept)),
             addr: redirect.addr,
         })
     }

@@ -18,17 +18,19 @@ impl TimingCore {
         ensures kept { (s : Setup) (t : Timing) → CoreStandsFor s t self.old → IsSmall t
             → CoreStandsFor s (timing_end_of_cycle s t) self.new }
     {
-        self.cycle = self.cycle.saturating_add(1);
-        self.end = end_after(self.end, self.cycle == self.cycle_limit);
+        self.cycle = self.cycle.wrapping_add(1);
+        if self.cycle == self.cycle_limit {
+            self.end = end_at_limit(self.end);
+        }
     }
 }
 
-/// How a run stands behind a cycle: one that has not ended ends with its last.
-fn end_after(end: End, is_last: bool) -> End
-    ensures end { result ≡ (if has_ended end then end else (if is_last then Limit else end)) }
+/// How a run has ended behind its last cycle: as it had before, or at the limit.
+fn end_at_limit(end: End) -> End
+    ensures end { result ≡ (if has_ended end then end else Limit) }
 {
     match end {
-        End::Running if is_last => End::Limit,
+        End::Running => End::Limit,
         _ => end,
     }
 }

@@ -140,7 +140,7 @@ impl TimingCore {
         ensures kept { (s : Setup) (t : Timing) → CoreStandsFor s t self.old → t.cycle < 2 ^ 63
             → CoreStandsFor s (missed cycles t.caches t) self.new }
     {
-        self.resume = self.cycle.saturating_add(u64::from(cycles));
+        self.resume = self.cycle.wrapping_add(u64::from(cycles));
         self.paid = true;
     }
 
@@ -156,7 +156,7 @@ impl TimingCore {
     {
         self.flight.append(entry, predicted, self.cycle);
         self.paid = false;
-        self.counts.fetched = self.counts.fetched.saturating_add(1);
+        self.counts.fetched = self.counts.fetched.wrapping_add(1);
     }
 
     /// The order to follow the prediction, where the youngest slot's instruction goes elsewhere.
@@ -171,7 +171,7 @@ impl TimingCore {
             return Orders::none();
         }
         Orders::one(Order::Set {
-            n: self.to_commit.saturating_add(u64::from(self.flight.len())),
+            n: self.to_commit.wrapping_add(u64::from(self.flight.len())),
             addr: predicted,
         })
     }

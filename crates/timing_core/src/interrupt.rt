@@ -25,7 +25,7 @@ impl TimingCore {
         }
         self.flush(0);
         self.irq.on = false;
-        self.counts.interrupts = self.counts.interrupts.saturating_add(1);
+        self.counts.interrupts = self.counts.interrupts.wrapping_add(1);
         Orders::one(Order::Interrupt { n: self.to_commit })
     }
 }

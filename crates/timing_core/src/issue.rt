@@ -12,7 +12,7 @@ use rollback_cmds::Order;
 impl TimingCore {
     ghost use Rattle.std.specs.Prelude.{ℕ, ◌-◌, ◌<◌, ◌^◌, true, Some, length, slice_get, slice_set};
     ghost use Rattle.reorder_buffer.specs.declared.slot.Slot.{Slot as HeldSlot};
-    ghost use Rattle.std.specs.Prelude.{[], ◌∷◌, IfSome};
+    ghost use Rattle.std.specs.Prelude.{[], ◌∷◌, ◌+◌, IfSome, IfNone};
     ghost use Rattle.reorder_buffer.specs.declared.slot.SlotState.TheVariants.{Waiting, Until};
     ghost use Rattle.rollback_cmds.specs.declared.order.Order.TheVariants.{Time};
     ghost use Rattle.mono_model.specs.declared.setup.Setup.{Setup};
@@ -51,7 +51,7 @@ impl TimingCore {
             → orders_in result ≡ Time t.to_commit t.cycle ∷ [] }
     {
         self.flush(0);
-        self.counts.replays = self.counts.replays.saturating_add(1);
+        self.counts.replays = self.counts.replays.wrapping_add(1);
         Orders::one(Order::Time {
             n: self.to_commit,
             v: self.cycle,
@@ -107,11 +107,21 @@ impl TimingCore {
     fn is_past_front(&self, slot: &Slot) -> bool
         ensures passed { result ≡ is_past_front self.now.params self.now.cycle slot.now }
     {
-        let front = u64::from(self.params.core_front);
-        match self.cycle.checked_sub(front) {
+        match self.latest_past_front() {
             Some(latest) => slot.state == SlotState::Waiting && slot.fetched <= latest,
             None => false,
         }
+    }
+
+    /// The latest cycle such that what was fetched in it has passed the front of the pipeline,
+    /// where there is one.
+    #[inline(always)]
+    fn latest_past_front(&self) -> Option<u64>
+        ensures latest { IfSome result
+            (λ latest. latest + self.now.params.core_front ≡ self.now.cycle) }
+        ensures none { IfNone result (self.now.cycle < self.now.params.core_front) }
+    {
+        self.cycle.checked_sub(u64::from(self.params.core_front))
     }
 
     /// Whether the class of the slot at a place allows it to begin: device loads and serial
@@ -138,15 +148,16 @@ impl TimingCore {
 
     /// Whether the slot at a place, which waits and has its operands, begins in this cycle.
     #[inline(always)]
-    fn may_begin(&self, place: u32, slot: &Slot, busy: u32, used: Used) -> bool
+    fn may_begin(&self, place: u32, slot: &Slot, latest: u64, busy: u32, used: Used) -> bool
         requires there { slice_get self.now.flight.slots place ≡ Some slot.now }
         requires ready { may_start_at self.now.flight.slots place ≡ true }
+        requires latest { latest + self.now.params.core_front ≡ self.now.cycle }
         ensures begins { result
             ≡ may_begin self.now.params self.now.cycle busy (older_at self.now.flight.slots place)
             slot.now (used_in used) }
         ensures countable { result ≡ true → kind_count slot.now.class used < 2 ^ 32 - 1 }
     {
-        self.is_past_front(slot)
+        slot.fetched <= latest
             && self.class_allows(place, slot)
             && used.has_unit(&self.params, busy, slot.class)
     }
@@ -154,8 +165,9 @@ impl TimingCore {
     /// The slot at a place, which waits and has its operands, begins where it may. The result is
     /// the units used then.
     #[inline(always)]
-    fn turn(&mut self, place: u32, busy: u32, used: Used) -> Used
+    fn turn(&mut self, place: u32, latest: u64, busy: u32, used: Used) -> Used
         requires ready { may_start_at self.old.flight.slots place ≡ true }
+        requires latest { latest + self.old.params.core_front ≡ self.old.cycle }
         ensures kept { (s : Setup) (t : Timing) (slot : HeldSlot) → CoreStandsFor s t self.old
             → t.cycle < 2 ^ 63 →
             slice_get t.slots place ≡ Some slot →
@@ -171,19 +183,21 @@ impl TimingCore {
             used_in result
             ≡ (turn_of s t.cycle busy (older_at t.slots place) slot (used_in used) t.caches).used }
         ensures size { length self.new.flight.slots ≡ length self.old.flight.slots }
+        ensures params { self.new.params ≡ self.old.params }
+        ensures cycle { self.new.cycle ≡ self.old.cycle }
         ensures behind { (k : ℕ) → place < k → may_start_at self.new.flight.slots k
             ≡ may_start_at self.old.flight.slots k }
     {
         let slot = self.flight.at(place);
-        if !self.may_begin(place, &slot, busy, used) {
+        if !self.may_begin(place, &slot, latest, busy, used) {
             return used;
         }
         let added = load_cycles(&mut self.caches, &slot);
         let latency = u64::from(latency_of(&self.params, slot.class));
         let until = self
             .cycle
-            .saturating_add(latency)
-            .saturating_add(u64::from(added));
+            .wrapping_add(latency)
+            .wrapping_add(u64::from(added));
         self.flight.begin(place, until);
         used.with(slot.class)
     }
@@ -191,6 +205,18 @@ impl TimingCore {
     /// Slots begin, from the oldest to the youngest.
     #[inline(always)]
     fn issue_all(&mut self)
+        ensures kept { (s : Setup) (t : Timing) → CoreStandsFor s t self.old → IsSmall t
+            → CoreStandsFor s (issued s t) self.new }
+    {
+        if let Some(latest) = self.latest_past_front() {
+            self.issue_fetched(latest);
+        }
+    }
+
+    /// Slots begin that were fetched in this cycle or before, from the oldest to the youngest.
+    #[inline(always)]
+    fn issue_fetched(&mut self, latest: u64)
+        requires latest { latest + self.old.params.core_front ≡ self.old.cycle }
         ensures kept { (s : Setup) (t : Timing) → CoreStandsFor s t self.old → IsSmall t
             → CoreStandsFor s (issued s t) self.new }
     {
@@ -203,7 +229,7 @@ impl TimingCore {
             let Some(place) = self.flight.next(Sought::Ready, &mut ready, from) else {
                 return;
             };
-            used = self.turn(place, busy, used);
+            used = self.turn(place, latest, busy, used);
             from = place + 1;
         }
     }

@@ -1,4 +1,4 @@
-ghost use Rattle.std.specs.Prelude.{◌≡◌, if◌then◌else◌};
+ghost use Rattle.std.specs.Prelude.{◌≡◌, ◌+◌, ◌%◌, ◌^◌, if◌then◌else◌};
 ghost use Rattle.fsim_base.specs.Number.{bits_of};
 ghost use Rattle.rv_decode.specs.Decode.{decode_of};
 ghost use Rattle.cache_timing.specs.Caches.{CachesState};
@@ -58,21 +58,24 @@ fn decoded_flow(word: u32) -> Flow
     }
 }
 
-/// How many branches, jumps included, an instruction of this flow counts as.
-fn branch_count(flow: Flow) -> u64
-    ensures count { result ≡ branch_count flow }
+/// Whether an instruction counts as a branch: it may go on elsewhere than behind itself.
+fn is_counted(flow: Flow) -> bool
+    ensures counted { (if result then 1 else 0) ≡ branch_count flow }
 {
     match flow {
-        Flow::Plain => 0,
-        Flow::Branch | Flow::Jump => 1,
+        Flow::Plain => false,
+        Flow::Branch | Flow::Jump => true,
     }
 }
 
-/// How many bytes an instruction sends.
-fn bytes_of(sends: bool) -> u64
-    ensures count { result ≡ (if sends then 1 else 0) }
+/// Counts one more where there is one. No run counts as far as 2^63, so none wraps.
+#[inline(always)]
+fn count_if(count: &mut u64, there: bool)
+    ensures counted { count.new ≡ (if there then (count.old + 1) % 2 ^ 64 else count.old) }
 {
-    u64::from(sends)
+    if there {
+        *count = count.wrapping_add(1);
+    }
 }
 
 /// A store to RAM accesses the data cache.
@@ -91,7 +94,7 @@ fn store(caches: &mut Caches, slot: &Slot)
 }
 
 impl TimingCore {
-    ghost use Rattle.std.specs.Prelude.{ℕ, ◌+◌, ◌<◌, ◌^◌, Some, drop, slice_get};
+    ghost use Rattle.std.specs.Prelude.{ℕ, ◌<◌, Some, drop, slice_get};
     ghost use Rattle.mono_model.specs.declared.setup.Setup.{Setup};
     ghost use Rattle.timing_side.specs.Timing.{Timing};
     ghost use Rattle.timing_side.specs.Commit.{committed, faulted};
@@ -107,7 +110,7 @@ impl TimingCore {
         self.flight.leave();
         self.flush(0);
         self.pass(slot);
-        self.counts.exceptions = self.counts.exceptions.saturating_add(1);
+        self.counts.exceptions = self.counts.exceptions.wrapping_add(1);
     }
 
     /// The oldest slot, which has no cause, leaves.
@@ -119,9 +122,9 @@ impl TimingCore {
         let flow = flow_of(slot.word);
         self.predictor.train(slot.addr, flow, slot.next);
         store(&mut self.caches, slot);
-        self.counts.branches = self.counts.branches.saturating_add(branch_count(flow));
-        self.retired = self.retired.saturating_add(1);
-        self.output = self.output.saturating_add(bytes_of(slot.sends));
+        count_if(&mut self.counts.branches, is_counted(flow));
+        self.retired = self.retired.wrapping_add(1);
+        count_if(&mut self.output, slot.sends);
         self.pass(slot);
         self.flight.leave();
     }
@@ -137,10 +140,8 @@ impl TimingCore {
             }) self.new }
         ensures flight { self.new.flight ≡ self.old.flight }
     {
-        self.to_commit = self.to_commit.saturating_add(1);
-        self.irq = IrqView {
-            on: slot.irq_on,
-            cmp: slot.cmp,
-        };
+        self.to_commit = self.to_commit.wrapping_add(1);
+        self.irq.on = slot.irq_on;
+        self.irq.cmp = slot.cmp;
     }
 }

@@ -175,7 +175,7 @@ impl TimingCore {
             CoreStandsFor s (cut_to (take place t.slots) t) self.new }
     {
         let squashed = self.flight.cut_to(place);
-        self.counts.squashed = self.counts.squashed.saturating_add(u64::from(squashed));
+        self.counts.squashed = self.counts.squashed.wrapping_add(u64::from(squashed));
         self.resume = 0;
         self.paid = false;
     }

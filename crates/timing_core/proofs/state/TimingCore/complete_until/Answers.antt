@@ -1,4 +1,4 @@
-use Rattle.std.proofs.Common.{◌≡◌, ℕ, ◌+◌, ◌-◌, ◌^◌, min, [], ◌∷◌, take, length, Some, None, List, refl, ap, sym, ◌∙◌, subst, length-take-le, arith}
+use Rattle.std.proofs.Common.{◌≡◌, ℕ, ◌+◌, ◌-◌, ◌%◌, ◌^◌, [], ◌∷◌, take, length, Some, None, List, refl, ap, sym, ◌∙◌, subst, length-take-le, arith}
 use Rattle.reorder_buffer.specs.declared.slot.Slot.{Slot}
 use Rattle.mono_model.specs.declared.setup.Setup.{Setup}
 use Rattle.mono_model.specs.Machine as machine
@@ -51,9 +51,9 @@ returns-clause-kept c = λ s t k small.
     let front : List Slot = take c.in-Some.redirect.kept c.finish_due.new.flight.slots in
     let is = completes_same s t c.args.self.now c.args.until (record { slots = front; redirect = Some c.in-Some.redirect.addr }) k c.in-Some.ensures.first in
     let f = flushed c s t k small in
-    let count : c.saturating_add-self.result ≡ t.counts.mispredicted + 1 =
-    risen _ _ t.counts.mispredicted 1 c.saturating_add-self.ensures (ap (λ (n : machine.Counts). n.mispredicted) f.counts) (omega arith) (omega arith) in
-    subst (λ (x : Completed). CoreStandsFor s (completed_phase x t).timing (record c.flush.new.self { counts = record c.flush.new.self.counts { mispredicted = c.saturating_add-self.result } })) (sym is)
+    let count : (c.flush.new.self.counts.mispredicted + 1) % 2 ^ 64 ≡ t.counts.mispredicted + 1 =
+    risen _ _ t.counts.mispredicted 1 refl (ap (λ (n : machine.Counts). n.mispredicted) f.counts) (omega arith) (omega arith) in
+    subst (λ (x : Completed). CoreStandsFor s (completed_phase x t).timing (record c.flush.new.self { counts = record c.flush.new.self.counts { mispredicted = (c.flush.new.self.counts.mispredicted + 1) % 2 ^ 64 } })) (sym is)
     (keeps_counts s (cut_to front t) c.flush.new.self f _ _ (λ i. record (f.counts i) { mispredicted = count i }))
 
 pub returns-clause-orders : goal.returns-clause-orders
@@ -65,6 +65,6 @@ returns-clause-orders c = λ s t k small.
     let is = completes_same s t c.args.self.now c.args.until (record { slots = front; redirect = Some c.in-Some.redirect.addr }) k c.in-Some.ensures.first in
     let f = flushed c s t k small in
     let many : length front ≡ kept = length-take-le kept slots c.in-Some.ensures.within in
-    let number : c.saturating_add.result ≡ t.to_commit + length front =
-    risen _ _ t.to_commit (length front) (c.saturating_add.ensures ∙ ap (λ (n : ℕ). min (c.flush.new.self.to_commit + n) (2 ^ 64 - 1)) (c.from.ensures ∙ sym many)) f.to_commit (omega arith) (omega arith) in
+    let number : (c.flush.new.self.to_commit + c.from.result) % 2 ^ 64 ≡ t.to_commit + length front =
+    risen _ _ t.to_commit (length front) (ap (λ (n : ℕ). (c.flush.new.self.to_commit + n) % 2 ^ 64) (c.from.ensures ∙ sym many)) f.to_commit (omega arith) (omega arith) in
     c.one.ensures.one ∙ ap (λ (n : ℕ). Set n c.in-Some.redirect.addr ∷ []) number ∙ ap (λ (x : Completed). (completed_phase x t).orders) (sym is)

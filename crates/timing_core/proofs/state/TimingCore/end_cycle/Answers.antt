@@ -1,34 +1,26 @@
-use Rattle.std.proofs.Common.{◌≡◌, ◌+◌, ◌==◌, if◌then◌else◌, ◌∙◌, arith}
+use Rattle.std.proofs.Common.{◌≡◌, ◌+◌, ◌%◌, ◌^◌, ◌==◌, true, false, if◌then◌else◌, refl, ap, ◌∙◌, arith}
+use Rattle.mono_model.specs.declared.final_state.End.{End}
 use Rattle.mono_model.specs.declared.final_state.End.TheVariants.{Limit}
 use Rattle.mono_model.specs.Final.{has_ended}
-use Rattle.timing_side.specs.Turn.{timing_end_of_cycle}
 use Rattle.timing_core.proofs.Sums.{risen}
+use Rattle.timing_core.proofs.Phases.{with_last, without_last, ends_cycle}
 use Rattle.timing_core.proofs.state.TimingCore.end_cycle.Goals as goal
 
-pub returns : goal.returns
-unfolding timing_end_of_cycle
-returns c = record {
+pub returns-then-self : goal.returns-then-self
+returns-then-self c = record {
   kept = λ s t k small.
-      let cycle : c.saturating_add-self.result ≡ t.cycle + 1 = risen _ _ t.cycle 1 c.saturating_add-self.ensures k.cycle (omega arith) (omega arith) in
-      record {
-        params = k.params;
-        cycle_limit = k.cycle_limit;
-        output_limit = k.output_limit;
-        room = k.room;
-        slots = k.slots;
-        predictor = k.predictor;
-        caches = k.caches;
-        cycle = cycle;
-        to_commit = k.to_commit;
-        resume = k.resume;
-        paid = k.paid;
-        counts = k.counts;
-        retired = k.retired;
-        output = k.output;
-        irq_on = k.irq_on;
-        cmp = k.cmp;
-        end =
-            c.end_after-self.ensures.end
-            ∙ (λ i. if has_ended (k.end i) then k.end i else (if cycle i == k.cycle_limit i then Limit else k.end i));
-      };
+      let core = c.args.self.now in
+      let next : (core.cycle + 1) % 2 ^ 64 ≡ t.cycle + 1 = risen _ _ t.cycle 1 refl k.cycle (omega arith) (omega arith) in
+      let last : (t.cycle + 1 == s.cycles) ≡ true = grind (arith, next, k.cycle_limit, c.if-self.true) in
+      ends_cycle s t core k _ c.end_at_limit-self.result next
+      (c.end_at_limit-self.ensures.end ∙ ap (λ (end : End). if has_ended end then end else Limit) k.end ∙ with_last (t.cycle + 1 == s.cycles) t.end last);
+}
+
+pub returns-else-self : goal.returns-else-self
+returns-else-self c = record {
+  kept = λ s t k small.
+      let core = c.args.self.now in
+      let next : (core.cycle + 1) % 2 ^ 64 ≡ t.cycle + 1 = risen _ _ t.cycle 1 refl k.cycle (omega arith) (omega arith) in
+      let last : (t.cycle + 1 == s.cycles) ≡ false = grind (arith, next, k.cycle_limit, c.if-self.false) in
+      ends_cycle s t core k _ core.end next (k.end ∙ without_last (t.cycle + 1 == s.cycles) t.end last);
 }

@@ -1,4 +1,4 @@
-use Rattle.std.proofs.Common.{◌≡◌, ◌+◌, [], drop, List, ap, ◌∙◌, arith}
+use Rattle.std.proofs.Common.{◌≡◌, ◌+◌, ◌%◌, ◌^◌, [], drop, List, refl, ap, ◌∙◌, arith}
 use Rattle.reorder_buffer.specs.declared.slot.Slot.{Slot}
 use Rattle.reorder_buffer.specs.Window.{Contents}
 use Rattle.mono_model.specs.Machine as machine
@@ -18,8 +18,8 @@ returns c = record {
       let cut = c.flush.ensures.kept s left behind below.squashed in
       let f : Timing = cut_to [] left in
       let passed = c.pass.ensures.kept s f cut below.to_commit in
-      let count : c.saturating_add-self.result ≡ t.counts.exceptions + 1 =
-      risen _ _ t.counts.exceptions 1 c.saturating_add-self.ensures (ap (λ (n : machine.Counts). n.exceptions) passed.counts) below.exceptions (omega arith) in
+      let count : (c.pass.new.self.counts.exceptions + 1) % 2 ^ 64 ≡ t.counts.exceptions + 1 =
+      risen _ _ t.counts.exceptions 1 refl (ap (λ (n : machine.Counts). n.exceptions) passed.counts) below.exceptions (omega arith) in
       keeps_counts s (record f { to_commit = f.to_commit + 1; irq_on = c.args.slot.now.irq_on; cmp = c.args.slot.now.cmp }) c.pass.new.self passed _ _
       (λ i. record (passed.counts i) { exceptions = count i });
 }

@@ -1,4 +1,4 @@
-use Rattle.std.proofs.Common.{◌≡◌, ◌+◌, ◌-◌, ℕ, refl, ap, sym, ◌∙◌, arith, length, take, min, ◌^◌, List}
+use Rattle.std.proofs.Common.{◌≡◌, ◌+◌, ◌-◌, ℕ, refl, ap, sym, ◌∙◌, arith, length, take, ◌%◌, ◌^◌, List}
 use Rattle.reorder_buffer.specs.Window.{Contents}
 use Rattle.reorder_buffer.specs.declared.slot.Slot.{Slot}
 use Rattle.mono_model.specs.Machine as machine
@@ -13,8 +13,8 @@ returns c = record {
       let cut : ℕ = length t.slots - length (take c.args.place t.slots) in
       let same : cut ≡ length c.args.self.now.flight.slots - c.args.place = removed t.slots c.args.place ∙ ap (λ (slots : List Slot). length slots - c.args.place) (sym k.slots) in
       let taken : c.from.result ≡ cut = c.from.ensures ∙ c.cut_to-squashed.ensures.count ∙ sym same in
-      let squashed : c.saturating_add-self.result ≡ t.counts.squashed + cut =
-      risen _ _ t.counts.squashed cut (c.saturating_add-self.ensures ∙ ap (λ (n : ℕ). min (c.args.self.now.counts.squashed + n) (2 ^ 64 - 1)) taken)
+      let squashed : (c.args.self.now.counts.squashed + c.from.result) % 2 ^ 64 ≡ t.counts.squashed + cut =
+      risen _ _ t.counts.squashed cut (ap (λ (n : ℕ). (c.args.self.now.counts.squashed + n) % 2 ^ 64) taken)
       (ap (λ (n : machine.Counts). n.squashed) k.counts) small (omega arith) in
       record {
         params = k.params;

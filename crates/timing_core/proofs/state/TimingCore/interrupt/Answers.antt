@@ -1,4 +1,4 @@
-use Rattle.std.proofs.Common.{◌≡◌, ◌+◌, ℕ, [], ◌∷◌, refl, false, true, ap, ◌∙◌, arith, sym, subst}
+use Rattle.std.proofs.Common.{◌≡◌, ◌+◌, ◌%◌, ◌^◌, ℕ, [], ◌∷◌, refl, false, true, ap, ◌∙◌, arith, sym, subst}
 use Rattle.rollback_cmds.specs.declared.order.Order.TheVariants.{Interrupt}
 use Rattle.timing_side.specs.Timing.{Phase, cut_to}
 use Rattle.timing_side.specs.Interrupt.{is_pending}
@@ -25,11 +25,11 @@ unfolding cut_to
 returns-clause-kept c = λ s t k small.
     let on : is_pending t ≡ true = cc in
     let f : CoreStandsFor s (cut_to [] t) c.flush.new.self = c.flush.ensures.kept s t k (omega arith) in
-    let count : c.saturating_add-self.result ≡ t.counts.interrupts + 1 =
-    risen _ _ t.counts.interrupts 1 c.saturating_add-self.ensures (ap (λ (n : machine.Counts). n.interrupts) f.counts) (omega arith) (omega arith) in
+    let count : (c.flush.new.self.counts.interrupts + 1) % 2 ^ 64 ≡ t.counts.interrupts + 1 =
+    risen _ _ t.counts.interrupts 1 refl (ap (λ (n : machine.Counts). n.interrupts) f.counts) (omega arith) (omega arith) in
     let off : CoreStandsFor s (record (cut_to [] t) { irq_on = false }) (record c.flush.new.self { irq = record c.flush.new.self.irq { on = false } }) =
     keeps_irq s (cut_to [] t) c.flush.new.self f false false c.flush.new.self.irq.cmp t.cmp refl f.cmp in
-    subst (λ (p : Phase). CoreStandsFor s p.timing (record c.flush.new.self { irq = record c.flush.new.self.irq { on = false }; counts = record c.flush.new.self.counts { interrupts = c.saturating_add-self.result } })) (sym (interrupts t true on))
+    subst (λ (p : Phase). CoreStandsFor s p.timing (record c.flush.new.self { irq = record c.flush.new.self.irq { on = false }; counts = record c.flush.new.self.counts { interrupts = (c.flush.new.self.counts.interrupts + 1) % 2 ^ 64 } })) (sym (interrupts t true on))
     (keeps_counts s (record (cut_to [] t) { irq_on = false }) _ off _ _ (λ i. record (f.counts i) { interrupts = count i }))
 
 pub returns-clause-orders : goal.returns-clause-orders

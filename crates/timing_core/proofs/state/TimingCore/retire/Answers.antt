@@ -1,4 +1,4 @@
-use Rattle.std.proofs.Common.{◌≡◌, ℕ, ◌+◌, ◌-◌, ◌<◌, ◌^◌, min, length, drop, slice_get, Some, if◌then◌else◌, ap, sym, ◌∙◌, subst, arith}
+use Rattle.std.proofs.Common.{◌≡◌, ℕ, ◌+◌, ◌%◌, ◌<◌, ◌^◌, refl, length, drop, slice_get, Some, if◌then◌else◌, ap, sym, ◌∙◌, subst, arith}
 use Rattle.std.proofs.lemmas.Option.{slice_get_within}
 use Rattle.fsim_base.specs.declared.instruction.Flow.{Flow}
 use Rattle.branch_predictor.specs.Predictor.{trained}
@@ -10,9 +10,8 @@ use Rattle.mono_model.specs.Found.{flow_in}
 use Rattle.mono_model.specs.Machine as machine
 use Rattle.mono_model.specs.Setup.{predictor_params, caches_params}
 use Rattle.timing_side.specs.Slots.{found_in}
-use Rattle.timing_core.proofs.Sums.{risen}
+use Rattle.timing_core.proofs.Sums.{risen, counted}
 use Rattle.timing_core.proofs.Keeping.{keeps_slots}
-use Rattle.timing_core.proofs.Leaving.{branch_count_limit, sent}
 use Rattle.timing_core.proofs.state.TimingCore.retire.Goals as goal
 
 pub leave-requires : goal.leave-requires
@@ -27,14 +26,11 @@ returns c = record {
   kept = λ s t k below.
       let slot : Slot = c.args.slot.now in
       let flow : Flow = flow_in (found_in slot) in
-      let branches : c.saturating_add-self.result ≡ t.counts.branches + branch_count flow =
-      risen _ _ t.counts.branches (branch_count flow)
-      (c.saturating_add-self.ensures ∙ ap (λ (n : ℕ). min (c.args.self.now.counts.branches + n) (2 ^ 64 - 1)) (c.branch_count.ensures.count ∙ ap branch_count c.flow_of-flow.ensures.flow))
-      (ap (λ (n : machine.Counts). n.branches) k.counts) below.branches (omega (arith, branch_count_limit flow)) in
-      let retired : c.saturating_add-self-2.result ≡ t.retired + 1 = risen _ _ t.retired 1 c.saturating_add-self-2.ensures k.retired below.retired (omega arith) in
-      let output : c.saturating_add-self-3.result ≡ t.output + (if slot.sends then 1 else 0) =
-      risen _ _ t.output (if slot.sends then 1 else 0)
-      (c.saturating_add-self-3.ensures ∙ ap (λ (n : ℕ). min (c.args.self.now.output + n) (2 ^ 64 - 1)) c.bytes_of.ensures.count) k.output below.output (omega (arith, sent slot.sends)) in
+      let branches : c.count_if.new.count ≡ t.counts.branches + branch_count flow =
+      counted _ _ t.counts.branches c.is_counted.result c.count_if.ensures.counted (ap (λ (n : machine.Counts). n.branches) k.counts) below.branches
+      ∙ ap (λ (n : ℕ). t.counts.branches + n) (c.is_counted.ensures.counted ∙ ap branch_count c.flow_of-flow.ensures.flow) in
+      let retired : (c.args.self.now.retired + 1) % 2 ^ 64 ≡ t.retired + 1 = risen _ _ t.retired 1 refl k.retired below.retired (omega arith) in
+      let output : c.count_if-2.new.count ≡ t.output + (if slot.sends then 1 else 0) = counted _ _ t.output slot.sends c.count_if-2.ensures.counted k.output below.output in
       let Learnt : Flow → Type 0 = λ f. PredictorStandsFor c.train.new.self (predictor_params s.params) (trained (predictor_params s.params) t.predictor slot.addr f slot.next) in
       let passed =
       c.pass.ensures.kept s

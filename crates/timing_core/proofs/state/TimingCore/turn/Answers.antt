@@ -1,4 +1,4 @@
-use Rattle.std.proofs.Common.{◌≡◌, ℕ, ◌+◌, ◌∙◌, ap, sym, subst, Some, IfSome, Option, true, false, arith}
+use Rattle.std.proofs.Common.{◌≡◌, ℕ, ◌+◌, ◌%◌, ◌^◌, ◌∙◌, refl, ap, sym, subst, Some, IfSome, Option, true, false, arith}
 use Rattle.std.proofs.lemmas.Option.{slice_get_within}
 use Rattle.std.specs.Prelude.{slice_set}
 use Rattle.reorder_buffer.specs.declared.slot.Slot.{Slot}
@@ -43,7 +43,7 @@ returns-clause-kept c = λ s t slot k small at.
     let same = same_found core.flight.slots t.slots place found slot k.slots c.at-slot.ensures.slot at in
     let is : c.may_begin.result ≡ true = c.if-not-may_begin.false in
     let test = same_test s t core place busy used k found ∙ sym c.may_begin.ensures.begins ∙ is in
-    let until = c.saturating_add-until.result in
+    let until : ℕ = ((c.args.self.now.cycle + c.from-latency.result) % 2 ^ 64 + c.from.result) % 2 ^ 64 in
     let Begun : Option Slot → Type 0 = λ at_place. IfSome at_place
     (λ x. c.begin.new.self ≡ record core.flight { slots = slice_set core.flight.slots place (record x { state = Until until }) }) in
     let begun = subst Begun c.at-slot.ensures.slot c.begin.ensures.begun in
@@ -51,7 +51,7 @@ returns-clause-kept c = λ s t slot k small at.
     c.from-latency.ensures ∙ c.latency_of.ensures.latency ∙ ap (λ (p : Params). latency_of p found.class) k.params in
     let added : c.from.result ≡ (cached s found.cause found.access t.caches).cycles = c.from.ensures ∙ c.load_cycles-added.ensures.cycles s t.caches k.caches in
     let ends : until ≡ t.cycle + c.from-latency.result + c.from.result =
-    end_cycle until c.saturating_add.result core.cycle t.cycle c.from-latency.result c.from.result c.saturating_add.ensures c.saturating_add-until.ensures k.cycle small (omega arith) (omega arith) in
+    end_cycle until _ core.cycle t.cycle c.from-latency.result c.from.result refl refl k.cycle small (omega arith) (omega arith) in
     subst (IsTurned s t core place busy used _) same
     (begins s t core place busy used k found test c.begin.new.self c.load_cycles-added.new.caches until begun
     (ends ∙ ap (λ (n : ℕ). t.cycle + n + c.from.result) latency ∙ ap (λ (n : ℕ). t.cycle + latency_of s.params found.class + n) added)
@@ -71,7 +71,7 @@ returns-clause-used c = λ s t slot k small at.
 pub returns-clause-behind : goal.returns-clause-behind
 returns-clause-behind c = λ k behind.
     let slots = c.args.self.now.flight.slots in let place = c.args.place in let found = c.at-slot.result in
-    let until = c.saturating_add-until.result in
+    let until : ℕ = ((c.args.self.now.cycle + c.from-latency.result) % 2 ^ 64 + c.from.result) % 2 ^ 64 in
     let Begun : Option Slot → Type 0 = λ at_place. IfSome at_place
     (λ x. c.begin.new.self ≡ record c.args.self.now.flight { slots = slice_set slots place (record x { state = Until until }) }) in
     let begun = subst Begun c.at-slot.ensures.slot c.begin.ensures.begun in
