@@ -37,9 +37,6 @@ one_at_most : (b : Bool) → (if b then 1 else 0) ≤ 1
 one_at_most true = omega arith
 one_at_most false = omega arith
 
-pub division_at_most : (slot : Slot) → division slot ≤ 1
-division_at_most slot = one_at_most (is_busy_division slot.class slot.state)
-
 pub divisions_within : (slots : List Slot) → busy_divisions slots ≤ length slots
 divisions_within [] = omega arith
 divisions_within (slot ∷ slots) = omega (arith, divisions_within slots, one_at_most (is_busy_division slot.class slot.state))

@@ -1,8 +1,8 @@
-use crate::cutting::divisions_from;
+use crate::dividing::{divisions_from, forget_division, note_division};
 use crate::queueing::{finish_store, pop_oldest, put_store};
-use crate::reading::{divisions_in, slot_at};
+use crate::reading::slot_at;
 use crate::registers::Registers;
-use fsim_base::{Class, NoMemory};
+use fsim_base::NoMemory;
 use known_words::{KnownWords, OfWord};
 use load_store_queue::StoreQueue;
 use reorder_buffer::{Slot, SlotState, Window};
@@ -147,9 +147,7 @@ impl InFlight {
     {
         let (index, slot) = slot_at(&self.window, 0);
         pop_oldest(&mut self.stores, &self.window);
-        if divides(&slot) {
-            self.dividing -= 1;
-        }
+        forget_division(&mut self.dividing, &slot);
         self.stations.retire(index);
         self.window.pop();
     }
@@ -258,9 +256,7 @@ impl InFlight {
             ..slot
         };
         self.window.mark(place, begun.state);
-        if slot.class == Class::Div {
-            self.dividing += 1;
-        }
+        note_division(&mut self.dividing, &begun);
         self.stations.issue(index);
     }
 
@@ -276,9 +272,7 @@ impl InFlight {
     {
         let (index, slot) = slot_at(&self.window, place);
         self.window.mark(place, SlotState::Done);
-        if slot.class == Class::Div {
-            self.dividing -= 1;
-        }
+        forget_division(&mut self.dividing, &slot);
         self.stations.wake(index, slot.cause.is_some());
         finish_store(&mut self.stores, &slot);
     }

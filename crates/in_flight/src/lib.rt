@@ -2,7 +2,7 @@
 //! store queue, kept in step.
 #![tactic(auto)]
 
-mod cutting;
+mod dividing;
 mod flight;
 mod queueing;
 mod reading;

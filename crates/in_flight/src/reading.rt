@@ -1,27 +1,16 @@
 //! What is read of one slot.
-ghost use Rattle.std.specs.Prelude.{◌≡◌, ◌<◌, ◌≤◌, if◌then◌else◌, Some, length, slice_get};
+ghost use Rattle.std.specs.Prelude.{◌≡◌, ◌<◌, ◌≤◌, Some, length, slice_get};
 ghost use Rattle.reorder_buffer.specs.Window.{IsConsecutive, HasOwnIndices, index_of};
-ghost use Rattle.timing_side.specs.Issue.{is_busy_division};
 ghost use Rattle.in_flight.specs.Step.{is_store};
 
 use fsim_base::Class;
-use reorder_buffer::{Slot, SlotState, Window};
+use reorder_buffer::{Slot, Window};
 
 /// Whether the slot's instruction stores.
 pub fn is_store(slot: &Slot) -> bool
     ensures { result ≡ is_store slot.now }
 {
     slot.class == Class::Store
-}
-
-/// How many divisions that execute the slot counts as: one or none.
-pub fn divisions_in(slot: &Slot) -> u32
-    ensures { result ≡ (if is_busy_division slot.now.class slot.now.state then 1 else 0) }
-{
-    match (slot.class, slot.state) {
-        (Class::Div, SlotState::Until(_)) => 1,
-        _ => 0,
-    }
 }
 
 /// The index and the slot at a place of a window, whose slots have numbers one after the other and

@@ -1,15 +1,15 @@
 use Rattle.std.proofs.Common.{◌≡◌, sym, subst, arith, IfSome}
 use Rattle.std.specs.Prelude.{slice_get}
-use Rattle.reorder_buffer.specs.declared.slot.SlotState.TheVariants.{Waiting, Until}
+use Rattle.reorder_buffer.specs.declared.slot.SlotState.TheVariants.{Waiting}
 use Rattle.reorder_buffer.specs.Window.{Contents}
-use Rattle.in_flight.proofs.Divisions.{divisions_within, division_at_most}
+use Rattle.in_flight.proofs.Divisions.{divisions_within}
 use Rattle.in_flight.proofs.Changes.{waits_at, begun_keeps}
 use Rattle.in_flight.proofs.flight.InFlight.begin.Goals as goal
 
-pub overflow_add-self : goal.overflow_add-self
-overflow_add-self c =
+pub note_division-requires : goal.note_division-requires
+note_division-requires c =
     let window = c.self.inside.window in
-    omega (arith, c.self.invariant.limit, c.self.invariant.dividing_is, divisions_within window.slots, c.slot_at-index.ensures.room, c.divisions_in.ensures, division_at_most (record c.slot_at-index.result.1 { state = Until c.args.until }))
+    record { room = omega (arith, c.self.invariant.limit, c.self.invariant.dividing_is, divisions_within window.slots, c.slot_at-index.ensures.room) }
 
 pub issue-requires : goal.issue-requires
 issue-requires c =
@@ -34,4 +34,4 @@ invariant_of-self c =
     in
     let marks = rw c.slot_at-index.ensures.slot at c.mark.ensures.marked in
     let issues = rw c.slot_at-index.ensures.index at c.issue.ensures.issued in
-    rw (marks, issues, c.divisions_in.ensures) keeps
+    rw (marks, issues, c.note_division.ensures.noted) keeps

@@ -9,11 +9,11 @@ use Rattle.in_flight.proofs.Stores.{store_held, finishes}
 use Rattle.in_flight.proofs.Changes.{executes_at, finished_keeps}
 use Rattle.in_flight.proofs.flight.InFlight.finish.Goals as goal
 
-pub overflow_sub-self : goal.overflow_sub-self
-overflow_sub-self c =
+pub forget_division-requires : goal.forget_division-requires
+forget_division-requires c =
     let window = c.self.inside.window in
     let slot = c.slot_at-index.result.1 in
-    omega (arith, c.self.invariant.dividing_is, c.divisions_in.ensures, division_counts window.slots c.args.place slot c.slot_at-index.ensures.slot)
+    record { counted = omega (arith, c.self.invariant.dividing_is, division_counts window.slots c.args.place slot c.slot_at-index.ensures.slot) }
 
 pub wake-requires : goal.wake-requires
 wake-requires c =
@@ -51,4 +51,4 @@ invariant_of-self c =
     in
     let marks = rw c.slot_at-index.ensures.slot at c.mark.ensures.marked in
     let wakes = rw (c.slot_at-index.ensures.index, c.is_some.ensures) at c.wake.ensures.woken in
-    rw (marks, wakes, c.divisions_in.ensures) keeps
+    rw (marks, wakes, c.forget_division.ensures.forgotten) keeps

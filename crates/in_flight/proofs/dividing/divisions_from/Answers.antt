@@ -1,7 +1,7 @@
 use Rattle.std.proofs.Common.{◌≡◌, suc, ◌+◌, ◌-◌, subst, arith, take}
 use Rattle.timing_side.specs.Issue.{busy_divisions}
 use Rattle.in_flight.proofs.Divisions.{divisions-more, divisions_within}
-use Rattle.in_flight.proofs.cutting.divisions_from.Goals as goal
+use Rattle.in_flight.proofs.dividing.divisions_from.Goals as goal
 
 pub overflow_add-divisions : goal.overflow_add-divisions
 overflow_add-divisions c =

@@ -1,6 +1,6 @@
 use Rattle.std.proofs.Common.{◌≡◌, ◌+◌, ◌≤◌, take}
 use Rattle.timing_side.specs.Issue.{busy_divisions}
-use Rattle.in_flight.proofs.cutting.divisions_from.Given as goal
+use Rattle.in_flight.proofs.dividing.divisions_from.Given as goal
 
 -- those from the place on are counted
 abbrev pub invariant-loop-place : goal.invariant-loop-place
