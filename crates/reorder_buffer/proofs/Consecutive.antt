@@ -8,7 +8,7 @@ use Rattle.std.proofs.lemmas.List.Sums.{length-filter}
 use Rattle.std.proofs.lemmas.Option.{slice_get-get_or, slice_get_within, get_or_from_slice_get}
 use Rattle.std.specs.Option.{option_copied}
 use Rattle.reorder_buffer.specs.declared.slot.Slot.{Slot}
-use Rattle.reorder_buffer.specs.Window.{IsConsecutive, IsFirst, HasOwnIndices, youngest, index_of, below_number, count_from}
+use Rattle.reorder_buffer.specs.Window.{IsConsecutive, IsFirst, HasOwnIndices, youngest, index_of, position_of, below_number, count_from}
 
 -- k places on, the number is k higher
 number_on : (slots : List Slot) → IsConsecutive slots → (i k : ℕ) (d : Slot) → i + k < length slots → (get_or slots (i + k) d).number ≡ (get_or slots i d).number + k
@@ -114,47 +114,48 @@ number_at slots place oldest slot consecutive first there =
     let on : (get_or slots place slot).number ≡ (get_or slots 0 slot).number + place = let e : 0 + place ≡ place = omega arith in rw e at (number_on slots consecutive 0 place slot (omega (arith, within))) in
     sym (ap (λ (s : Slot). s.number) mine) ∙ on ∙ ap (λ (s : Slot). s.number + place) theirs
 
--- What is behind the index of the oldest slot: that of a slot at a place, of the next slot, and of the oldest but one.
-behind : (capacity first places number : ℕ) → first ≡ index_of capacity number → index_of capacity (first + places) ≡ index_of capacity (number + places)
-behind capacity first places number is = ap (λ k. (k + places) % capacity) is ∙ mod-add-mod number capacity places
+-- What is behind the remainder of a number: the index and the position of the next slot, and the position of the oldest but one.
+behind : (room first places number : ℕ) → first ≡ position_of room number → position_of room (first + places) ≡ position_of room (number + places)
+behind room first places number is = ap (λ k. (k + places) % room) is ∙ mod-add-mod number room places
 
--- the index of the oldest slot once there is one of this number behind the others
+pub next_index : (slots : List Slot) (capacity number index place : ℕ) (last : Slot) → IfSome (youngest slots) (λ last. number ≡ last.number + 1) → place ≡ length slots - 1
+    → slice_get slots place ≡ Some last → index ≡ index_of capacity last.number → index_of capacity (index + 1) ≡ index_of capacity number
+next_index slots capacity number index place last next at there is =
+    let newest : youngest slots ≡ Some last = ap (slice_get slots) (sym at) ∙ there in
+    let one : number ≡ last.number + 1 = rw newest at next in
+    behind capacity index 1 last.number is ∙ ap (index_of capacity) (sym one)
+
+-- the position of the oldest slot once there is one of this number behind the others
 abbrev pub IsFirstWith : List Slot → ℕ → ℕ → ℕ → ℕ → Type 0
-IsFirstWith slots capacity first number now = ((length slots ≡ 0) × (now ≡ index_of capacity number)) ⊎ ((1 ≤ length slots) × (now ≡ first))
+IsFirstWith slots room first number now = ((length slots ≡ 0) × (now ≡ position_of room number)) ⊎ ((1 ≤ length slots) × (now ≡ first))
 
-module _ (capacity first : ℕ) where
-  pub place_index : (slots : List Slot) (place : ℕ) (slot : Slot) → IsConsecutive slots → IsFirst slots capacity first → slice_get slots place ≡ Some slot →
-      index_of capacity (first + place) ≡ index_of capacity slot.number
-  place_index [] place slot consecutive is there = let within = slice_get_within [] place slot there in absurd (omega (arith, within))
-  place_index (s ∷ slots) place slot consecutive is there =
-      behind capacity first place s.number is ∙ ap (index_of capacity) (sym (number_at (s ∷ slots) place s slot consecutive refl there))
-
-  pub next_index : (slots : List Slot) (number now : ℕ) → IsConsecutive slots → IsFirst slots capacity first → IfSome (youngest slots) (λ last. number ≡ last.number + 1) →
-      IsFirstWith slots capacity first number now → index_of capacity (now + length slots) ≡ index_of capacity number
-  next_index [] number now consecutive is next (inl empty) = let e : number + 0 ≡ number = omega arith in behind capacity now 0 number empty.1 ∙ ap (index_of capacity) e
-  next_index [] number now consecutive is next (inr some) = absurd (let least = some.0 in omega arith)
-  next_index (s ∷ slots) number now consecutive is next (inl empty) = absurd (let none = empty.0 in omega arith)
-  next_index (s ∷ slots) number now consecutive is next (inr some) =
+module _ (room first : ℕ) where
+  pub next_position : (slots : List Slot) (number now : ℕ) → IsConsecutive slots → IsFirst slots room first → IfSome (youngest slots) (λ last. number ≡ last.number + 1) →
+      IsFirstWith slots room first number now → position_of room (now + length slots) ≡ position_of room number
+  next_position [] number now consecutive is next (inl empty) = let e : number + 0 ≡ number = omega arith in behind room now 0 number empty.1 ∙ ap (position_of room) e
+  next_position [] number now consecutive is next (inr some) = absurd (let least = some.0 in omega arith)
+  next_position (s ∷ slots) number now consecutive is next (inl empty) = absurd (let none = empty.0 in omega arith)
+  next_position (s ∷ slots) number now consecutive is next (inr some) =
       let last = get_or (s ∷ slots) (length slots) s in
       let newest : slice_get (s ∷ slots) (length slots) ≡ Some last = slice_get-get_or (s ∷ slots) (length slots) s (omega arith) in
       let at : length (s ∷ slots) - 1 ≡ length slots = omega arith in
       let one : number ≡ last.number + 1 = rw newest at (subst (λ k. IfSome (slice_get (s ∷ slots) k) (λ l. number ≡ l.number + 1)) at next) in
       let on : last.number ≡ s.number + length slots = number_at (s ∷ slots) (length slots) s last consecutive refl newest in
       let e : s.number + length (s ∷ slots) ≡ number = omega (arith, one, on) in
-      behind capacity now (length (s ∷ slots)) s.number (some.1 ∙ is) ∙ ap (index_of capacity) e
+      behind room now (length (s ∷ slots)) s.number (some.1 ∙ is) ∙ ap (position_of room) e
 
-  pub second_index : (slots : List Slot) → IsConsecutive slots → IsFirst slots capacity first → IsFirst (drop 1 slots) capacity (index_of capacity (first + 1))
-  second_index [] consecutive is = tt
-  second_index (s ∷ []) consecutive is = tt
-  second_index (s ∷ t ∷ slots) consecutive is =
+  pub second_position : (slots : List Slot) → IsConsecutive slots → IsFirst slots room first → IsFirst (drop 1 slots) room (position_of room (first + 1))
+  second_position [] consecutive is = tt
+  second_position (s ∷ []) consecutive is = tt
+  second_position (s ∷ t ∷ slots) consecutive is =
       let next : t.number ≡ s.number + 1 = consecutive 0 s (omega arith) in
-      behind capacity first 1 s.number is ∙ ap (index_of capacity) (sym next)
+      behind room first 1 s.number is ∙ ap (position_of room) (sym next)
 
 pub rest_of : (slots : List Slot) → IsConsecutive slots → IsConsecutive (drop 1 slots)
 rest_of [] consecutive = consecutive
 rest_of (s ∷ slots) consecutive = rest_follows s slots consecutive
 
--- the index of the oldest slot behind a further one
+-- the position of the oldest slot behind a further one
 pub first_with : (slots : List Slot) (s : Slot) (room first now : ℕ) → IsFirst slots room first → IsFirstWith slots room first s.number now → IsFirst (slots ++ s ∷ []) room now
 first_with [] s room first now is (inl empty) = empty.1
 first_with [] s room first now is (inr some) = absurd (let least = some.0 in omega arith)
@@ -191,5 +192,5 @@ module _ (slots : List Slot) (place : ℕ) (s now : Slot) (there : slice_get slo
 
 pub first_still : (slots : List Slot) (place : ℕ) (s now : Slot) (room first : ℕ) → slice_get slots place ≡ Some s → now.number ≡ s.number → IsFirst slots room first → IsFirst (set slots place now) room first
 first_still [] place s now room first there same is = tt
-first_still (t ∷ slots) zero s now room first there same is = let e : t ≡ s = grind (arith, there) in is ∙ ap (λ (x : Slot). index_of room x.number) e ∙ ap (index_of room) (sym same)
+first_still (t ∷ slots) zero s now room first there same is = let e : t ≡ s = grind (arith, there) in is ∙ ap (λ (x : Slot). position_of room x.number) e ∙ ap (position_of room) (sym same)
 first_still (t ∷ slots) (suc place) s now room first there same is = is

@@ -1,2 +1,3 @@
 pub mod Consecutive
+pub mod Positions
 pub mod Ring

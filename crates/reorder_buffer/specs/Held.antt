@@ -27,7 +27,7 @@ slot_from e predicted fetched state = record {
   state = state;
 }
 
--- that of what an index keeps
+-- that of what a position keeps
 abbrev pub slot_in : Held → Slot
 slot_in held = slot_from held.entry held.predicted held.fetched held.state
 

@@ -1,7 +1,9 @@
 -- The instructions in the window (Hennessy and Patterson, Computer Architecture, section 3.6, the reorder buffer).
-use Rattle.std.specs.Prelude.{◌≡◌, ◌≢◌, ℕ, ◌+◌, ◌-◌, ◌%◌, List, Option, IfSome, nat_lt, nat_le, length, filter, count_by, AllPairs, slice_get, ◌<◌, ◌≤◌, ◌^◌, ◌++◌, take, drop}
+use Rattle.std.specs.Prelude.{◌≡◌, ◌≢◌, ℕ, ◌+◌, ◌-◌, ◌%◌, List, Option, IfSome, nat_lt, nat_le, length, filter, count_by, All, AllPairs, slice_get, ◌<◌, ◌≤◌, ◌^◌, ◌++◌, take, drop}
 use Rattle.std.specs.List.{AllAdjacentBelow}
+use Rattle.std.specs.Int.{IsPowerOfTwo}
 use Rattle.reorder_buffer.specs.declared.slot.Slot.{Slot}
+use Rattle.reorder_buffer.specs.declared.held.Held.{Held}
 
 -- how many slots a window has room for, and those that it holds, the oldest first
 pub record Contents : Type 0 where
@@ -21,9 +23,13 @@ youngest slots = slice_get slots (length slots - 1)
 abbrev pub index_of : ℕ → ℕ → ℕ
 index_of capacity number = number % capacity
 
--- the index of the oldest slot, where there is one
+-- the position of an instruction's slot: where it stands in a vector of `room` items
+abbrev pub position_of : ℕ → ℕ → ℕ
+position_of room number = number % room
+
+-- the position of the oldest slot, where there is one
 abbrev pub IsFirst : List Slot → ℕ → ℕ → Type 0
-IsFirst slots capacity first = IfSome (slice_get slots 0) (λ oldest. first ≡ index_of capacity oldest.number)
+IsFirst slots room first = IfSome (slice_get slots 0) (λ oldest. first ≡ position_of room oldest.number)
 
 -- no two slots have one index
 abbrev pub HasOwnIndices : ℕ → List Slot → Type 0
@@ -37,15 +43,39 @@ below_number n slots = filter (λ s. nat_lt s.number n) slots
 abbrev pub count_from : ℕ → List Slot → ℕ
 count_from n slots = count_by (λ s. nat_le n s.number) slots
 
--- the `count` items from index `first` on, going on at 0 behind the last index
+-- the `count` items from position `first` on, going on at 0 behind the last position
 unfoldable pub ring_slots : List Slot → ℕ → ℕ → List Slot
 ring_slots items first count = take count (drop first items ++ take first items)
 
--- what holds of the fields of a window that holds these slots
-pub record IsRing (capacity first count : ℕ) (slots : List Slot) : Type 0 where
-  pub fits : capacity < 2 ^ 32
-  pub within : count ≤ capacity
+-- what holds of the slots from position `first` on, in a vector of `room` items
+pub record IsRing (room first count : ℕ) (slots : List Slot) : Type 0 where
+  pub within : count ≤ room
   pub held : length slots ≡ count
-  pub inside : 0 < capacity → first < capacity
-  pub first_is : IsFirst slots capacity first
+  pub inside : 0 < room → first < room
+  pub first_is : IsFirst slots room first
   pub consecutive : IsConsecutive slots
+
+-- what holds of the positions, which are as many as the vector has items
+pub record HasPositions (room capacity mask : ℕ) : Type 0 where
+  -- one for each slot that has room
+  pub enough : capacity ≤ room
+  -- so many that a mask takes the remainder
+  pub power : IsPowerOfTwo room
+  -- the mask is the last one
+  pub masked : mask + 1 ≡ room
+  -- so few that a position and a place add up to less than 2 ^ 32
+  pub fits : room ≤ 2 ^ 31
+
+-- what is kept has the index of its number
+abbrev pub HasItsIndex : ℕ → Held → Type 0
+HasItsIndex capacity held = held.index ≡ index_of capacity held.entry.number
+
+-- what holds of the fields of a window that keeps these items and holds these slots
+pub record IsWindow (items : List Held) (room capacity mask first count : ℕ) (slots : List Slot) : Type 0 where
+  pub positions : HasPositions room capacity mask
+  -- the slots have room
+  pub within : count ≤ capacity
+  -- and stand one behind the other from `first` on
+  pub ring : IsRing room first count slots
+  -- each position keeps an index that is its number's, also where it has no slot of the window
+  pub indices : All (HasItsIndex capacity) items

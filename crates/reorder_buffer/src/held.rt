@@ -5,7 +5,7 @@ ghost use Rattle.reorder_buffer.specs.Held.{slot_in};
 use crate::slot::{Slot, SlotState};
 use trace_entry::Entry;
 
-/// What an index of the window keeps of an instruction: the entry as it came, which is copied
+/// What a position of the window keeps of an instruction: the entry as it came, which is copied
 /// whole, and what the window adds to it.
 #[derive(Clone, Copy, Debug)]
 pub(crate) struct Held {
@@ -13,6 +13,8 @@ pub(crate) struct Held {
     pub entry: Entry,
     /// The address that was predicted to follow it.
     pub predicted: u32,
+    /// The index of its slot.
+    pub index: u32,
     /// The cycle in which it was fetched.
     pub fetched: u64,
     /// How far it has come.
@@ -20,11 +22,15 @@ pub(crate) struct Held {
 }
 
 impl Held {
-    /// What an index that was never held has.
-    pub(crate) fn free() -> Held {
+    /// What a position that held no instruction yet keeps.
+    pub(crate) fn free() -> Held
+        ensures number { result.entry.number ≡ 0 }
+        ensures index { result.index ≡ 0 }
+    {
         Held {
             entry: Entry::BLANK,
             predicted: 0,
+            index: 0,
             fetched: 0,
             state: SlotState::Done,
         }
@@ -56,16 +62,18 @@ impl Held {
 
     /// Holds an instruction that waits, in place of what was held.
     #[inline(always)]
-    pub(crate) fn put(&mut self, entry: &Entry, predicted: u32, fetched: u64)
+    pub(crate) fn put(&mut self, entry: &Entry, predicted: u32, index: u32, fetched: u64)
         ensures put { self.new ≡ record {
           entry = entry.now;
           predicted = predicted;
+          index = index;
           fetched = fetched;
           state = Waiting;
         } }
     {
         self.entry = *entry;
         self.predicted = predicted;
+        self.index = index;
         self.fetched = fetched;
         self.state = SlotState::Waiting;
     }

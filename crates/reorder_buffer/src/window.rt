@@ -1,5 +1,6 @@
 ghost use Rattle.std.specs.Prelude.{◌≡◌, ℕ, ◌+◌, ◌<◌, ◌≤◌, ◌^◌};
-ghost use Rattle.reorder_buffer.specs.Window.{index_of};
+ghost use Rattle.std.specs.Int.{IsPowerOfTwo};
+ghost use Rattle.reorder_buffer.specs.Window.{index_of, position_of};
 
 use crate::held::Held;
 use crate::slot::{Slot, SlotState};
@@ -12,10 +13,15 @@ use trace_entry::Entry;
 /// room (Hennessy and Patterson, Computer Architecture, section 3.6, the reorder buffer).
 #[derive(Debug, Drop)]
 pub struct Window {
-    /// What each index keeps. What the window holds begins at `first`, and goes on at 0 behind the
-    /// last index.
+    /// What each position keeps: a power of two of them, at least `capacity`. A slot's position is
+    /// its number modulo that power, so what the window holds begins at `first`, and goes on at 0
+    /// behind the last position.
     held: Vec<Held>,
-    /// The index of the oldest slot, where there is one.
+    /// How many slots have room.
+    capacity: u32,
+    /// The last position: the bits of a number that make its position.
+    mask: u32,
+    /// The position of the oldest slot, where there is one.
     first: u32,
     /// How many slots the window holds.
     count: u32,
@@ -24,17 +30,17 @@ pub struct Window {
 impl Model for Window {
     ghost use Rattle.std.specs.Prelude.{vec_len};
     ghost use Rattle.reorder_buffer.specs.Held.{slots_in};
-    ghost use Rattle.reorder_buffer.specs.Window.{Contents, IsRing, ring_slots};
+    ghost use Rattle.reorder_buffer.specs.Window.{Contents, IsWindow, ring_slots};
 
     ghost Value = { Contents };
 
     ghost view = { λ w. record {
-      capacity = vec_len w.held;
+      capacity = w.capacity;
       slots = ring_slots (slots_in w.held.items) w.first w.count;
     } };
 
     ghost invariant = { λ w.
-        IsRing (vec_len w.held) w.first w.count
+        IsWindow w.held.items (vec_len w.held) w.capacity w.mask w.first w.count
         (ring_slots (slots_in w.held.items) w.first w.count) };
 }
 
@@ -52,9 +58,14 @@ impl Window {
     pub fn new(alloc: Global, capacity: u32) -> Result<Window, NoMemory>
         ensures opening { IfOk result (λ w. w ≡ record { capacity = capacity; slots = [] }) }
     {
-        match vec![in alloc; Held::free(); capacity as usize] {
+        let Some(room) = capacity.checked_next_power_of_two() else {
+            return Err(NoMemory);
+        };
+        match vec![in alloc; Held::free(); room as usize] {
             Ok(held) => Ok(Window {
                 held,
+                capacity,
+                mask: room - 1,
                 first: 0,
                 count: 0,
             }),
@@ -73,19 +84,12 @@ impl Window {
         self.count
     }
 
-    /// How many slots have room.
-    fn capacity(&self) -> u32
-        ensures capacity { result ≡ self.now.capacity }
-    {
-        self.held.len() as u32
-    }
-
     /// Whether there is no room for a further slot.
     pub fn is_full(&self) -> bool
         ensures full { IsTrue result ↔ (length self.now.slots ≡ self.now.capacity) }
         ensures within { length self.now.slots ≤ self.now.capacity }
     {
-        self.count == self.capacity()
+        self.count == self.capacity
     }
 
     /// Adds the slot of an instruction that waits behind the others and gives its index, which no
@@ -103,17 +107,29 @@ impl Window {
         ensures free { All (λ held. index_of self.old.capacity held.number ≢ result)
             self.old.slots }
     {
-        let capacity = self.capacity();
-        let first = if self.count == 0 {
-            index_in(capacity, entry.number)
-        } else {
-            self.first
-        };
-        let index = index_behind(capacity, first, self.count);
-        self.held[index as usize].put(entry, predicted, fetched);
-        self.first = first;
+        let index = self.next_index(entry.number);
+        let position = position_in(entry.number, self.mask);
+        if self.count == 0 {
+            self.first = position;
+        }
+        self.held[position as usize].put(entry, predicted, index, fetched);
         self.count += 1;
         index
+    }
+
+    /// The index of the slot that comes next, whose number is this one.
+    #[inline(always)]
+    fn next_index(&self, number: u64) -> u32
+        requires room { length self.now.slots < self.now.capacity }
+        requires next { IfSome (youngest self.now.slots) (λ last. number ≡ last.number + 1) }
+        ensures index { result ≡ index_of self.now.capacity number }
+        ensures below { result < self.now.capacity }
+    {
+        if self.count == 0 {
+            return index_in(self.capacity, number);
+        }
+        let (last, _) = self.at(self.count - 1);
+        index_behind(self.capacity, last)
     }
 
     /// The index and the slot at a place, counted from the oldest at 0.
@@ -124,8 +140,9 @@ impl Window {
         ensures index { result.0 ≡ index_of self.now.capacity result.1.number }
         ensures below { result.0 < self.now.capacity }
     {
-        let index = index_behind(self.capacity(), self.first, place);
-        (index, self.held[index as usize].slot())
+        let position = position_behind(self.first, place, self.mask);
+        let held = &self.held[position as usize];
+        (held.index, held.slot())
     }
 
     /// The slot at a place, counted from the oldest at 0.
@@ -144,8 +161,8 @@ impl Window {
             (λ s. self.new ≡ record self.old
             { slots = slice_set self.old.slots place (record s { state = state }) }) }
     {
-        let index = index_behind(self.capacity(), self.first, place);
-        self.held[index as usize].state = state;
+        let position = position_behind(self.first, place, self.mask);
+        self.held[position as usize].state = state;
     }
 
     /// The oldest slot; None where there is none.
@@ -166,7 +183,7 @@ impl Window {
         requires some { 0 < length self.old.slots }
         ensures popped { self.new ≡ record self.old { slots = drop 1 self.old.slots } }
     {
-        self.first = index_behind(self.capacity(), self.first, 1);
+        self.first = position_behind(self.first, 1, self.mask);
         self.count -= 1;
     }
 
@@ -206,17 +223,35 @@ fn index_in(capacity: u32, number: u64) -> u32
     (number % u64::from(capacity)) as u32
 }
 
-/// The index so many places behind one, in a window of this capacity.
-fn index_behind(capacity: u32, index: u32, places: u32) -> u32
+/// The index behind one, in a window of this capacity.
+#[inline(always)]
+fn index_behind(capacity: u32, index: u32) -> u32
     requires index { index < capacity }
-    requires places { places ≤ capacity }
-    ensures behind { result ≡ index_of capacity (index + places) }
+    ensures behind { result ≡ index_of capacity (index + 1) }
     ensures below { result < capacity }
 {
-    let to_end = capacity - index;
-    if places < to_end {
-        index + places
-    } else {
-        places - to_end
-    }
+    if index + 1 == capacity { 0 } else { index + 1 }
+}
+
+/// The position of the slot of an instruction of this number, where `mask` is the last position.
+#[tactic(auto, using(crate::proofs::Positions::masked_position))]
+#[inline(always)]
+fn position_in(number: u64, mask: u32) -> u32
+    requires power { IsPowerOfTwo (mask + 1) }
+    ensures position { result ≡ position_of (mask + 1) number }
+    ensures below { result ≤ mask }
+{
+    (number & u64::from(mask)) as u32
+}
+
+/// The position so many places behind one, where `mask` is the last position.
+#[tactic(auto, using(crate::proofs::Positions::masked_position))]
+#[inline(always)]
+fn position_behind(position: u32, places: u32, mask: u32) -> u32
+    requires power { IsPowerOfTwo (mask + 1) }
+    requires fits { position + places < 2 ^ 32 }
+    ensures behind { result ≡ position_of (mask + 1) (position + places) }
+    ensures below { result ≤ mask }
+{
+    (position + places) & mask
 }

@@ -8,6 +8,6 @@ pub returns-in-Some-clause-count : goal.returns-in-Some-clause-count
 returns-in-Some-clause-count c =
     let window = c.args.self.now in
     let same : slots_of c.self.inside ≡ window.slots = ap (λ (w : Contents). w.slots) c.self.view_is in
-    let below = below_is_min c.args.number c.in-Some.oldest window.slots (sym c.in-Some.ensures.oldest) (rw same at c.self.invariant.consecutive) in
-    let held = rw same at c.self.invariant.held in
+    let below = below_is_min c.args.number c.in-Some.oldest window.slots (sym c.in-Some.ensures.oldest) (rw same at c.self.invariant.ring.consecutive) in
+    let held = rw same at c.self.invariant.ring.held in
     grind (arith, below, held)

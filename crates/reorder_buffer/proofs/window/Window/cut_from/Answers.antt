@@ -17,5 +17,5 @@ returns-clause-kept c =
     let below : ring_slots (items_of window) window.first kept ≡ below_number c.args.number (slots_of window) =
     ring-cut (items_of window) window.first window.count kept less
     ∙ ap (λ k. take k (slots_of window)) (c.count_below-kept.ensures.count ∙ ap (λ (w : Contents). length (below_number c.args.number w.slots)) (sym c.self.view_is))
-    ∙ take_below c.args.number (slots_of window) c.self.invariant.consecutive in
+    ∙ take_below c.args.number (slots_of window) c.self.invariant.ring.consecutive in
     rw (← c.self.view_is, below) (search rules)
