@@ -2,6 +2,7 @@
 use Rattle.std.proofs.Common.{◌≡◌, ℕ, ◌-◌, ◌*◌, ◌%◌, ◌^◌, min, ◌<◌, ◌==◌, ◌&&◌, ◌||◌, not, Bool, true, false, w64, inl, inr, ◌⊎◌, arith, ap, refl, sym, ◌∙◌, eq-eqb}
 use Rattle.std.specs.Prelude.{bit_or, bit_and}
 use Rattle.std.specs.Int.{bit_at}
+use Rattle.std.proofs.lemmas.Nat.{one_shl}
 use Rattle.std.proofs.lemmas.Bool.{cases_eq, cases_lt, ne_eqb}
 use Rattle.std.proofs.lemmas.Nat.Bits.{bit_at_set_same, bit_at_set_other, bit_at_clear_same, bit_at_clear_other, bit_at_and, bit_at_not, bit_at_above, bit_at-lt}
 
@@ -25,16 +26,20 @@ and_not_false false c is = refl
 abbrev pub is_one : ℕ → ℕ → Bool
 is_one word i = bit_at word i == 1
 
-pub bit_with : (word bit i : ℕ) → bit < 64 → is_one (bit_or word (1 * 2 ^ bit % 18446744073709551616)) i ≡ (is_one word i || (i == bit))
-bit_with word bit i within = elim (cases_eq i bit) [
+-- the word of a bit alone stands as a shift leaves it, or as a power of two
+bit_with_shifted : (word bit i : ℕ) → bit < 64 → is_one (bit_or word (1 * 2 ^ bit % 18446744073709551616)) i ≡ (is_one word i || (i == bit))
+bit_with_shifted word bit i within = elim (cases_eq i bit) [
   | inl same ↦
       ap (is_one (bit_or word (1 * 2 ^ bit % 18446744073709551616))) same ∙ ap (λ n. n == 1) (bit_at_set_same w64 word bit within)
       ∙ or_true (is_one word i) (i == bit) (eq-eqb i bit same)
   | inr differ ↦ ap (λ n. n == 1) (bit_at_set_other w64 word bit within i differ) ∙ false_or (is_one word i) (i == bit) (ne_eqb i bit differ)
 ]
 
-pub bit_without : (word bit i : ℕ) → word < 2 ^ 64 → bit < 64 → is_one (bit_and word (18446744073709551615 - 1 * 2 ^ bit % 18446744073709551616)) i ≡ (is_one word i && not (i == bit))
-bit_without word bit i fits within = elim (cases_eq i bit) [
+pub bit_with : (word bit i : ℕ) → bit < 64 → is_one (bit_or word (2 ^ bit)) i ≡ (is_one word i || (i == bit))
+bit_with word bit i within = ap (λ n. is_one (bit_or word n) i) (sym (one_shl bit 64 within)) ∙ bit_with_shifted word bit i within
+
+pub bit_without_shifted : (word bit i : ℕ) → word < 2 ^ 64 → bit < 64 → is_one (bit_and word (18446744073709551615 - 1 * 2 ^ bit % 18446744073709551616)) i ≡ (is_one word i && not (i == bit))
+bit_without_shifted word bit i fits within = elim (cases_eq i bit) [
   | inl same ↦
       ap (is_one (bit_and word (18446744073709551615 - 1 * 2 ^ bit % 18446744073709551616))) same ∙ ap (λ n. n == 1) (bit_at_clear_same w64 word bit within)
       ∙ and_not_true (is_one word i) (i == bit) (eq-eqb i bit same)
@@ -48,6 +53,10 @@ bit_without word bit i fits within = elim (cases_eq i bit) [
       ] in
       ap (λ n. n == 1) unchanged ∙ and_not_false (is_one word i) (i == bit) (ne_eqb i bit differ)
 ]
+
+pub bit_without : (word bit i : ℕ) → word < 2 ^ 64 → bit < 64 → is_one (bit_and word (18446744073709551615 - 2 ^ bit)) i ≡ (is_one word i && not (i == bit))
+bit_without word bit i fits within =
+    ap (λ n. is_one (bit_and word (18446744073709551615 - n)) i) (sym (one_shl bit 64 within)) ∙ bit_without_shifted word bit i fits within
 
 below_two : (a : ℕ) → a < 2 → (a ≡ 0) ⊎ (a ≡ 1)
 below_two a within = grind arith

@@ -13,11 +13,11 @@ use Rattle.reservation_stations.specs.TurnSet.{holds}
 use Rattle.reservation_stations.specs.Readiness.{Window, is_waiting, is_issued, is_done, mark_of, executes, executes_at}
 use Rattle.reservation_stations.specs.AreTables.{AreTables, row_at, stations_at, station_in}
 use Rattle.reservation_stations.specs.Places.{place_of, AreTurned}
-use Rattle.reservation_stations.specs.AreSets.{AreSets, AreSetsOf, Missing, nothing, missing, missing_at, waits, waits_at, awaits, fed, put}
+use Rattle.reservation_stations.specs.AreSets.{AreSets, AreSetsOf, Missing, nothing, missing, missing_at, waits, waits_at, fed, put}
 use Rattle.reservation_stations.proofs.Marking.{Marks}
 use Rattle.reservation_stations.proofs.Kept.{seen, held_with, each_changed, is, Marks-written}
 use Rattle.reservation_stations.proofs.Places.{marked_in}
-use Rattle.reservation_stations.proofs.Missing.{put_same}
+use Rattle.reservation_stations.proofs.Missing.{put_same, fed-same}
 use Rattle.reservation_stations.proofs.Standing.{AreSets-as, entered_at, nothing_yet, kept_at, retired_at, own_turn}
 use Rattle.reservation_stations.proofs.Feeding.{losing, missing_marked, marked_at, missing_retired, none_awaits}
 
@@ -108,6 +108,19 @@ AreSets-kept stations retired kept live those are =
     (λ t within. ap (λ b. if b then missing_at stations (place_of retired t) else nothing) (those t within)
     ∙ sym (kept_at missing nothing (λ older. refl) stations kept (place_of retired t)))
 
+-- one that is done neither waits nor executes
+pub waits_not : (mark : Mark) → is_done mark ≡ true → is_waiting mark ≡ false
+waits_not Waiting done = absurd cc
+waits_not Issued done = refl
+waits_not Done done = refl
+waits_not Faulted done = refl
+
+executes_not : (mark : Mark) → is_done mark ≡ true → is_issued mark ≡ false
+executes_not Waiting done = refl
+executes_not Issued done = absurd cc
+executes_not Done done = refl
+executes_not Faulted done = refl
+
 -- the oldest leaves
 module _ {capacity : ℕ} (index : ℕ) (rest : List ℕ) (rows : List Row) {producers : List (Option ℕ)} {waiting : ℕ} (keeps : AreTables capacity (index ∷ rest) rows producers waiting) (retired : ℕ) (small : retired < 256) (few : length rest < 256) where
   pub AreSets-retired : {sets : Sets} →
@@ -122,25 +135,13 @@ module _ {capacity : ℕ} (index : ℕ) (rest : List ℕ) (rows : List Row) {pro
       (λ t within. retired_at executes false refl retired small (station_in index (row_at rows index)) (stations_at (row_at rows) rest) short t within)
       (λ t within. missing_retired index rest rows keeps retired small few t within)
 
-  -- where it is done
-  waits_not : (mark : Mark) → is_done mark ≡ true → is_waiting mark ≡ false
-  waits_not Waiting done = absurd cc
-  waits_not Issued done = refl
-  waits_not Done done = refl
-  waits_not Faulted done = refl
-
-  executes_not : (mark : Mark) → is_done mark ≡ true → is_issued mark ≡ false
-  executes_not Waiting done = refl
-  executes_not Issued done = absurd cc
-  executes_not Done done = refl
-  executes_not Faulted done = refl
-
-  pub nothing_left : is_done (row_at rows index).mark ≡ true →
-      (waits_at (stations_at (row_at rows) (index ∷ rest)) (place_of retired retired) ≡ false)
-      × (executes_at (stations_at (row_at rows) (index ∷ rest)) (place_of retired retired) ≡ false)
-      × ((other : ℕ) → other < 256 → awaits index (missing_at (stations_at (row_at rows) (index ∷ rest)) (place_of retired other)) ≡ false)
-  nothing_left done = (
-    ap (waits_at (stations_at (row_at rows) (index ∷ rest))) (own_turn retired small) ∙ waits_not (row_at rows index).mark done,
-    ap (executes_at (stations_at (row_at rows) (index ∷ rest))) (own_turn retired small) ∙ executes_not (row_at rows index).mark done,
-    λ other within. none_awaits index rows (index ∷ rest) done (place_of retired other),
-  )
+  -- where it is done, the sets are already those of the rest
+  pub AreSets-untold : is_done (row_at rows index).mark ≡ true → {sets : Sets} →
+      AreSetsOf capacity retired (stations_at (row_at rows) (index ∷ rest)) sets → AreSetsOf capacity ((retired + 1) % 256) (stations_at (row_at rows) rest) sets
+  AreSets-untold done are =
+      let stations = stations_at (row_at rows) (index ∷ rest) in
+      AreSets-retired
+      (AreSets-as are
+      (λ t within. put_same retired false (λ u. waits_at stations (place_of retired u)) t (ap (waits_at stations) (own_turn retired small) ∙ waits_not (row_at rows index).mark done))
+      (λ t within. put_same retired false (λ u. executes_at stations (place_of retired u)) t (ap (executes_at stations) (own_turn retired small) ∙ executes_not (row_at rows index).mark done))
+      (λ t within. sym (fed-same index (missing_at stations (place_of retired t)) (none_awaits index rows (index ∷ rest) done (place_of retired t)))))

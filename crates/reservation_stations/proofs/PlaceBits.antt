@@ -4,7 +4,7 @@ use Rattle.std.specs.Prelude.{bit_and, nat_le}
 use Rattle.std.specs.Int.{bit_at, trailing_zeros}
 use Rattle.std.proofs.lemmas.Bool.{cases_eq, cases_lt, ne_eqb, le-leb, lt-leb, and_from, and_right}
 use Rattle.std.proofs.lemmas.Nat.Bits.{bit_at-trailing_zeros, bit_at_above}
-use Rattle.reservation_stations.proofs.Bits.{is_one, bit_without}
+use Rattle.reservation_stations.proofs.Bits.{is_one, bit_without_shifted}
 use Rattle.reservation_stations.proofs.Lowest.{lowest_is, none_behind}
 
 -- whether a place is there
@@ -65,7 +65,7 @@ place_without from word bit k fits within = elim (cases_lt k from) [
       ap (λ b. b && is_one (bit_and word (18446744073709551615 - 1 * 2 ^ bit % 18446744073709551616)) (k - from)) (lt-leb from k before)
       ∙ sym (ap (λ b. (b && is_one word (k - from)) && not (k == from + bit)) (lt-leb from k before))
   | inr behind ↦
-      ap (λ b. nat_le from k && b) (bit_without word bit (k - from) fits within ∙ ap (λ b. is_one word (k - from) && not b) (same_place from bit k behind))
+      ap (λ b. nat_le from k && b) (bit_without_shifted word bit (k - from) fits within ∙ ap (λ b. is_one word (k - from) && not b) (same_place from bit k behind))
       ∙ and_assoc_not (nat_le from k) (is_one word (k - from)) (not (k == from + bit))
 ]
 

@@ -1,13 +1,15 @@
 -- Four words as a set: one replaced, those of another set cleared, and 64 bits from one on.
-use Rattle.std.proofs.Common.{◌≡◌, ◌≢◌, ℕ, ◌+◌, ◌-◌, ◌*◌, ◌/◌, ◌%◌, ◌^◌, ◌<◌, ◌≤◌, ◌==◌, ◌&&◌, ◌||◌, not, Bool, true, false, List, length, get_or, inl, inr, ◌⊎◌, [], ◌∷◌, arith, eq-eqb, ap, refl, sym, ◌∙◌}
+use Rattle.std.proofs.Common.{◌≡◌, ◌≢◌, ℕ, ◌+◌, ◌-◌, ◌*◌, ◌/◌, ◌%◌, ◌^◌, ◌<◌, ◌≤◌, ◌==◌, ◌&&◌, ◌||◌, not, Bool, false, List, length, get_or, inl, inr, ◌⊎◌, [], ◌∷◌, arith, eq-eqb, ap, refl, sym, ◌∙◌}
 use Rattle.std.specs.Prelude.{slice_set, bit_or, bit_and}
-use Rattle.std.specs.Int.{bit_at, from_bool}
+use Rattle.std.specs.Int.{bit_at}
 use Rattle.std.specs.Int.Bits.{or_zero_r}
 use Rattle.std.proofs.lemmas.Bool.{cases_eq, cases_lt, ne_eqb}
 use Rattle.std.proofs.Math.Nat.{add-zero, mul_assoc}
 use Rattle.std.proofs.lemmas.List.{get_or-set_same, get_or-set_other, get_or_past}
 use Rattle.std.proofs.lemmas.Nat.{shr-shr, shr_split, pow-add, mul-mod_first, pow_pos}
 use Rattle.std.proofs.lemmas.Nat.Bits.{bit_at-zero, bit_at_or, bit_at_above, bit_at_cat_low, bit_at_cat_high}
+use Rattle.reservation_stations.specs.declared.turn_set.TurnBit.{TurnBit}
+use Rattle.reservation_stations.specs.TurnSet.{IsBitOf}
 use Rattle.reservation_stations.proofs.Bits.{false_or, and_not_false, is_one, bit_with, bit_without, bit_out, bit_both}
 
 -- whether a turn is in the set
@@ -35,35 +37,35 @@ same_turn turn other same = elim (cases_eq other turn) [
 other_turn : (turn other : ℕ) → other / 64 ≢ turn / 64 → (other == turn) ≡ false
 other_turn turn other apart = ne_eqb other turn (λ e. apart (ap (λ n. n / 64) e))
 
-no_bit : (word bit : ℕ) → bit_or word (0 * 2 ^ bit % 18446744073709551616) ≡ word
-no_bit word bit =
-    let none : 0 * 2 ^ bit % 18446744073709551616 ≡ 0 = omega arith in
-    ap (bit_or word) none ∙ or_zero_r word
+module _ (words : List ℕ) (turn : ℕ) (at : TurnBit) (is : IsBitOf turn at) (few : at.word < 4) (four : length words ≡ 4) where
+  within : turn < 256
+  within = omega (arith, is.word, few)
 
-module _ (words : List ℕ) (turn : ℕ) (within : turn < 256) (four : length words ≡ 4) where
-  pub is_set-with : (other : ℕ) →
-      is_set (slice_set words (turn / 64) (bit_or (get_or words (turn / 64) 0) (1 * 2 ^ (turn % 64) % 18446744073709551616))) other ≡ (is_set words other || (other == turn))
-  is_set-with = replaced words turn _ (λ other. is_set words other || (other == turn)) within four
+  pub is_set-with : (other : ℕ) → is_set (slice_set words at.word (bit_or (get_or words at.word 0) at.bit)) other ≡ (is_set words other || (other == turn))
+  is_set-with other = rw (is.word, is.bit)
+      (replaced words turn _ (λ other. is_set words other || (other == turn)) within four
       (λ other same. bit_with (get_or words (turn / 64) 0) (turn % 64) (other % 64) (omega arith)
       ∙ ap (λ k. is_one (get_or words k 0) (other % 64) || (other % 64 == turn % 64)) (sym same)
       ∙ ap (λ b. is_set words other || b) (same_turn turn other same))
       (λ other apart. false_or (is_set words other) (other == turn) (other_turn turn other apart))
+      other)
+
+  pub is_set-with_none : (other : ℕ) → is_set (slice_set words at.word (bit_or (get_or words at.word 0) 0)) other ≡ (is_set words other || false)
+  is_set-with_none other = rw is.word
+      (replaced words turn _ (λ other. is_set words other || false) within four
+      (λ other same. ap (λ n. is_one n (other % 64)) (or_zero_r (get_or words (turn / 64) 0)) ∙ ap (λ k. is_one (get_or words k 0) (other % 64)) (sym same) ∙ false_or (is_set words other) false refl)
+      (λ other apart. false_or (is_set words other) false refl)
+      other)
 
   pub is_set-without : get_or words (turn / 64) 0 < 2 ^ 64 → (other : ℕ) →
-      is_set (slice_set words (turn / 64) (bit_and (get_or words (turn / 64) 0) (18446744073709551615 - 1 * 2 ^ (turn % 64) % 18446744073709551616))) other ≡ (is_set words other && not (other == turn))
-  is_set-without fits = replaced words turn _ (λ other. is_set words other && not (other == turn)) within four
+      is_set (slice_set words at.word (bit_and (get_or words at.word 0) (18446744073709551615 - at.bit))) other ≡ (is_set words other && not (other == turn))
+  is_set-without fits other = rw (is.word, is.bit)
+      (replaced words turn _ (λ other. is_set words other && not (other == turn)) within four
       (λ other same. bit_without (get_or words (turn / 64) 0) (turn % 64) (other % 64) fits (omega arith)
       ∙ ap (λ k. is_one (get_or words k 0) (other % 64) && not (other % 64 == turn % 64)) (sym same)
       ∙ ap (λ b. is_set words other && not b) (same_turn turn other same))
       (λ other apart. and_not_false (is_set words other) (other == turn) (other_turn turn other apart))
-
-  pub is_set-with_if : (there : Bool) (other : ℕ) →
-      is_set (slice_set words (turn / 64) (bit_or (get_or words (turn / 64) 0) (from_bool there * 2 ^ (turn % 64) % 18446744073709551616))) other ≡ (is_set words other || (there && (other == turn)))
-  is_set-with_if true other = is_set-with other
-  is_set-with_if false other = replaced words turn _ (λ other. is_set words other || false) within four
-      (λ other same. ap (λ n. is_one n (other % 64)) (no_bit (get_or words (turn / 64) 0) (turn % 64)) ∙ ap (λ k. is_one (get_or words k 0) (other % 64)) (sym same) ∙ false_or (is_set words other) false refl)
-      (λ other apart. false_or (is_set words other) false refl)
-      other
+      other)
 
 below_four : (k : ℕ) → k < 4 → (k ≡ 0) ⊎ ((k ≡ 1) ⊎ ((k ≡ 2) ⊎ (k ≡ 3)))
 below_four k within = grind arith

@@ -3,14 +3,12 @@ ghost use Rattle.std.specs.Prelude.{◌≡◌, ℕ, ◌+◌, ◌%◌, ◌<◌, �
 ghost use Rattle.std.specs.Prelude.{◌||◌, is_some, vec_len, IfOk, if◌then◌else◌};
 ghost use Rattle.std.specs.Option.{ForSome};
 ghost use Rattle.std.specs.Int.{bit_at};
-ghost use Rattle.reservation_stations.specs.Readiness.{is_done};
-ghost use Rattle.reservation_stations.specs.TurnSet.{holds};
+ghost use Rattle.reservation_stations.specs.TurnSet.{holds, IsBitOf};
 ghost use Rattle.reservation_stations.specs.Noting.{Notes, Keeps};
 ghost use Rattle.reservation_stations.specs.AreSets.{AreSets, Missing, nothing, awaits, are_two};
 ghost use Rattle.reservation_stations.specs.AreSets.{fed, put};
 
-use crate::station::Mark;
-use crate::turn_set::TurnSet;
+use crate::turn_set::{TurnBit, TurnSet, bit_of};
 use fsim_base::NoMemory;
 use std::alloc::Global;
 
@@ -57,11 +55,12 @@ impl Sets {
             → AreSets capacity (put turn true idles) executes
             (put turn (record { first = first; second = second }) missed) self.new }
     {
-        note(&mut self.dependents, first, turn);
-        note(&mut self.dependents, second, turn);
-        self.idle.insert(turn);
-        self.short.insert_if(turn, is_either(first, second));
-        self.both.insert_if(turn, are_two(first, second));
+        let at = bit_of(turn);
+        note(&mut self.dependents, first, at);
+        note(&mut self.dependents, second, at);
+        self.idle.insert(at);
+        self.short.insert_if(at, is_either(first, second));
+        self.both.insert_if(at, are_two(first, second));
     }
 
     /// The station of a turn waits no longer, and executes.
@@ -71,8 +70,9 @@ impl Sets {
             → AreSets capacity idles executes missed self.old
             → AreSets capacity (put turn false idles) (put turn true executes) missed self.new }
     {
-        self.idle.remove(turn);
-        self.executing.insert(turn);
+        let at = bit_of(turn);
+        self.idle.remove(at);
+        self.executing.insert(at);
     }
 
     /// The station of a turn executes no longer.
@@ -82,7 +82,7 @@ impl Sets {
             → AreSets capacity idles executes missed self.old
             → AreSets capacity idles (put turn false executes) missed self.new }
     {
-        self.executing.remove(turn);
+        self.executing.remove(bit_of(turn));
     }
 
     /// No station awaits the value of an index any longer.
@@ -102,23 +102,19 @@ impl Sets {
         self.dependents[index as usize] = TurnSet::none();
     }
 
-    /// The station of an index, which has this turn and this mark, leaves as the oldest. One that
-    /// is done is in no set, and none awaits its value.
+    /// The station of an index, which has this turn, leaves as the oldest.
     #[inline(always)]
-    pub fn retire(&mut self, index: u32, turn: u8, mark: Mark)
+    pub fn retire(&mut self, index: u32, turn: u8)
         requires inside { index < vec_len self.old.dependents }
         ensures retired { (capacity : ℕ) (idles executes : ℕ → Bool) (missed : ℕ → Missing)
             → AreSets capacity idles executes missed self.old
-            → (is_done mark ≡ true → (idles turn ≡ false) × (executes turn ≡ false)
-            × ((other : ℕ) → other < 256 → awaits index (missed other) ≡ false))
             → AreSets capacity (put turn false idles) (put turn false executes)
             (λ other. fed index (missed other)) self.new }
     {
-        if !mark.is_done() {
-            self.tell(index);
-            self.idle.remove(turn);
-            self.executing.remove(turn);
-        }
+        self.tell(index);
+        let at = bit_of(turn);
+        self.idle.remove(at);
+        self.executing.remove(at);
     }
 
     /// The stations of these turns stay, and no others.
@@ -173,14 +169,16 @@ fn are_two(first: Option<u32>, second: Option<u32>) -> bool
     first.is_some() && second.is_some() && first != second
 }
 
-/// Notes a turn among those that await the value of an index, if one is given.
+/// Notes the turn of a bit among those that await the value of an index, if one is given.
 #[inline(always)]
-fn note(dependents: &mut Vec<TurnSet>, on: Option<u32>, turn: u8)
+fn note(dependents: &mut Vec<TurnSet>, on: Option<u32>, at: TurnBit)
     requires inside { ForSome on (λ index. index < vec_len dependents.old) }
-    ensures noted { Notes on turn dependents.old.items dependents.new.items }
+    requires within { at.word < 4 }
+    ensures noted { (turn : ℕ) → IsBitOf turn at
+        → Notes on turn dependents.old.items dependents.new.items }
 {
     if let Some(on) = on {
-        dependents[on as usize].insert(turn);
+        dependents[on as usize].insert(at);
     }
 }
 

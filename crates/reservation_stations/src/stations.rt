@@ -183,9 +183,12 @@ impl Stations {
             mark,
             ..
         } = self.rows[index as usize];
-        self.sets.retire(index, self.retired, mark);
+        // One that is done is in none of the sets, and none awaits its value.
+        if !mark.is_done() {
+            self.sets.retire(index, self.retired);
+            self.waiting = uncounted(self.waiting, mark);
+        }
         drop_producer(&mut self.producers, destination, index);
-        self.waiting = uncounted(self.waiting, mark);
         self.count -= 1;
         self.retired = self.retired.wrapping_add(1);
     }

@@ -2,7 +2,7 @@
 ghost use Rattle.std.specs.Prelude.{◌≡◌, ◌+◌, ◌-◌, ◌%◌, ◌<◌, ◌≤◌, ◌==◌, ◌&&◌, ◌||◌, not, ℕ};
 ghost use Rattle.std.specs.Prelude.{false, nat_lt};
 ghost use Rattle.std.specs.Int.{bit_at};
-ghost use Rattle.reservation_stations.specs.TurnSet.{holds};
+ghost use Rattle.reservation_stations.specs.TurnSet.{holds, IsBitOf};
 ghost use Rattle.reservation_stations.specs.Places.{place_of};
 
 /// A set of turns.
@@ -10,6 +10,25 @@ ghost use Rattle.reservation_stations.specs.Places.{place_of};
 pub struct TurnSet {
     /// Bit `turn % 64` of word `turn / 64` tells whether a turn is in the set.
     words: [u64; 4],
+}
+
+/// The word of a turn set that a turn stands in, and its bit there.
+#[derive(Clone, Copy, Debug, PartialEq, Eq)]
+pub struct TurnBit {
+    word: u8,
+    bit: u64,
+}
+
+/// The bit of a turn. To work it out once serves several sets.
+#[inline(always)]
+pub fn bit_of(turn: u8) -> TurnBit
+    ensures within { result.word < 4 }
+    ensures bit { IsBitOf turn result }
+{
+    TurnBit {
+        word: turn / 64,
+        bit: 1 << (turn % 64),
+    }
 }
 
 impl TurnSet {
@@ -28,33 +47,39 @@ impl TurnSet {
     {
         let mut set = TurnSet::none();
         for place in 0..count {
-            set.insert(from.wrapping_add(place as u8));
+            set.insert(bit_of(from.wrapping_add(place as u8)));
         }
         set
     }
 
-    /// Puts a turn into the set.
-    pub fn insert(&mut self, turn: u8)
-        ensures inserted { (other : ℕ)
+    /// Puts the turn of a bit into the set.
+    #[inline(always)]
+    pub fn insert(&mut self, at: TurnBit)
+        requires within { at.word < 4 }
+        ensures inserted { (turn : ℕ) → IsBitOf turn at → (other : ℕ)
             → holds self.new other ≡ (holds self.old other || (other == turn)) }
     {
-        self.words[(turn / 64) as usize] |= 1 << (turn % 64);
+        self.words[at.word as usize] |= at.bit;
     }
 
-    /// Puts a turn into the set, if it is to be there.
-    pub fn insert_if(&mut self, turn: u8, there: bool)
-        ensures inserted { (other : ℕ)
+    /// Puts the turn of a bit into the set, if it is to be there.
+    #[inline(always)]
+    pub fn insert_if(&mut self, at: TurnBit, there: bool)
+        requires within { at.word < 4 }
+        ensures inserted { (turn : ℕ) → IsBitOf turn at → (other : ℕ)
             → holds self.new other ≡ (holds self.old other || (there && (other == turn))) }
     {
-        self.words[(turn / 64) as usize] |= u64::from(there) << (turn % 64);
+        self.words[at.word as usize] |= if there { at.bit } else { 0 };
     }
 
-    /// Takes a turn out of the set.
-    pub fn remove(&mut self, turn: u8)
-        ensures removed { (other : ℕ)
+    /// Takes the turn of a bit out of the set.
+    #[inline(always)]
+    pub fn remove(&mut self, at: TurnBit)
+        requires within { at.word < 4 }
+        ensures removed { (turn : ℕ) → IsBitOf turn at → (other : ℕ)
             → holds self.new other ≡ (holds self.old other && not (other == turn)) }
     {
-        self.words[(turn / 64) as usize] &= !(1 << (turn % 64));
+        self.words[at.word as usize] &= !at.bit;
     }
 
     /// Takes the turns of another set out of it.

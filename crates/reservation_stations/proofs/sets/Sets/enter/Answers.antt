@@ -12,16 +12,17 @@ returns c = record {
       let turn = c.args.turn in
       let old = c.args.self.now in
       let value : Missing = record { first = c.args.first; second = c.args.second } in
-      let first = c.note.ensures.noted in
-      let second = c.note-2.ensures.noted in
+      let bit = c.bit_of-at.ensures.bit in
+      let first = c.note.ensures.noted turn bit in
+      let second = c.note-2.ensures.noted turn bit in
       record {
         every_index = second.every_index ∙ first.every_index ∙ sets.every_index;
-        idle = λ other within. put_in turn other w (holds old.idle other) (holds c.insert.new.self other) (c.insert.ensures.inserted other) (sets.idle other within);
+        idle = λ other within. put_in turn other w (holds old.idle other) (holds c.insert.new.self other) (c.insert.ensures.inserted turn bit other) (sets.idle other within);
         executing = sets.executing;
         short = λ other within. entered_by turn misses_one value m other (holds old.short other) (holds c.insert_if.new.self other) refl free
-            (c.insert_if.ensures.inserted other ∙ ap (λ b. holds old.short other || (b && (other == turn))) c.is_either.ensures.either) (sets.short other within);
+            (c.insert_if.ensures.inserted turn bit other ∙ ap (λ b. holds old.short other || (b && (other == turn))) c.is_either.ensures.either) (sets.short other within);
         both = λ other within. entered_by turn misses_both value m other (holds old.both other) (holds c.insert_if-2.new.self other) refl free
-            (c.insert_if-2.ensures.inserted other ∙ ap (λ b. holds old.both other || (b && (other == turn))) c.are_two.ensures.two) (sets.both other within);
+            (c.insert_if-2.ensures.inserted turn bit other ∙ ap (λ b. holds old.both other || (b && (other == turn))) c.are_two.ensures.two) (sets.both other within);
         dependents = λ other k within below. entered_by turn (awaits k) value m other (holds (dependents_of old.dependents.items k) other)
             (holds (dependents_of c.note-2.new.dependents.items k) other) refl free
             (noted_twice (holds (dependents_of old.dependents.items k) other) (holds (dependents_of c.note.new.dependents.items k) other)
