@@ -4,7 +4,6 @@ use Rattle.mono_model.specs.declared.setup.Setup.{Setup}
 use Rattle.mono_model.specs.Alone.{alone, alone_step}
 use Rattle.mono_model.specs.Cycle.{cycled, mono}
 use Rattle.mono_model.specs.Demand.{step, place}
-use Rattle.mono_model.specs.Split.{round}
 
 pub alone-suc : (s : Setup) (n : ℕ) → alone s (suc n) ≡ alone_step s (alone s n)
 unfolding alone

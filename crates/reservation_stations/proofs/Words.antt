@@ -1,8 +1,7 @@
 -- Four words as a set: one replaced, those of another set cleared, and 64 bits from one on.
-use Rattle.std.proofs.Common.{◌≡◌, ◌≢◌, ℕ, ◌+◌, ◌-◌, ◌*◌, ◌/◌, ◌%◌, ◌^◌, ◌<◌, ◌≤◌, ◌==◌, ◌&&◌, ◌||◌, not, Bool, false, List, length, get_or, inl, inr, ◌⊎◌, [], ◌∷◌, arith, eq-eqb, ap, refl, sym, ◌∙◌}
+use Rattle.std.proofs.Common.{◌≡◌, ◌≢◌, ℕ, ◌+◌, ◌-◌, ◌*◌, ◌/◌, ◌%◌, ◌^◌, ◌<◌, ◌≤◌, ◌==◌, ◌&&◌, ◌||◌, not, Bool, false, List, length, get_or, inl, inr, ◌⊎◌, [], ◌∷◌, arith, eq-eqb, ap, sym, ◌∙◌}
 use Rattle.std.specs.Prelude.{slice_set, bit_or, bit_and}
 use Rattle.std.specs.Int.{bit_at}
-use Rattle.std.specs.Int.Bits.{or_zero_r}
 use Rattle.std.proofs.lemmas.Bool.{cases_eq, cases_lt, ne_eqb}
 use Rattle.std.proofs.Math.Nat.{add-zero, mul_assoc}
 use Rattle.std.proofs.lemmas.List.{get_or-set_same, get_or-set_other, get_or_past}
@@ -48,13 +47,6 @@ module _ (words : List ℕ) (turn : ℕ) (at : TurnBit) (is : IsBitOf turn at) (
       ∙ ap (λ k. is_one (get_or words k 0) (other % 64) || (other % 64 == turn % 64)) (sym same)
       ∙ ap (λ b. is_set words other || b) (same_turn turn other same))
       (λ other apart. false_or (is_set words other) (other == turn) (other_turn turn other apart))
-      other)
-
-  pub is_set-with_none : (other : ℕ) → is_set (slice_set words at.word (bit_or (get_or words at.word 0) 0)) other ≡ (is_set words other || false)
-  is_set-with_none other = rw is.word
-      (replaced words turn _ (λ other. is_set words other || false) within four
-      (λ other same. ap (λ n. is_one n (other % 64)) (or_zero_r (get_or words (turn / 64) 0)) ∙ ap (λ k. is_one (get_or words k 0) (other % 64)) (sym same) ∙ false_or (is_set words other) false refl)
-      (λ other apart. false_or (is_set words other) false refl)
       other)
 
   pub is_set-without : get_or words (turn / 64) 0 < 2 ^ 64 → (other : ℕ) →

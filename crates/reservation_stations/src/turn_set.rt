@@ -69,7 +69,9 @@ impl TurnSet {
         ensures inserted { (turn : ℕ) → IsBitOf turn at → (other : ℕ)
             → holds self.new other ≡ (holds self.old other || (there && (other == turn))) }
     {
-        self.words[at.word as usize] |= if there { at.bit } else { 0 };
+        if there {
+            self.insert(at);
+        }
     }
 
     /// Takes the turn of a bit out of the set.

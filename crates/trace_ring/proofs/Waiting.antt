@@ -1,5 +1,5 @@
 -- The entries that wait at a timing end, and those that it has handed out before them.
-use Rattle.std.proofs.Common.{◌≡◌, Option, Some, None, IfSome, IfNone, ℕ, ◌-◌, ◌≤◌, List, [], ◌∷◌, ◌++◌, length, take, drop, sym, ap, subst, ◌∙◌, arith, length-append, length-drop, length-take-le, append_assoc, append-nil, take_at}
+use Rattle.std.proofs.Common.{◌≡◌, Option, Some, None, IfSome, IfNone, ℕ, ◌≤◌, List, [], ◌∷◌, ◌++◌, length, take, drop, sym, ap, subst, ◌∙◌, arith, length-append, length-drop, length-take-le, append_assoc, append-nil, take_at}
 use Rattle.std.proofs.lemmas.List.{drop_all}
 use Rattle.std.proofs.lemmas.Option.{IfSome_then}
 use Rattle.rtrb.specs.Fifo.{Allowed}
