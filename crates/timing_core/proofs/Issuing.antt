@@ -163,6 +163,10 @@ none_begins s t core k short =
     let P : Walked → Type 0 = λ walked. CoreStandsFor s (record t { slots = walked.slots; caches = walked.caches }) core in
     subst P (sym w) start.kept
 
+-- nor where there is none
+pub none_there : (s : Setup) (t : Timing) (core : TimingCore) → CoreStandsFor s t core → length core.flight.slots ≡ 0 → CoreStandsFor s (issued s t) core
+none_there s t core k none = walks_to_end s t core 0 none_used (walks_from_start s t (busy_divisions t.slots) core none_used k refl) (omega arith)
+
 -- where one can start there is a slot
 pub starts_there : (slots : List Slot) (place : ℕ) → may_start_at slots place ≡ true → (slot : Slot) × (place < length slots) × (slice_get slots place ≡ Some slot)
 starts_there slots place can = elim (slice_get_cases slots place).1 [

@@ -45,13 +45,12 @@ fn finish_due(flight: &mut InFlight, cycle: u64) -> Option<Redirect>
     ensures first { IfSome result (λ r. completes cycle flight.old.slots ≡ record
         { slots = take r.kept flight.new.slots; redirect = Some r.addr }) }
 {
-    let len = flight.len();
+    if flight.len() == 0 {
+        return None;
+    }
     let mut executes = flight.snapshot(Sought::Executing);
     let mut from = 0;
-    while from < len {
-        let Some(place) = flight.next(Sought::Executing, &mut executes, from) else {
-            return None;
-        };
+    while let Some(place) = flight.next(Sought::Executing, &mut executes, from) {
         let slot = flight.at(place);
         if is_finishing(slot.state, cycle) {
             let wrong = is_mispredicted(&slot);

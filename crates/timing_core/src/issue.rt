@@ -10,7 +10,7 @@ use reorder_buffer::{Slot, SlotState};
 use rollback_cmds::Order;
 
 impl TimingCore {
-    ghost use Rattle.std.specs.Prelude.{ℕ, ◌-◌, ◌<◌, ◌^◌, true, Some, length, slice_get, slice_set};
+    ghost use Rattle.std.specs.Prelude.{ℕ, ◌-◌, ◌<◌, ◌≤◌, ◌^◌, true, Some, length, slice_get, slice_set};
     ghost use Rattle.reorder_buffer.specs.declared.slot.Slot.{Slot as HeldSlot};
     ghost use Rattle.std.specs.Prelude.{[], ◌∷◌, ◌+◌, IfSome, IfNone};
     ghost use Rattle.reorder_buffer.specs.declared.slot.SlotState.TheVariants.{Waiting, Until};
@@ -208,6 +208,9 @@ impl TimingCore {
         ensures kept { (s : Setup) (t : Timing) → CoreStandsFor s t self.old → IsSmall t
             → CoreStandsFor s (issued s t) self.new }
     {
+        if self.flight.len() == 0 {
+            return;
+        }
         if let Some(latest) = self.latest_past_front() {
             self.issue_fetched(latest);
         }
@@ -217,18 +220,15 @@ impl TimingCore {
     #[inline(always)]
     fn issue_fetched(&mut self, latest: u64)
         requires latest { latest + self.old.params.core_front ≡ self.old.cycle }
+        requires few { length self.old.flight.slots ≤ 256 }
         ensures kept { (s : Setup) (t : Timing) → CoreStandsFor s t self.old → IsSmall t
             → CoreStandsFor s (issued s t) self.new }
     {
         let busy = self.flight.dividing();
-        let len = self.flight.len();
         let mut ready = self.flight.snapshot(Sought::Ready);
         let mut used = Used::none();
         let mut from = 0;
-        while from < len {
-            let Some(place) = self.flight.next(Sought::Ready, &mut ready, from) else {
-                return;
-            };
+        while let Some(place) = self.flight.next(Sought::Ready, &mut ready, from) {
             used = self.turn(place, latest, busy, used);
             from = place + 1;
         }

@@ -18,52 +18,61 @@ pub returns-then-wrong-clause-first : goal.returns-then-wrong-clause-first
 returns-then-wrong-clause-first c =
     let slot : Slot = c.at-slot.result in
     let place : ℕ = c.in-Some.place in
-    let slots : List Slot = c.loop-from.flight.slots in
-    let come = passes_to c.args.cycle c.loop-from.from place slots c.in-Some.ensures.behind c.in-Some.ensures.first in
+    let slots : List Slot = c.loop-place.flight.slots in
+    let come = passes_to c.args.cycle c.loop-place.from place slots c.in-Some.ensures.behind c.in-Some.ensures.first in
     let done = rw c.at-slot.ensures.slot at c.finish.ensures.finished in
-    c.loop-from.invariant.whole ∙ come
+    c.loop-place.invariant.whole ∙ come
     ∙ redirects c.args.cycle place slots slot c.at-slot.ensures.slot (sym c.is_finishing.ensures.due ∙ c.if-is_finishing.true) (sym c.is_mispredicted-wrong.ensures.mispredicted ∙ c.if-wrong.true)
     ∙ ap (λ (n : ℕ). record { slots = take n (slice_set slots place (finished slot)); redirect = Some slot.next }) (sym (add-one place))
     ∙ ap (λ (f : Contents). record { slots = take (place + 1) f.slots; redirect = Some slot.next }) (sym done)
 
-pub loop-from-preserved : goal.loop-from-preserved
-loop-from-preserved c =
+pub loop-place-preserved : goal.loop-place-preserved
+loop-place-preserved c =
     let slot : Slot = c.at-slot.result in
     let place : ℕ = c.in-Some.place in
-    let slots : List Slot = c.loop-from.flight.slots in
-    let come = passes_to c.args.cycle c.loop-from.from place slots c.in-Some.ensures.behind c.in-Some.ensures.first in
+    let slots : List Slot = c.loop-place.flight.slots in
+    let come = passes_to c.args.cycle c.loop-place.from place slots c.in-Some.ensures.behind c.in-Some.ensures.first in
     elim c.if-is_finishing.branch [
       | then-is_finishing+else-wrong w ↦
-          let done : c.if-is_finishing.flight ≡ record c.loop-from.flight { slots = slice_set slots place (finished slot) } =
+          let done : c.if-is_finishing.flight ≡ record c.loop-place.flight { slots = slice_set slots place (finished slot) } =
           w.flight-is ∙ (rw c.at-slot.ensures.slot at w.finish.ensures.finished) in
           record {
-            room = ap (λ (f : Contents). f.capacity) done ∙ c.loop-from.invariant.room;
-            count = ap (λ (f : Contents). length f.slots) done ∙ length-set slots place (finished slot) ∙ c.loop-from.invariant.count;
+            room = ap (λ (f : Contents). f.capacity) done ∙ c.loop-place.invariant.room;
+            count = ap (λ (f : Contents). length f.slots) done ∙ length-set slots place (finished slot) ∙ c.loop-place.invariant.count;
             executes = still _ _ (place + 1) c.next.new.snapshot
                 (λ k behind. ap (λ (f : Contents). executes_at f.slots k) done ∙ executes_behind slots place (finished slot) k (omega (arith, behind))) c.in-Some.ensures.left;
             whole =
                 moved c.args.cycle place (slice_set slots place (finished slot)) c.if-is_finishing.flight (completes c.args.cycle c.args.flight.now.slots) (ap (λ (f : Contents). f.slots) done)
-                (c.loop-from.invariant.whole ∙ come
+                (c.loop-place.invariant.whole ∙ come
                 ∙ finishes c.args.cycle place slots slot c.at-slot.ensures.slot (sym c.is_finishing.ensures.due ∙ w.if-is_finishing.true) (sym w.is_mispredicted-wrong.ensures.mispredicted ∙ w.if-wrong.false));
           }
       | else-is_finishing w ↦
           record {
-            room = ap (λ (f : Contents). f.capacity) w.flight-is ∙ c.loop-from.invariant.room;
-            count = ap (λ (f : Contents). length f.slots) w.flight-is ∙ c.loop-from.invariant.count;
+            room = ap (λ (f : Contents). f.capacity) w.flight-is ∙ c.loop-place.invariant.room;
+            count = ap (λ (f : Contents). length f.slots) w.flight-is ∙ c.loop-place.invariant.count;
             executes = still _ _ (place + 1) c.next.new.snapshot (λ k behind. ap (λ (f : Contents). executes_at f.slots k) w.flight-is) c.in-Some.ensures.left;
             whole =
                 moved c.args.cycle place slots c.if-is_finishing.flight (completes c.args.cycle c.args.flight.now.slots) (ap (λ (f : Contents). f.slots) w.flight-is)
-                (c.loop-from.invariant.whole ∙ come ∙ passes c.args.cycle place slots slot c.at-slot.ensures.slot (sym c.is_finishing.ensures.due ∙ w.if-is_finishing.false));
+                (c.loop-place.invariant.whole ∙ come ∙ passes c.args.cycle place slots slot c.at-slot.ensures.slot (sym c.is_finishing.ensures.due ∙ w.if-is_finishing.false));
           }
     ]
 
 pub returns-clause-all : goal.returns-clause-all
 returns-clause-all c =
-    c.loop-from.invariant.whole ∙ completed_all c.args.cycle c.loop-from.from c.loop-from.flight.slots (omega arith)
+    c.loop-place.invariant.whole ∙ rests_all c.args.cycle c.loop-place.from c.loop-place.flight.slots c.in_default.ensures.none
 
-pub returns-in_default-clause-all : goal.returns-in_default-clause-all
-returns-in_default-clause-all c =
-    c.loop-from.invariant.whole ∙ rests_all c.args.cycle c.loop-from.from c.loop-from.flight.slots c.in_default.ensures.none
+pub returns-then-len-eq0-clause-all : goal.returns-then-len-eq0-clause-all
+returns-then-len-eq0-clause-all c = completed_all c.args.cycle 0 c.args.flight.now.slots (omega (arith, c.len.ensures.count, c.if-len-eq0.true))
+
+pub overflow_add-from : goal.overflow_add-from
+overflow_add-from c =
+    let within = executes_there c.loop-place.flight.slots c.in-Some.place c.in-Some.ensures.found in
+    omega (arith, within, c.loop-place.invariant.count, c.len.ensures.count, c.len.type_inv)
+
+pub overflow_add-result : goal.overflow_add-result
+overflow_add-result c =
+    let within = executes_there c.loop-place.flight.slots c.in-Some.place c.in-Some.ensures.found in
+    omega (arith, within, c.loop-place.invariant.count, c.len.ensures.count, c.len.type_inv)
 
 pub at-slot-requires : goal.at-slot-requires
-at-slot-requires c = record { within = executes_there c.loop-from.flight.slots c.in-Some.place c.in-Some.ensures.found }
+at-slot-requires c = record { within = executes_there c.loop-place.flight.slots c.in-Some.place c.in-Some.ensures.found }

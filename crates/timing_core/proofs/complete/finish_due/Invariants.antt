@@ -5,13 +5,13 @@ use Rattle.timing_side.specs.Complete.{completes}
 use Rattle.timing_core.proofs.Finishing.{completed_from}
 use Rattle.timing_core.proofs.complete.finish_due.Given as goal
 
-abbrev pub invariant-loop-from : goal.invariant-loop-from
-invariant-loop-from l = record {
+abbrev pub invariant-loop-place : goal.invariant-loop-place
+invariant-loop-place l = record {
   room : l.flight.capacity ≡ l.fn.flight.capacity;
   count : length l.flight.slots ≡ length l.fn.flight.slots;
   executes : IsSnapshot (executes_at l.flight.slots) l.from l.executes;
   whole : completes l.cycle l.fn.flight.slots ≡ completed_from l.cycle l.from l.flight.slots;
 }
 
-abbrev pub decreases-loop-from : goal.decreases-loop-from
-decreases-loop-from l = l.len - l.from
+abbrev pub decreases-loop-place : goal.decreases-loop-place
+decreases-loop-place l = length l.flight.slots - l.from
