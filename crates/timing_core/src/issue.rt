@@ -10,9 +10,9 @@ use reorder_buffer::{Slot, SlotState};
 use rollback_cmds::Order;
 
 impl TimingCore {
-    ghost use Rattle.std.specs.Prelude.{ℕ, ◌-◌, ◌<◌, ◌≤◌, ◌^◌, true, Some, length, slice_get, slice_set};
+    ghost use Rattle.std.specs.Prelude.{ℕ, ◌-◌, ◌<◌, ◌^◌, true, Some, length, slice_get, slice_set};
     ghost use Rattle.reorder_buffer.specs.declared.slot.Slot.{Slot as HeldSlot};
-    ghost use Rattle.std.specs.Prelude.{[], ◌∷◌, ◌+◌, IfSome, IfNone};
+    ghost use Rattle.std.specs.Prelude.{[], ◌∷◌, ◌+◌, ◌≤◌, IfSome, IfNone};
     ghost use Rattle.reorder_buffer.specs.declared.slot.SlotState.TheVariants.{Waiting, Until};
     ghost use Rattle.rollback_cmds.specs.declared.order.Order.TheVariants.{Time};
     ghost use Rattle.mono_model.specs.declared.setup.Setup.{Setup};
