@@ -169,8 +169,8 @@ impl LaneCore {
         let end = self
             .core
             .cycle()
-            .saturating_add(u64::from(latency))
-            .saturating_add(u64::from(added));
+            .wrapping_add(u64::from(latency))
+            .wrapping_add(u64::from(added));
         self.memory = Some(end);
         self.core.complete_until(leaving.from)
     }
@@ -230,7 +230,7 @@ impl LaneCore {
             return;
         }
         let latency = execute_latency(self.core.params(), slot.class);
-        let until = self.core.cycle().saturating_add(u64::from(latency));
+        let until = self.core.cycle().wrapping_add(u64::from(latency));
         self.core.begin(place, until);
     }
 

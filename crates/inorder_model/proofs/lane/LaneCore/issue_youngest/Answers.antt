@@ -1,4 +1,4 @@
-use Rattle.std.proofs.Common.{◌≡◌, ℕ, ◌+◌, ◌-◌, true, false, IfSome, Option, List, length, ap, sym, ◌∙◌, subst, arith}
+use Rattle.std.proofs.Common.{◌≡◌, ℕ, ◌+◌, ◌-◌, ◌%◌, ◌^◌, true, false, IfSome, Option, List, length, refl, ap, sym, ◌∙◌, subst, arith}
 use Rattle.std.specs.Prelude.{slice_get, slice_set}
 use Rattle.reorder_buffer.specs.declared.slot.Slot.{Slot}
 use Rattle.reorder_buffer.specs.declared.slot.SlotState.TheVariants.{Waiting, Until}
@@ -44,8 +44,8 @@ returns-clause-kept c = λ s l h small.
     let on : c.may_issue.result ≡ true = c.if-not-may_issue.false in
     let latency : c.from.result ≡ execute_latency s.params slot.class =
     c.from.ensures ∙ c.execute_latency-latency.ensures.latency ∙ ap (λ (p : Params). execute_latency p slot.class) (c.params.ensures.params ∙ h.core.params) in
-    let until : c.saturating_add-until.result ≡ l.timing.cycle + execute_latency s.params slot.class =
-    risen _ _ l.timing.cycle c.from.result c.saturating_add-until.ensures (c.cycle.ensures.cycle s l.timing h.core) (omega (arith, small.cycle)) (omega arith)
+    let until : (c.cycle.result + c.from.result) % 2 ^ 64 ≡ l.timing.cycle + execute_latency s.params slot.class =
+    risen _ _ l.timing.cycle c.from.result refl (c.cycle.ensures.cycle s l.timing h.core) (omega (arith, small.cycle)) (omega arith)
     ∙ ap (λ (n : ℕ). l.timing.cycle + n) latency in
     let same = issued_at s l place slot there last
     ∙ ap (λ (x : Slot). record l.timing { slots = slice_set l.timing.slots place x }) (issue_goes s l (older_at l.timing.slots place) slot (sym (c.may_issue.ensures.may s l h) ∙ on))
