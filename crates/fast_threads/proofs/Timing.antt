@@ -209,6 +209,12 @@ module _ (end : TimeAt) (side new : TimeState) (hand : Option Order) (is_halted 
   pub run_halts : turn ≡ Halted → IsTimeAt end new hand true
   run_halts = time_halts end ran.behind new hand is_halted turn none before_last last_made
 
+-- once the run is over, and whether or not its last orders have gone into the queue
+pub time_flushed : (end behind : TimeAt) (side : TimeState) (hand : Option Order) (gone : Bool) → IsTimeAt end side hand true → behind ≡ end → IsTimeAt behind side hand gone
+time_flushed end behind side hand gone is same =
+    let P : TimeAt → Type 0 = λ x. IsTimeAt x side hand gone in
+    subst P (sym same) (record { sound = is.sound; steps = is.steps; stands = is.stands; orders = is.orders; next = is.next; over = λ h. is.over refl })
+
 -- where it is halted the machine is the one behind all cycles
 module _ (end : TimeAt) (side : TimeState) (hand : Option Order) (is : IsTimeAt end side hand true) where
   pub machine_at_end : (place end.setup is.steps).run.demand.machine ≡ mono end.setup end.setup.cycles

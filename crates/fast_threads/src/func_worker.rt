@@ -120,7 +120,8 @@ impl<D: Device, K: Named> FuncWorker<D, K> {
         }
     }
 
-    /// Hands over the computed entry, if the ring has room for it.
+    /// Hands over the computed entry, if there is room for it. It goes into the ring at once where
+    /// the timing side waits for it.
     fn push(&mut self, entry: Entry) -> bool
         requires computed { self.old.computed ≡ Some entry }
         ensures setup { self.new.setup ≡ self.old.setup }
@@ -128,6 +129,9 @@ impl<D: Device, K: Named> FuncWorker<D, K> {
         let pushed = self.end.push(entry).is_ok();
         if pushed {
             self.computed = None;
+            if self.lookahead.is_short() {
+                self.end.flush();
+            }
         }
         pushed
     }
@@ -144,8 +148,8 @@ impl<D: Device, K: Named> Worker for FuncWorker<D, K> {
         gate.func_turn();
     }
 
-    /// A turn: the next order is obeyed, or else the next entry made and handed over. Says whether
-    /// there was anything to do.
+    /// A turn: the next order is obeyed, or else the next entry made and handed over. Where there is
+    /// none, those that were handed over go into the ring. Says whether there was anything to do.
     fn turn(&mut self) -> bool {
         if self.obey() {
             return true;
@@ -155,7 +159,10 @@ impl<D: Device, K: Named> Worker for FuncWorker<D, K> {
         }
         match self.computed {
             Some(entry) => self.push(entry),
-            None => false,
+            None => {
+                self.end.flush();
+                false
+            }
         }
     }
 }

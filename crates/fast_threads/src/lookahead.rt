@@ -2,6 +2,9 @@
 /// the timing side needs more.
 const FIRST: u64 = 4;
 
+/// As long as no more are under way, the timing side probably waits for each of them.
+const SHORT: u64 = 2;
+
 /// Up to here the allowance doubles; from here on it grows one by one.
 const KNEE: u64 = 64;
 
@@ -34,6 +37,11 @@ impl Lookahead {
     /// Whether one more entry may be made now.
     pub fn may_run_ahead(&self) -> bool {
         self.ahead < self.allowed
+    }
+
+    /// Whether so few are under way that the timing side probably waits for the last one made.
+    pub fn is_short(&self) -> bool {
+        self.ahead <= SHORT
     }
 
     /// One more entry was made.

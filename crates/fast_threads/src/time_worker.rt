@@ -90,12 +90,13 @@ impl<K: Named> TimeWorker<K> {
     }
 
     /// Takes the next entry, if there is one. It is let go where its number isn't the wanted one,
-    /// or it is of another epoch.
+    /// or it is of another epoch. Where there is none, the orders that were sent go into the queue.
     fn take(&mut self) -> bool
         requires wants { wants_in self.old.side ≡ true }
         ensures setup { self.new.setup ≡ self.old.setup }
     {
         let Some(entry) = self.end.next() else {
+            self.end.flush();
             return false;
         };
         if entry.number == self.side.next_number() {
@@ -112,7 +113,7 @@ impl<K: Named> TimeWorker<K> {
     {
         match self.side.run() {
             Turn::Ordered(order) => self.hand = Some(order),
-            Turn::Halted => self.is_halted = true,
+            Turn::Halted => self.is_halted = self.end.flush(),
             Turn::Moved => {}
             Turn::Want => {}
             Turn::CycleEnd => {}

@@ -53,8 +53,8 @@ impl Window {
     ghost use Rattle.reorder_buffer.specs.Window.{IsConsecutive, HasOwnIndices, youngest, index_of};
     ghost use Rattle.reorder_buffer.specs.Window.{below_number, count_from};
 
-    /// An empty window with room for `capacity` slots. All its memory is taken here; want of it is
-    /// the one refusal.
+    /// An empty window with room for `capacity` slots. All its memory is taken here. It is refused
+    /// for want of memory alone, as which a capacity above 2^31 counts.
     pub fn new(alloc: Global, capacity: u32) -> Result<Window, NoMemory>
         ensures opening { IfOk result (λ w. w ≡ record { capacity = capacity; slots = [] }) }
     {

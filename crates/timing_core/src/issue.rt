@@ -216,7 +216,8 @@ impl TimingCore {
         }
     }
 
-    /// Slots begin that were fetched in this cycle or before, from the oldest to the youngest.
+    /// Slots begin, from the oldest to the youngest: of those that were fetched in cycle `latest` or
+    /// before, as no others have passed the front of the pipeline.
     #[inline(always)]
     fn issue_fetched(&mut self, latest: u64)
         requires latest { latest + self.old.params.core_front ≡ self.old.cycle }

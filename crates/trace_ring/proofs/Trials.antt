@@ -27,7 +27,7 @@ sets : ℕ → ℕ → List Order
 sets zero place = Stop 0 ∷ []
 sets (suc left) place = next_word place ∷ sets left (place + 1)
 
-all_orders : orders trial ≡ sets 72 0
+all_orders : orders trial ≡ sets 88 0
 unfolding sets orders place step turn machine_start start trapped found_at executed effect result_at seq entry_at path entry interrupt_phase commit_phase commits leaving complete_phase completes issue_phase wants_time walk turn_of ready_result fetch_try may_fetch end_of_cycle image_byte is_executable predicted
 all_orders = refl
 
@@ -40,10 +40,10 @@ in_sets (suc left) place (suc n) less =
     let e : place + 1 + n ≡ place + suc n = omega arith in
     in_sets left (place + 1) n (omega arith) ∙ ap (λ (p : ℕ). Some (next_word p)) e
 
-pub order_named : (place : ℕ) → place < 72 → IsInPlace trial place (next_word place)
+pub order_named : (place : ℕ) → place < 88 → IsInPlace trial place (next_word place)
 order_named place less =
     let e : 0 + place ≡ place = omega arith in
-    ap (λ (os : List Order). order_in os place) all_orders ∙ in_sets 72 0 place less ∙ ap (λ (p : ℕ). Some (next_word p)) e
+    ap (λ (os : List Order). order_in os place) all_orders ∙ in_sets 88 0 place less ∙ ap (λ (p : ℕ). Some (next_word p)) e
 
 -- the state behind the first trap is the one behind each later trap
 settled : seq trial None (seq trial None (start trial)) ≡ seq trial None (start trial)
@@ -73,7 +73,7 @@ unfolding first
 first_zero = refl
 
 -- epochs 1 and 3 begin at the instructions of the first and the third order
-opened : (epoch : ℕ) (n : ℕ) (addr : ℕ) → entry trial (prefix_with [] (sets 72 0) epoch) n ≡ refused_fetch epoch n addr → IsNamed trial (refused_fetch epoch n addr)
+opened : (epoch : ℕ) (n : ℕ) (addr : ℕ) → entry trial (prefix_with [] (sets 88 0) epoch) n ≡ refused_fetch epoch n addr → IsNamed trial (refused_fetch epoch n addr)
 unfolding entry_in
 opened epoch n addr is = sym (ap (λ (os : List Order). entry trial (prefix_with [] os epoch) n) all_orders ∙ is)
 

@@ -1,8 +1,9 @@
--- The entries that wait at a timing end, and those that it has handed out before them.
-use Rattle.std.proofs.Common.{◌≡◌, Option, Some, None, IfSome, IfNone, ℕ, ◌≤◌, List, [], ◌∷◌, ◌++◌, length, take, drop, sym, ap, subst, ◌∙◌, arith, length-append, length-drop, length-take-le, append_assoc, append-nil, take_at}
-use Rattle.std.proofs.lemmas.List.{drop_all}
+-- Items that wait at an end of a queue: to go into it, or to be handed out.
+use Rattle.std.proofs.Common.{◌≡◌, Option, Some, None, IfSome, IfNone, Result, Ok, Err, OnOk, OnErr, ℕ, ◌≤◌, List, [], ◌∷◌, ◌++◌, length, take, drop, sym, ap, subst, ◌∙◌, arith, length-append, length-drop, length-take-le, append_assoc, append-nil, take_at, ◌-◌, ◌+◌, ◌<◌, zero, suc, slice_index_or}
+use Rattle.std.proofs.lemmas.List.{drop_all, drop-take, drop-drop}
 use Rattle.std.proofs.lemmas.Option.{IfSome_then}
-use Rattle.rtrb.specs.Fifo.{Allowed}
+use Rattle.std.proofs.Math.Seq.{drop-append_seam}
+use Rattle.rtrb.specs.Fifo.{Allowed, EachAllowed}
 use Rattle.trace_entry.specs.declared.Entry.{Entry}
 use Rattle.mono_model.specs.declared.setup.Setup.{Setup}
 use Rattle.rollback_cmds.specs.declared.order.Order.{Order}
@@ -22,6 +23,17 @@ module _ {X : Type 0} (start end : ℕ) (xs : List X) (within : end ≤ length x
       let zero : length (drop start (take end xs)) ≡ 0 = ap length none in
       omega arith
 
+-- a batch as a part of its room, and what is left of it once the first ones have gone
+module _ {X : Type 0} (start end : ℕ) (xs : List X) (order : start ≤ end) where
+  pub part_of : take (end - start) (drop start xs) ≡ drop start (take end xs)
+  part_of =
+      let e : start + (end - start) ≡ end = omega (arith, order) in
+      sym (drop-take start (end - start) xs) ∙ ap (λ (n : ℕ). drop start (take n xs)) e
+
+  pub left_of : (gone rest : List X) → gone ++ rest ≡ take (end - start) (drop start xs) → drop (start + length gone) (take end xs) ≡ rest
+  left_of gone rest parts =
+      sym (drop-drop (length gone) start (take end xs)) ∙ ap (λ (zs : List X). drop (length gone) zs) (sym part_of ∙ sym parts) ∙ drop-append_seam gone rest
+
 module _ {T : Type 0} (allows : List T → T → Type 0) where
   -- what was allowed, and what is allowed behind it
   allowed_both : (xs ys before : List T) → Allowed allows before xs → Allowed allows (before ++ xs) ys → Allowed allows before (xs ++ ys)
@@ -35,33 +47,57 @@ module _ {T : Type 0} (allows : List T → T → Type 0) where
   allowed_there (y ∷ xs) x ys before all =
       subst (λ (zs : List T). allows zs x) (append_assoc before (y ∷ []) xs) (allowed_there xs x ys (before ++ y ∷ []) all.1)
 
+  -- what was allowed behind other items is allowed behind these
+  pub allowed_behind : (xs ys before : List T) → Allowed allows before (xs ++ ys) → Allowed allows (before ++ xs) ys
+  allowed_behind [] ys before all = subst (λ (zs : List T). Allowed allows zs ys) (sym (append-nil before)) all
+  allowed_behind (x ∷ xs) ys before all =
+      subst (λ (zs : List T). Allowed allows zs ys) (append_assoc before (x ∷ []) xs) (allowed_behind xs ys (before ++ x ∷ []) all.1)
+
+  pub allowed_each : (xs before : List T) → Allowed allows before xs → EachAllowed allows before xs
+  allowed_each [] before all i d near = let no : i < 0 = near in absurd (omega arith)
+  allowed_each (x ∷ xs) before all zero d near = subst (λ (zs : List T). allows zs x) (sym (append-nil before)) all.0
+  allowed_each (x ∷ xs) before all (suc i) d near =
+      let up : suc i < suc (length xs) = near in
+      subst (λ (zs : List T). allows zs (slice_index_or xs i d)) (append_assoc before (x ∷ []) (take i xs)) (allowed_each xs (before ++ x ∷ []) all.1 i d (omega arith))
+
+-- an item joins those that wait to go into a queue, or has no room
+module _ {T : Type 0} (allows : List T → T → Type 0) (sent waiting : List T) (is : Allowed allows sent waiting) (x : T) (may : allows (sent ++ waiting) x) where
+  joined : Allowed allows sent (waiting ++ x ∷ [])
+  joined = allowed_both allows waiting (x ∷ []) sent is (may, tt)
+
+  pub joins : {E : Type 0} (r : Result (Unit {0}) E) (behind : List T) → OnOk r (behind ≡ waiting ++ x ∷ []) → OnErr r (behind ≡ waiting) → Allowed allows sent behind
+  joins (Ok u) behind more same = subst (λ (zs : List T). Allowed allows sent zs) (sym more) joined
+  joins (Err e) behind more same = subst (λ (zs : List T). Allowed allows sent zs) (sym same) is
+
 handed_front : (front waiting : List Entry) → handed (front ++ waiting) waiting ≡ front
 handed_front front waiting = let long = length-append front waiting in take_at front waiting _ (omega arith)
 
 -- entries come out of the ring where none waits
-module _ (setup : Setup) (received new after : List Entry) (room : ℕ) (is : IsTimeEnd setup received [] room)
+module _ (setup : Setup) (received new after : List Entry) (sent unsent : List Order) (room : ℕ) (is : IsTimeEnd setup received [] sent unsent room)
     (came : after ≡ received ++ new) where
-  pub filled : Allowed (MayFollow setup) received new → IsTimeEnd setup after new room
+  pub filled : Allowed (MayFollow setup) received new → IsTimeEnd setup after new sent unsent room
   filled allowed =
       let front : handed after new ≡ received = ap (λ (zs : List Entry). handed zs new) came ∙ handed_front received new in
       record {
         waits = came ∙ ap (λ (zs : List Entry). zs ++ new) (sym front);
         allowed = subst (λ (zs : List Entry). Allowed (MayFollow setup) [] zs) (sym came) (allowed_both (MayFollow setup) received new [] is.allowed allowed);
+        orders = is.orders;
         room_is = is.room_is;
       }
 
 -- the entry that has waited longest is handed out
-module _ (setup : Setup) (os : List Order) (received waiting rest : List Entry) (room : ℕ) (is : IsTimeEnd setup received waiting room) where
+module _ (setup : Setup) (os : List Order) (received waiting rest : List Entry) (sent unsent : List Order) (room : ℕ) (is : IsTimeEnd setup received waiting sent unsent room) where
   split : (x : Entry) → waiting ≡ x ∷ rest → received ≡ (handed received waiting ++ x ∷ []) ++ rest
   split x next = is.waits ∙ ap (λ (zs : List Entry). handed received waiting ++ zs) next ∙ sym (append_assoc (handed received waiting) (x ∷ []) rest)
 
   handed_more : (x : Entry) → waiting ≡ x ∷ rest → handed received rest ≡ handed received waiting ++ x ∷ []
   handed_more x next = ap (λ (zs : List Entry). handed zs rest) (split x next) ∙ handed_front (handed received waiting ++ x ∷ []) rest
 
-  handed_on : (x : Entry) → waiting ≡ x ∷ rest → IsTimeEnd setup received rest room
+  handed_on : (x : Entry) → waiting ≡ x ∷ rest → IsTimeEnd setup received rest sent unsent room
   handed_on x next = record {
     waits = split x next ∙ ap (λ (zs : List Entry). zs ++ rest) (sym (handed_more x next));
     allowed = is.allowed;
+    orders = is.orders;
     room_is = is.room_is;
   }
 
@@ -73,11 +109,11 @@ module _ (setup : Setup) (os : List Order) (received waiting rest : List Entry) 
 
   -- and so for what the batch gives, if it gives one
   module _ (given : Option Entry) (oldest : IfSome given (λ x. waiting ≡ x ∷ rest)) where
-    pub stays : IfNone given (rest ≡ waiting) → IsTimeEnd setup received rest room
+    pub stays : IfNone given (rest ≡ waiting) → IsTimeEnd setup received rest sent unsent room
     stays same = by given oldest same
       where
-        by : (o : Option Entry) → IfSome o (λ x. waiting ≡ x ∷ rest) → IfNone o (rest ≡ waiting) → IsTimeEnd setup received rest room
-        by None next same = subst (λ (zs : List Entry). IsTimeEnd setup received zs room) (sym same) is
+        by : (o : Option Entry) → IfSome o (λ x. waiting ≡ x ∷ rest) → IfNone o (rest ≡ waiting) → IsTimeEnd setup received rest sent unsent room
+        by None next same = subst (λ (zs : List Entry). IsTimeEnd setup received zs sent unsent room) (sym same) is
         by (Some x) next same = handed_on x next
 
     -- of an end that was seen as `old` before

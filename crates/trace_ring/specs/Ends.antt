@@ -5,6 +5,7 @@ use Rattle.trace_entry.specs.declared.Entry.{Entry}
 use Rattle.rollback_cmds.specs.declared.order.Order.{Order}
 use Rattle.mono_model.specs.declared.setup.Setup.{Setup}
 use Rattle.trace_ring.specs.Ring.{last_of, MayFollow}
+use Rattle.trace_ring.specs.Orders.{IsNext}
 
 -- the functional end
 pub record FuncAt : Type 0 where
@@ -66,13 +67,22 @@ time_at setup pushed taken =
       last = last_of taken;
     }
 
+-- of a functional end: the entries that wait to go into the ring come by the rule behind those that
+-- went into it, and the ring has room for as many as the run says
+pub record IsFuncEnd (setup : Setup) (sent unsent : List Entry) (room : ℕ) : Type 0 where
+  pub allowed : Allowed (MayFollow setup) sent unsent
+  pub room_is : room ≡ setup.ring
+
 -- of the entries that came out of the ring, those before the waiting ones
 abbrev pub handed : List Entry → List Entry → List Entry
 handed received waiting = take (length received - length waiting) received
 
 -- of a timing end: the last entries that came out of the ring wait to be handed out, all of them
--- came by the rule, and the order queue has room for 64
-pub record IsTimeEnd (setup : Setup) (received waiting : List Entry) (room : ℕ) : Type 0 where
+-- came by the rule, the orders that wait to go into the queue come by the rule behind those that
+-- went into it, and the order queue has room for 64
+pub record IsTimeEnd (setup : Setup) (received waiting : List Entry) (sent unsent : List Order)
+    (room : ℕ) : Type 0 where
   pub waits : received ≡ handed received waiting ++ waiting
   pub allowed : Allowed (MayFollow setup) [] received
+  pub orders : Allowed (IsNext setup) sent unsent
   pub room_is : room ≡ 64

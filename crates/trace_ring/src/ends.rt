@@ -8,9 +8,10 @@ use crate::rules::Named;
 use crate::time_end::TimeEnd;
 use fsim_base::NoMemory;
 use mono_model::Setup;
-use rollback_cmds::ORDER_ROOM;
+use rollback_cmds::{ORDER_ROOM, Order};
 use rtrb::RingBuffer;
 use std::alloc::{AllocError, Global};
+use trace_entry::Entry;
 
 /// The two queues of a run, one of `ring` entries and one of 64 orders, by their two ends. It takes
 /// all of their memory here.
@@ -33,11 +34,13 @@ fn opened<K: Named>(alloc: Global, setup: &Setup) -> Result<(FuncEnd<K>, TimeEnd
     let func = FuncEnd {
         entries: entries_in,
         orders: orders_out,
+        outgoing: Batch::new(Entry::BLANK),
     };
     let time = TimeEnd {
         entries: entries_out,
         orders: orders_in,
-        batch: Batch::new(),
+        arrived: Batch::new(Entry::BLANK),
+        outgoing: Batch::new(Order::Stop { n: 0 }),
     };
     Ok((func, time))
 }

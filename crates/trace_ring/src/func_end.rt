@@ -1,11 +1,15 @@
 ghost use Rattle.std.specs.Prelude.{◌≡◌, ◌≤◌, OnOk, OnErr, IfErr, IfSome, IfNone, OnSome};
 
+use crate::batch::Batch;
 use crate::rules::{EntryRule, Named, OrderRule};
 use rollback_cmds::Order;
-use rtrb::{Consumer, Producer, PushError};
+use rtrb::{Consumer, Producer};
 use std::alloc::Global;
 use std::marker::Model;
 use trace_entry::Entry;
+
+/// So many entries go into the ring at a time, where no flush asks for fewer.
+const TOGETHER: usize = 4;
 
 /// The functional thread's end of both queues: it pushes entries and takes orders. Contracts see
 /// its setup, how many it has pushed and taken, and epoch and number of the last entry pushed.
@@ -13,18 +17,21 @@ use trace_entry::Entry;
 pub struct FuncEnd<K: Named> {
     pub(crate) entries: Producer<Entry, Global, EntryRule<K>>,
     pub(crate) orders: Consumer<Order, Global, OrderRule<K>>,
+    /// Entries that were pushed and aren't in the ring yet.
+    pub(crate) outgoing: Batch<Entry>,
 }
 
 impl<K: Named> Model for FuncEnd<K> {
-    ghost use Rattle.std.specs.Prelude.{◌≡◌};
+    ghost use Rattle.std.specs.Prelude.{◌++◌};
     ghost use Rattle.rtrb.specs.Ring.{sent, received, producer_capacity};
-    ghost use Rattle.trace_ring.specs.Ends.{FuncAt, func_at};
+    ghost use Rattle.trace_ring.specs.Ends.{FuncAt, func_at, IsFuncEnd};
 
     ghost Value = { FuncAt };
 
-    ghost view = { λ end. func_at K.setup (sent end.entries) (received end.orders) };
+    ghost view = { λ end. func_at K.setup (sent end.entries ++ end.outgoing) (received end.orders) };
 
-    ghost invariant = { λ end. producer_capacity end.entries ≡ K.setup.ring };
+    ghost invariant = { λ end.
+        IsFuncEnd K.setup (sent end.entries) end.outgoing (producer_capacity end.entries) };
 }
 
 impl<K: Named> FuncEnd<K> {
@@ -33,7 +40,8 @@ impl<K: Named> FuncEnd<K> {
     ghost use Rattle.trace_ring.specs.Ends.{func_pushed, func_taken};
 
     /// Hands over an entry: the one that its epoch and number name, behind the last one in the
-    /// chain. It comes back where the ring is full, and nothing has changed then.
+    /// chain. It waits here until there are as many as go together, or until a flush. It comes back
+    /// where the ring is full and no more can wait, and nothing has changed then.
     pub fn push(&mut self, entry: Entry) -> Result<(), Entry>
         requires named { IsNamed self.old.setup entry }
         requires follows { Follows self.old.setup self.old.last entry.epoch entry.number }
@@ -42,9 +50,20 @@ impl<K: Named> FuncEnd<K> {
         ensures same { OnErr result (self.new ≡ self.old) }
         ensures full { OnErr result (self.old.setup.ring ≤ self.old.pushed) }
     {
-        match self.entries.push(entry) {
-            Ok(()) => Ok(()),
-            Err(PushError::Full(back)) => Err(back),
+        self.outgoing.put(entry, &mut self.entries)?;
+        if self.outgoing.len() >= TOGETHER {
+            self.outgoing.send(&mut self.entries);
+        }
+        Ok(())
+    }
+
+    /// Puts the entries that wait into the ring, as many as it has room for. To callers they were
+    /// handed over before.
+    pub fn flush(&mut self)
+        ensures same { self.new ≡ self.old }
+    {
+        if !self.outgoing.is_empty() {
+            self.outgoing.send(&mut self.entries);
         }
     }
 

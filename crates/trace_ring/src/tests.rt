@@ -4,7 +4,7 @@
 
 ghost use Rattle.std.specs.Prelude.{◌≡◌, ◌≤◌, ◌<◌, ◌+◌, MatchBool, Some, None};
 ghost use Rattle.trace_ring.specs.Ring.{IsNamed, Follows};
-ghost use Rattle.trace_ring.specs.Trial.{trial, refused_fetch};
+ghost use Rattle.trace_ring.specs.Trial.{trial, refused_fetch, before};
 
 mod trial;
 
@@ -20,7 +20,7 @@ use trial::{Trial, next_word, refused_fetch, setup};
 const ENTRIES: u64 = 5000;
 
 /// How many orders go the other way: all but the last of the run.
-const ORDERS: u32 = 72;
+const ORDERS: u32 = 88;
 
 /// Pushes an entry, and says whether it had room.
 fn push<R: Abort>(rt: &R, end: &mut FuncEnd<Trial>, epoch: u64, number: u64, addr: u32) -> bool
@@ -61,20 +61,52 @@ fn expect_push<R: Abort>(
     assert_eq!(rt; had_room, room, "entry {number} of epoch {epoch}");
 }
 
-/// Four entries of two epochs fill the ring; the fifth, of a later epoch, has room once the first
-/// is taken.
-#[tactic(auto, using(crate::proofs::Trials::entry_named, crate::proofs::Trials::first_of_one, crate::proofs::Trials::second_of_one, crate::proofs::Trials::first_of_three, crate::proofs::Trials::begins))]
-fn fill<R: Abort>(rt: &R, func: &mut FuncEnd<Trial>, time: &mut TimeEnd<Trial>)
+/// So many entries have room: 4 in the ring, and 16 that wait to go into it.
+const ROOM: u64 = 20;
+
+/// Pushes the first entries of an epoch, one after the other; each has room.
+#[tactic(auto, using(crate::proofs::Trials::entry_named, crate::proofs::Trials::goes_on))]
+fn push_first<R: Abort>(rt: &R, func: &mut FuncEnd<Trial>, count: u64)
     requires run { func.old.setup ≡ trial }
     requires last { func.old.last ≡ None }
+    ensures run { func.new.setup ≡ trial }
+    ensures last { func.new.last ≡ before count }
 {
-    expect_push(rt, func, 0, 0, 0, true);
-    expect_push(rt, func, 0, 1, 0, true);
+    for number in 0..count {
+        expect_push(rt, func, 0, number, 0, true);
+    }
+}
+
+/// Pushes the first entry of epoch 3 behind the second of epoch 1. It has room, or else has none.
+#[tactic(auto, using(crate::proofs::Trials::first_of_three))]
+fn push_last<R: Abort>(rt: &R, func: &mut FuncEnd<Trial>, room: bool)
+    requires run { func.old.setup ≡ trial }
+    requires last { func.old.last ≡ Some (1, 2) }
+    ensures run { func.new.setup ≡ trial }
+    ensures last { MatchBool room (func.new.last ≡ Some (3, 3)) (func.new.last ≡ Some (1, 2)) }
+{
+    expect_push(rt, func, 3, 3, 12, room);
+}
+
+/// Entries of two epochs fill the ring and what may wait before it; the next one has no room.
+#[tactic(auto, using(crate::proofs::Trials::first_of_one, crate::proofs::Trials::second_of_one))]
+fn fill<R: Abort>(rt: &R, func: &mut FuncEnd<Trial>)
+    requires run { func.old.setup ≡ trial }
+    requires last { func.old.last ≡ None }
+    ensures run { func.new.setup ≡ trial }
+    ensures last { func.new.last ≡ Some (1, 2) }
+{
+    push_first(rt, func, ROOM - 2);
     expect_push(rt, func, 1, 1, 4, true);
     expect_push(rt, func, 1, 2, 0, true);
-    expect_push(rt, func, 3, 3, 12, false);
-    assert_eq!(rt; time.next(), Some(refused_fetch(0, 0, 0)));
-    expect_push(rt, func, 3, 3, 12, true);
+    push_last(rt, func, false);
+}
+
+/// Takes entries of an epoch, from one number up to before another.
+fn expect_entries<R: Abort>(rt: &R, time: &mut TimeEnd<Trial>, first: u64, end: u64) {
+    for number in first..end {
+        assert_eq!(rt; time.next(), Some(refused_fetch(0, number, 0)));
+    }
 }
 
 #[test]
@@ -83,11 +115,24 @@ fn full_ring_hands_an_entry_back(rt: HostRuntime) -> Result<(), Fail> {
     assert!(rt; setup.sound());
     let (mut func, mut time) = rings::<Trial>(rt.alloc(), &setup)?;
     assert_eq!(rt; time.next(), None);
-    fill(&rt, &mut func, &mut time);
-    for (epoch, number, addr) in [(0, 1, 0), (1, 1, 4), (1, 2, 0), (3, 3, 12)] {
+    fill(&rt, &mut func);
+    expect_entries(&rt, &mut time, 0, 4);
+    assert_eq!(rt; time.next(), None);
+    func.flush();
+    expect_entries(&rt, &mut time, 4, 8);
+    func.flush();
+    expect_entries(&rt, &mut time, 8, 12);
+    func.flush();
+    expect_entries(&rt, &mut time, 12, 16);
+    func.flush();
+    push_last(&rt, &mut func, true);
+    expect_entries(&rt, &mut time, 16, 18);
+    for (epoch, number, addr) in [(1, 1, 4), (1, 2, 0)] {
         assert_eq!(rt; time.next(), Some(refused_fetch(epoch, number, addr)));
     }
     assert_eq!(rt; time.next(), None);
+    func.flush();
+    assert_eq!(rt; time.next(), Some(refused_fetch(3, 3, 12)));
     Ok(())
 }
 
@@ -95,7 +140,7 @@ fn full_ring_hands_an_entry_back(rt: HostRuntime) -> Result<(), Fail> {
 #[tactic(auto, using(crate::proofs::Trials::order_named))]
 fn push_order(end: &mut TimeEnd<Trial>, place: u32) -> bool
     requires run { end.old.setup ≡ trial }
-    requires place { (end.old.pushed ≡ place) × (place < 72) }
+    requires place { (end.old.pushed ≡ place) × (place < 88) }
     ensures run { end.new.setup ≡ trial }
     ensures pushed { MatchBool result (end.new.pushed ≡ place + 1) (end.new.pushed ≡ place) }
 {
@@ -108,9 +153,9 @@ fn push_order(end: &mut TimeEnd<Trial>, place: u32) -> bool
 /// Pushes the orders in the places from `first` on until one is handed back, and gives its place.
 fn push_orders(end: &mut TimeEnd<Trial>, first: u32) -> u32
     requires run { end.old.setup ≡ trial }
-    requires place { (end.old.pushed ≡ first) × (first ≤ 72) }
+    requires place { (end.old.pushed ≡ first) × (first ≤ 88) }
     ensures run { end.new.setup ≡ trial }
-    ensures pushed { (end.new.pushed ≡ result) × (result ≤ 72) }
+    ensures pushed { (end.new.pushed ≡ result) × (result ≤ 88) }
 {
     for place in first..ORDERS {
         if !push_order(end, place) {
@@ -120,6 +165,16 @@ fn push_orders(end: &mut TimeEnd<Trial>, first: u32) -> u32
     ORDERS
 }
 
+/// Takes orders, from the one in a place up to before another place.
+fn expect_orders<R: Abort>(rt: &R, func: &mut FuncEnd<Trial>, first: u32, end: u32)
+    requires within { end ≤ 88 }
+{
+    for place in first..end {
+        assert_eq!(rt; func.next(), Some(next_word(place)));
+    }
+}
+
+/// 64 orders are in the queue, and 16 wait to go into it.
 #[test]
 fn full_order_queue_hands_an_order_back(rt: HostRuntime) -> Result<(), Fail> {
     let setup = setup(rt.alloc());
@@ -127,17 +182,17 @@ fn full_order_queue_hands_an_order_back(rt: HostRuntime) -> Result<(), Fail> {
     let (mut func, mut time) = rings::<Trial>(rt.alloc(), &setup)?;
     assert_eq!(rt; func.next(), None);
     let refused = push_orders(&mut time, 0);
-    assert_eq!(rt; refused, 64);
-    assert_eq!(rt; func.next(), Some(next_word(0)));
-    assert_eq!(rt; push_orders(&mut time, refused), 65);
-    for place in 1..65 {
-        assert_eq!(rt; func.next(), Some(next_word(place)));
-    }
+    assert_eq!(rt; refused, 80);
+    expect_orders(&rt, &mut func, 0, 64);
+    assert_eq!(rt; func.next(), None);
+    assert!(rt; time.flush());
+    assert_eq!(rt; push_orders(&mut time, refused), ORDERS);
+    expect_orders(&rt, &mut func, 64, ORDERS);
     assert_eq!(rt; func.next(), None);
     Ok(())
 }
 
-/// Pushes all entries, waiting for room.
+/// Pushes all entries, waiting for room, and then flushes until an order says that they came.
 #[tactic(auto, using(crate::proofs::Trials::entry_named))]
 fn push_all<R: Wait + Abort>(rt: &R, mut end: FuncEnd<Trial>)
     requires run { end.setup ≡ trial }
@@ -146,9 +201,12 @@ fn push_all<R: Wait + Abort>(rt: &R, mut end: FuncEnd<Trial>)
     let mut number = 0;
     for _ in rt.forever() {
         if number >= ENTRIES {
-            break;
-        }
-        if push(rt, &mut end, 0, number, 0) {
+            end.flush();
+            if end.next().is_some() {
+                break;
+            }
+            thread::yield_now();
+        } else if push(rt, &mut end, 0, number, 0) {
             number += 1;
         } else {
             thread::yield_now();
@@ -156,11 +214,15 @@ fn push_all<R: Wait + Abort>(rt: &R, mut end: FuncEnd<Trial>)
     }
 }
 
-/// Takes all entries, waiting for each.
-fn take_all<R: Wait + Abort>(rt: &R, mut end: TimeEnd<Trial>) {
+/// Takes all entries, waiting for each, and then gives the first order.
+fn take_all<R: Wait + Abort>(rt: &R, mut end: TimeEnd<Trial>)
+    requires run { end.setup ≡ trial }
+    requires pushed { end.pushed ≡ 0 }
+{
     let mut number = 0;
     for _ in rt.forever() {
         if number >= ENTRIES {
+            assert!(rt; push_order(&mut end, 0));
             break;
         }
         match end.next() {
@@ -183,7 +245,9 @@ fn two_threads_hand_over_entries(rt: HostRuntime) -> Result<(), Fail> {
         move ||
             requires opened { (func.setup ≡ trial) × (func.last ≡ None) }
         { push_all(&rt, func) },
-        move || take_all(&rt, time),
+        move ||
+            requires opened { (time.setup ≡ trial) × (time.pushed ≡ 0) }
+        { take_all(&rt, time) },
     );
     Ok(())
 }

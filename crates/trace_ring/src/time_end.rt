@@ -1,9 +1,9 @@
 ghost use Rattle.std.specs.Prelude.{◌≡◌, ◌≤◌, OnOk, OnErr, IfErr, IfSome, IfNone};
 
-use crate::batch::Batch;
+use crate::batch::{Batch, ROOM};
 use crate::rules::{EntryRule, Named, OrderRule};
 use rollback_cmds::Order;
-use rtrb::{Consumer, Producer, PushError};
+use rtrb::{Consumer, Producer};
 use std::alloc::Global;
 use std::marker::Model;
 use trace_entry::Entry;
@@ -15,20 +15,23 @@ pub struct TimeEnd<K: Named> {
     pub(crate) entries: Consumer<Entry, Global, EntryRule<K>>,
     pub(crate) orders: Producer<Order, Global, OrderRule<K>>,
     /// Entries that came out of the ring and weren't taken by a call yet.
-    pub(crate) batch: Batch,
+    pub(crate) arrived: Batch<Entry>,
+    /// Orders that were pushed and aren't in the queue yet.
+    pub(crate) outgoing: Batch<Order>,
 }
 
 impl<K: Named> Model for TimeEnd<K> {
+    ghost use Rattle.std.specs.Prelude.{◌++◌};
     ghost use Rattle.rtrb.specs.Ring.{sent, received, producer_capacity};
     ghost use Rattle.trace_ring.specs.Ends.{TimeAt, time_at, handed, IsTimeEnd};
 
     ghost Value = { TimeAt };
 
-    ghost view = { λ end.
-        time_at K.setup (sent end.orders) (handed (received end.entries) end.batch) };
+    ghost view = { λ end. time_at K.setup (sent end.orders ++ end.outgoing)
+        (handed (received end.entries) end.arrived) };
 
-    ghost invariant = { λ end.
-        IsTimeEnd K.setup (received end.entries) end.batch (producer_capacity end.orders) };
+    ghost invariant = { λ end. IsTimeEnd K.setup (received end.entries) end.arrived
+        (sent end.orders) end.outgoing (producer_capacity end.orders) };
 }
 
 impl<K: Named> TimeEnd<K> {
@@ -36,8 +39,9 @@ impl<K: Named> TimeEnd<K> {
     ghost use Rattle.trace_ring.specs.Orders.{IsInPlace};
     ghost use Rattle.trace_ring.specs.Ends.{time_pushed, time_taken};
 
-    /// Hands over an order: the one in the place behind those pushed so far. It comes back where
-    /// the queue has no room for it, beside 64, and nothing has changed then.
+    /// Hands over an order: the one in the place behind those pushed so far. A `Commit` may wait here
+    /// for others, until an order that opens an epoch, or until a flush. It comes back where the
+    /// queue of 64 is full and no more can wait, and nothing has changed then.
     pub fn push(&mut self, order: Order) -> Result<(), Order>
         requires in_place { IsInPlace self.old.setup self.old.pushed order }
         ensures pushed { OnOk result (self.new ≡ time_pushed self.old) }
@@ -45,10 +49,22 @@ impl<K: Named> TimeEnd<K> {
         ensures same { OnErr result (self.new ≡ self.old) }
         ensures full { OnErr result (64 ≤ self.old.pushed) }
     {
-        match self.orders.push(order) {
-            Ok(()) => Ok(()),
-            Err(PushError::Full(back)) => Err(back),
+        self.outgoing.put(order, &mut self.orders)?;
+        if order.opens_epoch() || self.outgoing.len() >= ROOM {
+            self.outgoing.send(&mut self.orders);
         }
+        Ok(())
+    }
+
+    /// Puts the orders that wait into the queue, as many as it has room for. To callers they were
+    /// handed over before. Says whether none waits any more, which no clause says.
+    pub fn flush(&mut self) -> bool
+        ensures same { self.new ≡ self.old }
+    {
+        if !self.outgoing.is_empty() {
+            self.outgoing.send(&mut self.orders);
+        }
+        self.outgoing.is_empty()
     }
 
     /// The next entry, with its name; None where there is none now, which no clause says.
@@ -60,15 +76,15 @@ impl<K: Named> TimeEnd<K> {
         ensures same { IfNone result (self.new ≡ self.old) }
     {
         self.fill();
-        self.batch.next()
+        self.arrived.next()
     }
 
     /// Takes entries out of the ring where none waits.
     fn fill(&mut self)
         ensures same { self.new ≡ self.old }
     {
-        if self.batch.is_empty() {
-            self.batch.fill(&mut self.entries);
+        if self.arrived.is_empty() {
+            self.arrived.fill(&mut self.entries);
         }
     }
 }

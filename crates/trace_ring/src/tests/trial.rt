@@ -46,7 +46,7 @@ pub fn setup(alloc: Global) -> Setup
         },
         params: params(),
         input: Bytes::new(Vec::new(alloc)),
-        cycles: 9,
+        cycles: 11,
         output: 0,
         ring: 4,
     }
@@ -75,7 +75,7 @@ pub fn refused_fetch(epoch: u64, number: u64, addr: u32) -> Entry
 
 /// The order in a place.
 pub fn next_word(place: u32) -> Order
-    requires place { place < 72 }
+    requires place { place < 88 }
     ensures { result ≡ next_word place }
 {
     let number = place + 1;

@@ -1,17 +1,16 @@
-use Rattle.std.proofs.Common.{rules, ◌≡◌, ◌∙◌, ◌++◌, ◌∷◌, [], ap}
+use Rattle.std.proofs.Common.{◌∙◌, ◌++◌}
 use Rattle.rtrb.specs.Ring.{sent, received}
-use Rattle.trace_ring.specs.Ends.{func_at, func_pushed, FuncAt}
-use Rattle.trace_ring.proofs.Pushing.{func_pushes}
+use Rattle.trace_ring.proofs.Pushing.{func_joined}
 use Rattle.trace_ring.proofs.func_end.FuncEnd.push.Goals as goal
-use Rattle.trace_ring.proofs.func_end.FuncEnd.push.Goals.{in-Ok, in-Err-Full}
 
-pub returns-clause-pushed : goal.returns-clause-pushed
-returns-clause-pushed g c =
-    let old = c.self.inside in
-    let x = c.args.entry in
-    let step : func_at g.K.Named.setup (sent old.entries ++ x ∷ []) (received old.orders) ≡ func_pushed c.args.self.now x =
-    func_pushes g.K.Named.setup (sent old.entries) x (received old.orders) ∙ ap (λ (e : FuncAt). func_pushed e x) c.self.view_is in
-    elim c.match-push.branch [
-      | in-Ok w ↦ search rules
-      | in-Err-Full w ↦ search rules
-    ]
+pub returns-then-len-ge-TOGETHER-clause-pushed : goal.returns-then-len-ge-TOGETHER-clause-pushed
+returns-then-len-ge-TOGETHER-clause-pushed g c =
+    let e = c.self.inside in
+    let it = c.send in
+    func_joined g.K.Named.setup (sent e.entries ++ e.outgoing) (sent it.new.queue ++ it.new.self) c.args.entry (received e.orders) c.args.self.now c.self.view_is (it.ensures.sent ∙ c.in_ok-put.ensures.put)
+
+pub returns-else-len-ge-TOGETHER-clause-pushed : goal.returns-else-len-ge-TOGETHER-clause-pushed
+returns-else-len-ge-TOGETHER-clause-pushed g c =
+    let e = c.self.inside in
+    let it = c.put.new in
+    func_joined g.K.Named.setup (sent e.entries ++ e.outgoing) (sent it.queue ++ it.self) c.args.entry (received e.orders) c.args.self.now c.self.view_is c.in_ok-put.ensures.put
