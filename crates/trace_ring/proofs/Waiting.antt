@@ -60,6 +60,28 @@ module _ {T : Type 0} (allows : List T → T → Type 0) where
       let up : suc i < suc (length xs) = near in
       subst (λ (zs : List T). allows zs (slice_index_or xs i d)) (append_assoc before (x ∷ []) (take i xs)) (allowed_each xs (before ++ x ∷ []) all.1 i d (omega arith))
 
+-- a batch of which the queue has taken the first ones
+module _ {T : Type 0} (allows : List T → T → Type 0) (start end : ℕ) (items waiting : List T) (order : start ≤ end) (seen : drop start (take end items) ≡ waiting)
+    (gone rest : List T) (parts : gone ++ rest ≡ take (end - start) (drop start items)) (sent after : List T) (went : after ≡ sent ++ gone) where
+  abbrev left : List T
+  left = drop (start + length gone) (take end items)
+
+  left_is : left ≡ rest
+  left_is = left_of start end items order gone rest parts
+
+  all_is : gone ++ rest ≡ waiting
+  all_is = parts ∙ part_of start end items order ∙ seen
+
+  pub still_all : after ++ left ≡ sent ++ waiting
+  still_all =
+      ap (λ (zs : List T). after ++ zs) left_is ∙ ap (λ (zs : List T). zs ++ rest) went ∙ append_assoc sent gone rest ∙ ap (λ (zs : List T). sent ++ zs) all_is
+
+  pub still_allowed : Allowed allows sent waiting → Allowed allows after left
+  still_allowed before =
+      let all : Allowed allows sent (gone ++ rest) = subst (λ (zs : List T). Allowed allows sent zs) (sym all_is) before in
+      let behind : Allowed allows after rest = subst (λ (zs : List T). Allowed allows zs rest) (sym went) (allowed_behind allows gone rest sent all) in
+      subst (λ (zs : List T). Allowed allows after zs) (sym left_is) behind
+
 -- an item joins those that wait to go into a queue, or has no room
 module _ {T : Type 0} (allows : List T → T → Type 0) (sent waiting : List T) (is : Allowed allows sent waiting) (x : T) (may : allows (sent ++ waiting) x) where
   joined : Allowed allows sent (waiting ++ x ∷ [])

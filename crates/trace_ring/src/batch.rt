@@ -115,6 +115,7 @@ impl<T: Copy> Batch<T> {
         let (sent, _) = queue.push_partial_slice(&items[self.start..self.end]);
         self.start += sent.len();
     }
+
     /// Puts an item behind those that wait. Where there is no room behind them, they go into the
     /// queue first; where that has no room either, the item comes back.
     pub fn put<P: Protocol<T>>(

@@ -183,6 +183,7 @@ fn full_order_queue_hands_an_order_back(rt: HostRuntime) -> Result<(), Fail> {
     assert_eq!(rt; func.next(), None);
     let refused = push_orders(&mut time, 0);
     assert_eq!(rt; refused, 80);
+    assert!(rt; !time.flush());
     expect_orders(&rt, &mut func, 0, 64);
     assert_eq!(rt; func.next(), None);
     assert!(rt; time.flush());

@@ -39,9 +39,10 @@ impl<K: Named> TimeEnd<K> {
     ghost use Rattle.trace_ring.specs.Orders.{IsInPlace};
     ghost use Rattle.trace_ring.specs.Ends.{time_pushed, time_taken};
 
-    /// Hands over an order: the one in the place behind those pushed so far. A `Commit` may wait here
-    /// for others, until an order that opens an epoch, or until a flush. It comes back where the
-    /// queue of 64 is full and no more can wait, and nothing has changed then.
+    /// Hands over an order: the one in the place behind those pushed so far. A `Commit` waits here
+    /// until there are as many as have room, an order comes that opens an epoch, or a flush. An
+    /// order comes back where the queue of 64 is full and no more can wait, and nothing has changed
+    /// then.
     pub fn push(&mut self, order: Order) -> Result<(), Order>
         requires in_place { IsInPlace self.old.setup self.old.pushed order }
         ensures pushed { OnOk result (self.new ≡ time_pushed self.old) }
