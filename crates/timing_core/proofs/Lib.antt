@@ -7,3 +7,4 @@ pub mod Fetching
 pub mod Walks
 pub mod Issuing
 pub mod Opcodes
+pub mod Plain

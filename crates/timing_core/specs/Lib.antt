@@ -3,4 +3,5 @@ pub mod Orders
 pub mod Counts
 pub mod CoreStandsFor
 pub mod Leaving
+pub mod Plain
 pub mod Units

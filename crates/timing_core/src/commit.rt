@@ -1,19 +1,27 @@
-ghost use Rattle.std.specs.Prelude.{◌≡◌, ◌-◌, ◌<◌, ◌^◌, List};
+ghost use Rattle.std.specs.Prelude.{◌≡◌, ◌-◌, ◌<◌, ◌^◌, true, false, List};
+ghost use Rattle.fsim_base.specs.declared.instruction.Flow.TheVariants.{Plain as PlainFlow};
 ghost use Rattle.rv_decode.specs.Decode.{decode_of};
-ghost use Rattle.mono_model.specs.Found.{found_word, is_fence_i, is_fence_i_insn};
+ghost use Rattle.mono_model.specs.Found.{found_word, flow_in, is_fence_i, is_fence_i_insn};
 ghost use Rattle.mono_model.specs.Demand.{commit_order};
 ghost use Rattle.rollback_cmds.specs.declared.order.Order.{Order as SpecOrder};
 ghost use Rattle.timing_side.specs.Commit.{ending_orders};
 ghost use Rattle.timing_core.specs.Orders.{and_then};
 ghost use Rattle.timing_core.specs.Leaving.{ending_in, ended_by};
+ghost use Rattle.timing_core.specs.Plain.{IsPlain};
 
 use crate::orders::Orders;
 use crate::state::TimingCore;
-use fsim_base::bits;
+use fsim_base::{Access, bits};
 use mono_model::{End, end_of};
 use reorder_buffer::{Slot, SlotState};
 use rollback_cmds::Order;
 use rv_decode::{Insn, decode};
+
+/// The opcode of FENCE and FENCE.I.
+const FENCE: u32 = 0x0f;
+
+/// Every opcode of branches and jumps is from here on.
+const HIGH_OPCODES: u32 = 0x40;
 
 /// What the oldest instruction does in this phase.
 #[derive(Clone, Copy, Debug, PartialEq, Eq)]
@@ -64,7 +72,7 @@ fn is_fence_i_insn(insn: Insn) -> bool
 fn is_fence_i(word: u32) -> bool
     ensures fence { result ≡ is_fence_i (found_word word (decode_of word)) }
 {
-    bits(word, 6, 0) == 0x0f && is_decoded_fence_i(word)
+    bits(word, 6, 0) == FENCE && is_decoded_fence_i(word)
 }
 
 /// The same, by decoding.
@@ -112,6 +120,29 @@ fn ending_order(ending: Ending, done: u64) -> Option<Order>
         Ending::Trap(addr) => Some(Order::Set { n: done, addr }),
         Ending::Sync => Some(Order::Sync { n: done }),
     }
+}
+
+/// Whether a word is by its opcode neither branch nor jump nor FENCE.I.
+#[inline(always)]
+#[tactic(auto, using(crate::proofs::Plain::low_flow, crate::proofs::Opcodes::no_fence))]
+fn is_plain_word(word: u32) -> bool
+    ensures flow { result ≡ true → flow_in (found_word word (decode_of word)) ≡ PlainFlow }
+    ensures fence { result ≡ true → is_fence_i (found_word word (decode_of word)) ≡ false }
+{
+    let opcode = bits(word, 6, 0);
+    opcode < HIGH_OPCODES && opcode != FENCE
+}
+
+/// Whether all that a slot does where it leaves is to retire. Nothing is decoded for it.
+#[inline(always)]
+fn is_plain(slot: &Slot) -> bool
+    ensures plain { result ≡ true → IsPlain slot.now }
+{
+    is_plain_word(slot.word)
+        && !matches!(slot.access, Access::Store { .. })
+        && slot.cause.is_none()
+        && !slot.sends
+        && slot.halt.is_none()
 }
 
 impl TimingCore {
@@ -179,7 +210,7 @@ impl TimingCore {
     }
 
     /// The oldest slot does what it does in this phase. Most cycles end it at a slot that isn't
-    /// done, which is seen without a call.
+    /// done, and most slots that leave only retire: neither takes a call.
     #[inline(always)]
     fn leave(&mut self) -> Leaving
         ensures kept { (s : Setup) (t : Timing) → CoreStandsFor s t self.old → IsAlmostSmall t
@@ -188,7 +219,11 @@ impl TimingCore {
             → result ≡ kind_of (leaving s t) }
     {
         match self.oldest_done() {
-            Some(_slot) => self.leave_done(),
+            Some(slot) if is_plain(&slot) => {
+                self.retire_plain(&slot);
+                Leaving::Leaves
+            }
+            Some(_) => self.leave_done(),
             None => Leaving::Stays,
         }
     }

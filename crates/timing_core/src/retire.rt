@@ -99,6 +99,7 @@ impl TimingCore {
     ghost use Rattle.timing_side.specs.Timing.{Timing};
     ghost use Rattle.timing_side.specs.Commit.{committed, faulted};
     ghost use Rattle.timing_core.specs.Small.{IsAlmostSmall};
+    ghost use Rattle.timing_core.specs.Plain.{IsPlain};
     ghost use Rattle.timing_core.specs.CoreStandsFor.{CoreStandsFor};
 
     /// The oldest slot leaves by its trap.
@@ -127,6 +128,19 @@ impl TimingCore {
         count_if(&mut self.output, slot.sends);
         self.pass(slot);
         self.flight.leave();
+    }
+
+    /// The same, where it only retires.
+    #[inline(always)]
+    pub(crate) fn retire_plain(&mut self, slot: &Slot)
+        requires oldest { slice_get self.old.flight.slots 0 ≡ Some slot.now }
+        requires plain { IsPlain slot.now }
+        ensures kept { (s : Setup) (t : Timing) → CoreStandsFor s t self.old → IsAlmostSmall t
+            → CoreStandsFor s (committed s slot.now (drop 1 t.slots) t) self.new }
+    {
+        self.flight.leave();
+        self.retired = self.retired.wrapping_add(1);
+        self.pass(slot);
     }
 
     /// The number of the next instruction to commit, and the timer interrupt as that meets it.
