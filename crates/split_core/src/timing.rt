@@ -114,6 +114,7 @@ impl Timing for TimeSide {
         TimeSide::step(self)
     }
 
+    #[inline(always)]
     fn run(&mut self) -> Turn {
         TimeSide::run(self)
     }
@@ -126,6 +127,7 @@ impl Timing for TimeSide {
         TimeSide::take(self, entry)
     }
 
+    #[inline(always)]
     fn feed(&mut self, entry: &Entry) -> Turn {
         TimeSide::feed(self, entry)
     }

@@ -70,6 +70,7 @@ impl TimeSide {
     /// Makes steps of the demand run, up to the first that tells an order, needs an entry that
     /// isn't held, or finds the run over; and at most 64 strides, with one step behind each at
     /// most. The result is what the last step did.
+    #[inline(always)]
     pub fn run(&mut self) -> Turn
         ensures made { IsRun Steps self.old self.new result }
     {
@@ -107,6 +108,7 @@ impl TimeSide {
     /// Takes the entry that arrives next, where one is needed, and makes the try that needs it: a
     /// [`TimeSide::take`], and steps behind it. The result is what the last step did: where the
     /// entry was dropped, [`Turn::Want`].
+    #[inline(always)]
     pub fn feed(&mut self, entry: &Entry) -> Turn
         requires wants { wants_in self.old ≡ true }
         requires right { IsRight entry.now self.old }

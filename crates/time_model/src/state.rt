@@ -276,9 +276,8 @@ impl TimeState {
     }
 
     /// Makes the try that comes next with the entry that it needs, as if that were held; and tells
-    /// that the step behind it wants an entry where it does. It stays a call, since a caller that
-    /// inlines it moves every field of the entry into a local first.
-    #[inline(never)]
+    /// that the step behind it wants an entry where it does.
+    #[inline(always)]
     pub fn feed(&mut self, entry: &Entry) -> Turn
         requires wants { wants_in self.old ≡ true }
         requires standing { IsStanding (holding entry.now self.old) }

@@ -20,7 +20,7 @@ use rv_decode::{Insn, decode};
 /// The opcode of FENCE and FENCE.I.
 const FENCE: u32 = 0x0f;
 
-/// Every opcode of branches and jumps is from here on.
+/// No opcode below it is that of a branch or a jump.
 const HIGH_OPCODES: u32 = 0x40;
 
 /// What the oldest instruction does in this phase.
