@@ -1,18 +1,31 @@
 -- What is told of an instruction that was executed is its entry, and its undo step takes it back.
-use Rattle.std.proofs.Common.{◌≡◌, ℕ, ◌&&◌, Bool, Option, is_none, ap, ◌∙◌}
+use Rattle.std.proofs.Common.{◌≡◌, ℕ, ◌&&◌, Bool, Option, is_none, refl, ap, ◌∙◌}
+use Rattle.fsim_base.specs.declared.instruction.Class.{Class}
 use Rattle.device_bus.specs.Bus.{Devices}
 use Rattle.mono_model.specs.declared.setup.Setup.{Setup}
 use Rattle.mono_model.specs.Arch.{Arch, compare_of}
-use Rattle.mono_model.specs.Found.{Found}
+use Rattle.mono_model.specs.Found.{Found, known, word_in, class_in, destination_in}
 use Rattle.mono_model.specs.Result.{is_time_read}
 use Rattle.mono_model.specs.Sequence.{entry_at}
 use Rattle.func_model.specs.declared.contents.Named.{Named}
+use Rattle.func_model.specs.declared.found.Decoded.{Decoded}
 use Rattle.func_model.specs.declared.hart.Hart.{Hart}
 use Rattle.func_model.specs.declared.performed.Performed.{Performed}
-use Rattle.func_model.specs.Hart.{arch_of}
+use Rattle.func_model.specs.Hart.{arch_of, DecodedFits}
 use Rattle.func_model.specs.Undo.{past_of}
-use Rattle.func_model.specs.Telling.{named_at, entry_by, past_by}
+use Rattle.func_model.specs.Telling.{named_at, named_by, entry_by, past_by}
 use Rattle.func_model.proofs.Stepping.{Executed, entry_told}
+
+-- an instruction is named by what is read off it
+pub named_found : (hart : Hart) (found : Found) (word : ℕ) (class : Class) (destination : Option ℕ) (number epoch : ℕ) (named : Named) →
+    named ≡ named_by hart word class destination number epoch → word ≡ word_in found → class ≡ class_in found → destination ≡ destination_in found → named ≡ named_at hart found number epoch
+named_found hart found word class destination number epoch named is word_is class_is destination_is =
+    is ∙ (λ i. named_by hart (word_is i) (class_is i) (destination_is i) number epoch)
+
+pub named_known : (hart : Hart) (decoded : Decoded) (number epoch : ℕ) (named : Named) → named ≡ named_by hart decoded.word decoded.class decoded.destination number epoch →
+    DecodedFits decoded → named ≡ named_at hart (known decoded.word decoded.insn) number epoch
+named_known hart decoded number epoch named is fits =
+    named_found hart (known decoded.word decoded.insn) decoded.word decoded.class decoded.destination number epoch named is refl fits.class fits.destination
 
 pub told_entry : (s : Setup) (time : Option ℕ) (limit number epoch : ℕ) (a : Arch) (found : Found) (done : Performed) (hart behind : Hart) (d e : Devices) (named : Named) (unserved : Bool) (cmp : ℕ) →
     Executed s time limit a found done (arch_of behind e) → arch_of hart d ≡ a → named ≡ named_at hart found number epoch → unserved ≡ (is_time_read found done.access && is_none time) →

@@ -1,12 +1,14 @@
 -- What the parts of the functional side stand for.
-use Rattle.std.specs.Prelude.{ℕ, Bool, ◌&&◌, ◌%◌, ◌+◌, ◌==◌, if◌then◌else◌, Option, Some, None, slice_index, ◌<◌}
+use Rattle.std.specs.Prelude.{◌≡◌, ℕ, Bool, ◌&&◌, ◌%◌, ◌+◌, ◌==◌, if◌then◌else◌, Option, Some, None, slice_index, ◌<◌}
 use Rattle.fsim_base.specs.Memory.{from_bytes}
 use Rattle.fsim_base.specs.declared.cause.Cause.TheVariants.{InstructionMisaligned, InstructionAccess}
 use Rattle.rv_decode.specs.Decode.{decode_of}
 use Rattle.rv_decode.specs.Fits.{Fits}
+use Rattle.rv_decode.specs.Class.{sources_of, dest_of, class_of}
 use Rattle.device_bus.specs.Bus.{Devices}
 use Rattle.mono_model.specs.Arch.{Arch}
 use Rattle.mono_model.specs.Found.{Found, refused, unknown, known, found_word}
+use Rattle.func_model.specs.declared.found.Decoded.{Decoded}
 use Rattle.func_model.specs.declared.found.Fetched.{Fetched}
 use Rattle.func_model.specs.declared.found.Fetched.TheVariants as code
 use Rattle.func_model.specs.declared.hart.Hart.{Hart}
@@ -16,13 +18,20 @@ use Rattle.phys_mem.specs.Ram.{ram_of, text_of, exec_of}
 abbrev pub found_in : Fetched → Found
 found_in (code.Refused cause) = refused cause
 found_in (code.Unknown word) = unknown word
-found_in (code.Known word insn) = known word insn
+found_in (code.Known decoded) = known decoded.word decoded.insn
 
--- an instruction that was found is one that some word spells
+-- an instruction is one that some word spells, and what is kept with it is what is read off it
+pub record DecodedFits (decoded : Decoded) : Type 0 where
+  pub fits : Fits decoded.insn
+  pub sources : decoded.sources ≡ sources_of decoded.insn
+  pub destination : decoded.destination ≡ dest_of decoded.insn
+  pub class : decoded.class ≡ class_of decoded.insn
+
+-- so is an instruction that was found
 abbrev pub FetchedFits : Fetched → Type 0
 FetchedFits (code.Refused cause) = Unit {0}
 FetchedFits (code.Unknown word) = Unit {0}
-FetchedFits (code.Known word insn) = Fits insn
+FetchedFits (code.Known decoded) = DecodedFits decoded
 
 -- what fetch finds at an address, by the executable addresses and the text
 abbrev pub has_text_by : (ℕ → Bool) → ℕ → Bool
@@ -38,10 +47,10 @@ found_by is_text text addr =
 abbrev pub next_found : Hart → Found
 next_found hart = found_by (exec_of hart.memory) (text_of hart.memory) hart.pc
 
--- a destination that exists
-abbrev pub IsDestination : Option ℕ → Type 0
-IsDestination None = Unit {0}
-IsDestination (Some register) = register < 32
+-- a register that exists, if there is one
+abbrev pub IsRegister : Option ℕ → Type 0
+IsRegister None = Unit {0}
+IsRegister (Some register) = register < 32
 
 -- the state of a hart, with its devices
 unfoldable pub arch_of : Hart → Devices → Arch

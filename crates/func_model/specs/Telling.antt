@@ -1,5 +1,6 @@
 -- What is told of an instruction that was executed, and what takes it back.
-use Rattle.std.specs.Prelude.{ℕ, ◌&&◌, Bool, is_some, slice_index}
+use Rattle.std.specs.Prelude.{ℕ, ◌&&◌, Bool, is_some, slice_index, Option}
+use Rattle.fsim_base.specs.declared.instruction.Class.{Class}
 use Rattle.trace_entry.specs.declared.Entry.{Entry}
 use Rattle.undo_journal.specs.declared.past.Past.{Past}
 use Rattle.mono_model.specs.Found.{Found, word_in, class_in, destination_in}
@@ -8,16 +9,20 @@ use Rattle.func_model.specs.declared.hart.Hart.{Hart}
 use Rattle.func_model.specs.declared.performed.Performed.{Performed}
 use Rattle.func_model.specs.Undo.{register_before, ended_in}
 
--- what stands at the next address of a hart, with its number and epoch
-abbrev pub named_at : Hart → Found → ℕ → ℕ → Named
-named_at hart found number epoch = record {
+-- a word at the next address of a hart, with its class, destination, number and epoch
+abbrev pub named_by : Hart → ℕ → Class → Option ℕ → ℕ → ℕ → Named
+named_by hart word class destination number epoch = record {
   number = number;
   epoch = epoch;
   addr = hart.pc;
-  word = word_in found;
-  class = class_in found;
-  reg = register_before (destination_in found) (λ r. slice_index hart.regs r);
+  word = word;
+  class = class;
+  reg = register_before destination (λ r. slice_index hart.regs r);
 }
+
+-- what stands at the next address of a hart, with its number and epoch
+abbrev pub named_at : Hart → Found → ℕ → ℕ → Named
+named_at hart found number epoch = named_by hart (word_in found) (class_in found) (destination_in found) number epoch
 
 -- its entry, from what it did, the hart behind it, and mtimecmp
 abbrev pub entry_by : Named → Performed → Bool → Hart → ℕ → Entry

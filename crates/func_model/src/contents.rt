@@ -14,7 +14,6 @@ use device_bus::{Bus, Device};
 use fsim_base::{Access, Class, Halt, NoMemory, RamRange, Width};
 use machine_csr::Csrs;
 use mono_model::{End, Final, Setup, Stats, end_of};
-use rv_decode::Insn;
 use std::alloc::Global;
 use trace_entry::Entry;
 use undo_journal::{Change, OldRegister, Past};
@@ -111,10 +110,8 @@ impl<D: Device> Contents<D> {
     ghost use Rattle.func_model.specs.Undo.{undone, IsRestorable};
     ghost use Rattle.func_model.specs.History.{resumed, step_undone, step_seq};
     ghost use Rattle.func_model.specs.History.{instruction_in, IsMade};
-    ghost use Rattle.rv_decode.specs.Fits.{Fits};
-    ghost use Rattle.mono_model.specs.Found.{known};
-    ghost use Rattle.func_model.specs.Hart.{FetchedFits, next_found};
-    ghost use Rattle.func_model.specs.Telling.{named_at, entry_by, past_by};
+    ghost use Rattle.func_model.specs.Hart.{FetchedFits, next_found, IsRegister};
+    ghost use Rattle.func_model.specs.Telling.{named_by, entry_by, past_by};
 
     /// Executes the next instruction with a time, and says how it leaves the run.
     fn advance(&mut self, time: u64, limit: u32) -> Stepped
@@ -283,19 +280,26 @@ impl<D: Device> Contents<D> {
         Ok(Contents { hart, bus, cmp })
     }
 
-    /// What was fetched at the next address, as its entry and its undo step name it.
+    /// What stands at the next address, as its entry and its undo step name it.
     #[inline(always)]
-    fn named(&self, fetched: Fetched, number: u64, epoch: u64) -> Named
-        requires fits { FetchedFits fetched }
-        ensures named { result ≡ named_at self.now.hart (found_in fetched) number epoch }
+    fn named(
+        &self,
+        word: u32,
+        class: Class,
+        destination: Option<u8>,
+        number: u64,
+        epoch: u64,
+    ) -> Named
+        requires exists { IsRegister destination }
+        ensures named { result ≡ named_by self.now.hart word class destination number epoch }
     {
         Named {
             number,
             epoch,
             addr: self.hart.pc,
-            word: fetched.word(),
-            class: fetched.class(),
-            reg: self.hart.before(fetched.destination()),
+            word,
+            class,
+            reg: self.hart.before(destination),
         }
     }
 
@@ -330,19 +334,11 @@ impl<D: Device> Contents<D> {
         (entry, past)
     }
 
-    /// Executes the instruction at the next address, with its number and epoch, where that changes
-    /// at most a register and the next address: what is told of it, and what takes it back. None,
-    /// and nothing done, of any other.
+    /// Executes the instruction at the next address, with its number and epoch, where it is kept
+    /// and changes at most a register and the next address: what is told of it, and what takes it
+    /// back. None, and nothing done, of any other.
     #[inline(always)]
-    pub fn compute(
-        &mut self,
-        word: u32,
-        insn: Insn,
-        number: u64,
-        epoch: u64,
-    ) -> Option<(Entry, Past)>
-        requires found { known word insn ≡ next_found self.old.hart }
-        requires fits { Fits insn }
+    pub fn compute(&mut self, number: u64, epoch: u64) -> Option<(Entry, Past)>
         requires count { retired_in self.old < 2 ^ 64 - 1 }
         ensures none { IfNone result (self.new ≡ self.old) }
         ensures stands { IfSome result (λ told. (s : Setup) (time : Option ℕ) (a : Arch)
@@ -356,26 +352,19 @@ impl<D: Device> Contents<D> {
         ensures restorable { IfSome result (λ told. IsRestorable told.1) }
         ensures room { self.new.hart.room ≡ self.old.hart.room }
     {
-        let outcome = self.hart.computed(insn)?;
-        let named = self.named(Fetched::Known(word, insn), number, epoch);
-        self.hart.finish(insn.dest(), outcome.value, outcome.next);
+        let decoded = self.hart.known()?;
+        let outcome = self.hart.computed(decoded)?;
+        let destination = decoded.destination;
+        let named = self.named(decoded.word, decoded.class, destination, number, epoch);
+        self.hart.finish(destination, outcome.value, outcome.next);
         Some(self.told(named, plain(Change::Nothing), false))
     }
 
     /// Executes the instruction at the next address, with its number, epoch and time or none, where
-    /// it is a load or store of RAM: what is told of it, and what takes it back. None, and nothing
-    /// done, of any other.
+    /// it is kept and is a load or store of RAM: what is told of it, and what takes it back. None,
+    /// and nothing done, of any other.
     #[inline(always)]
-    pub fn transfer(
-        &mut self,
-        word: u32,
-        insn: Insn,
-        number: u64,
-        epoch: u64,
-        time: Option<u64>,
-    ) -> Option<(Entry, Past)>
-        requires found { known word insn ≡ next_found self.old.hart }
-        requires fits { Fits insn }
+    pub fn transfer(&mut self, number: u64, epoch: u64, time: Option<u64>) -> Option<(Entry, Past)>
         requires count { retired_in self.old < 2 ^ 64 - 1 }
         ensures none { IfNone result (self.new ≡ self.old) }
         ensures stands { IfSome result (λ told. (s : Setup) (a : Arch)
@@ -389,10 +378,12 @@ impl<D: Device> Contents<D> {
         ensures restorable { IfSome result (λ told. IsRestorable told.1) }
         ensures room { self.new.hart.room ≡ self.old.hart.room }
     {
-        let fetched = Fetched::Known(word, insn);
-        let named = self.named(fetched, number, epoch);
-        let done = self.hart.transfer(insn)?;
-        let unserved = is_unserved(fetched, done.access, time);
+        let kept = self.hart.known()?;
+        let decoded = *kept;
+        let destination = decoded.destination;
+        let named = self.named(decoded.word, decoded.class, destination, number, epoch);
+        let done = self.hart.transfer(decoded)?;
+        let unserved = is_unserved(Fetched::Known(decoded), done.access, time);
         Some(self.told(named, done, unserved))
     }
 
@@ -421,7 +412,8 @@ impl<D: Device> Contents<D> {
         ensures restorable { IsRestorable result.1 }
         ensures room { self.new.hart.room ≡ self.old.hart.room }
     {
-        let named = self.named(fetched, number, epoch);
+        let destination = fetched.destination();
+        let named = self.named(fetched.word(), fetched.class(), destination, number, epoch);
         let room = self.hart.room;
         let done = self.hart.execute(&mut self.bus, fetched, time, room);
         self.cmp = compare_behind(&self.bus, done.change, self.cmp);

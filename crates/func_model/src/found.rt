@@ -1,11 +1,44 @@
 ghost use Rattle.std.specs.Prelude.{◌≡◌};
+ghost use Rattle.rv_decode.specs.Class.{sources_of, dest_of, class_of};
 ghost use Rattle.mono_model.specs.Found.{destination_in, word_in, class_in, is_fence_i};
 ghost use Rattle.mono_model.specs.Result.{is_time_csr};
-ghost use Rattle.func_model.specs.Hart.{found_in};
+ghost use Rattle.func_model.specs.Hart.{found_in, FetchedFits};
 
 use fsim_base::{Cause, Class};
 use machine_csr::reads_time;
 use rv_decode::Insn;
+
+/// An instruction with its word and what is read off it, found out once.
+#[derive(Clone, Copy, Debug, PartialEq, Eq)]
+pub struct Decoded {
+    pub word: u32,
+    pub insn: Insn,
+    /// The registers that it reads.
+    pub sources: (Option<u8>, Option<u8>),
+    /// The register that it writes.
+    pub destination: Option<u8>,
+    /// The unit that it waits for.
+    pub class: Class,
+}
+
+impl Decoded {
+    /// An instruction with its word.
+    pub fn new(word: u32, insn: Insn) -> Decoded
+        ensures word { result.word ≡ word }
+        ensures insn { result.insn ≡ insn }
+        ensures sources { result.sources ≡ sources_of insn }
+        ensures destination { result.destination ≡ dest_of insn }
+        ensures class { result.class ≡ class_of insn }
+    {
+        Decoded {
+            word,
+            insn,
+            sources: insn.sources(),
+            destination: insn.dest(),
+            class: insn.class(),
+        }
+    }
+}
 
 /// What fetch finds at an address.
 #[derive(Clone, Copy, Debug, PartialEq, Eq)]
@@ -14,8 +47,8 @@ pub enum Fetched {
     Refused(Cause),
     /// A word that is no instruction.
     Unknown(u32),
-    /// A word and its instruction.
-    Known(u32, Insn),
+    /// An instruction.
+    Known(Decoded),
 }
 
 impl Fetched {
@@ -25,26 +58,29 @@ impl Fetched {
     {
         match self {
             Fetched::Refused(_) => 0,
-            Fetched::Unknown(word) | Fetched::Known(word, _) => word,
+            Fetched::Unknown(word) => word,
+            Fetched::Known(decoded) => decoded.word,
         }
     }
 
     /// The class of the instruction; what is none waits for the arithmetic unit.
     pub fn class(self) -> Class
+        requires fits { FetchedFits self }
         ensures class { result ≡ class_in (found_in self) }
     {
         match self {
-            Fetched::Known(_, insn) => insn.class(),
+            Fetched::Known(decoded) => decoded.class,
             _ => Class::Alu,
         }
     }
 
     /// The register that the instruction writes.
     pub fn destination(self) -> Option<u8>
+        requires fits { FetchedFits self }
         ensures register { result ≡ destination_in (found_in self) }
     {
         match self {
-            Fetched::Known(_, insn) => insn.dest(),
+            Fetched::Known(decoded) => decoded.destination,
             _ => None,
         }
     }
@@ -54,7 +90,10 @@ impl Fetched {
         ensures fence { result ≡ is_fence_i (found_in self) }
     {
         match self {
-            Fetched::Known(_, Insn::Fence { fetch, .. }) => fetch,
+            Fetched::Known(decoded) => match decoded.insn {
+                Insn::Fence { fetch, .. } => fetch,
+                _ => false,
+            },
             _ => false,
         }
     }
@@ -64,7 +103,7 @@ impl Fetched {
         ensures reads { result ≡ is_time_csr (found_in self) }
     {
         match self {
-            Fetched::Known(_, insn) => reads_time(insn),
+            Fetched::Known(decoded) => reads_time(decoded.insn),
             _ => false,
         }
     }

@@ -9,7 +9,7 @@ ghost use Rattle.func_model.specs.Steps.{plain_with, reaches_out, is_transfer};
 ghost use Rattle.func_model.specs.Undo.{csr_back, flags_before, trap_before};
 ghost use Rattle.machine_csr.specs.Csr.{csr_written};
 
-use crate::found::Fetched;
+use crate::found::{Decoded, Fetched};
 use crate::memory::Memory;
 use crate::performed::{Performed, Stepped};
 use device_bus::{Bus, Device, Note};
@@ -210,7 +210,6 @@ impl Hart {
     ghost use Rattle.mono_model.specs.Result.{raw_at, spot_of, loaded_at, stored_at};
     ghost use Rattle.mono_model.specs.Result.{csr_result};
     ghost use Rattle.mono_model.specs.Sequence.{seen_in};
-    ghost use Rattle.rv_decode.specs.Fits.{Fits};
     ghost use Rattle.machine_csr.specs.Csr.{csr_access};
     ghost use Rattle.rv_decode.specs.Class.{dest_of};
     ghost use Rattle.phys_mem.specs.Ram.{ram_of, text_of, exec_of, range_of, text_from};
@@ -218,8 +217,8 @@ impl Hart {
     ghost use Rattle.func_model.specs.Steps.{stepped_by, concluded, store_made, outcome_made};
     ghost use Rattle.func_model.specs.Steps.{outcome_result, AlignedBy, csr_made, mret_made};
     ghost use Rattle.func_model.specs.Steps.{behind, result_of, plain_outcome, Told};
-    ghost use Rattle.func_model.specs.Hart.{found_in, FetchedFits, found_by, IsDestination};
-    ghost use Rattle.func_model.specs.Hart.{arch_of};
+    ghost use Rattle.func_model.specs.Hart.{found_in, DecodedFits, FetchedFits, found_by};
+    ghost use Rattle.func_model.specs.Hart.{arch_of, next_found, IsRegister};
     ghost use Rattle.func_model.specs.Undo.{undone, TakesBack, IsRestorable, IsRestorableChange};
     ghost use Rattle.func_model.specs.Undo.{IsOfLoad, uncounted, devices_back, changed_back};
     ghost use Rattle.func_model.specs.Undo.{register_before, trap_back};
@@ -237,13 +236,24 @@ impl Hart {
         self.memory.fetch(self.pc)
     }
 
+    /// The instruction at the next address, where it is kept.
+    #[inline(always)]
+    pub fn known(&self) -> Option<&Decoded>
+        ensures found { IfSome result (λ decoded.
+            known decoded.now.word decoded.now.insn ≡ next_found self.now) }
+        ensures fits { IfSome result (λ decoded. DecodedFits decoded.now) }
+    {
+        self.memory.known(self.pc)
+    }
+
     /// The value of a source register, and 0 where there is none.
     pub fn operand(&self, source: Option<u8>) -> u32
+        requires exists { IsRegister source }
         ensures value { result ≡ register_value (λ r. slice_index self.now.regs r) source }
     {
         match source {
             None => 0,
-            Some(register) => self.regs.get(register as usize).copied().unwrap_or(0),
+            Some(register) => self.regs[register as usize],
         }
     }
 
@@ -284,7 +294,7 @@ impl Hart {
 
     /// Writes the destination register, if there is one.
     fn write(&mut self, destination: Option<u8>, value: u32)
-        requires exists { IsDestination destination }
+        requires exists { IsRegister destination }
         ensures regs { (λ r. slice_index self.new.regs r)
             ≡ with_register destination value (λ r. slice_index self.old.regs r) }
         ensures others { self.new ≡ record self.old { regs = self.new.regs } }
@@ -297,7 +307,7 @@ impl Hart {
     /// Retires an instruction: writes its register, if any, and goes on at an address.
     #[tactic(auto, unfolding(crate::specs::Hart::arch_of))]
     pub fn finish(&mut self, destination: Option<u8>, value: u32, next: u32)
-        requires exists { IsDestination destination }
+        requires exists { IsRegister destination }
         requires count { self.old.csrs.retired < 2 ^ 64 - 1 }
         ensures arch { (d : Devices)
             → arch_of self.new d ≡ finished destination value next (arch_of self.old d) }
@@ -373,7 +383,7 @@ impl Hart {
         access: LoadAccess,
         time: Option<u64>,
     ) -> Performed
-        requires exists { IsDestination destination }
+        requires exists { IsRegister destination }
         requires count { self.old.csrs.retired < 2 ^ 64 - 1 }
         requires aligned { access.addr % width_bytes access.width ≡ 0 }
         ensures told { (limit : ℕ)
@@ -420,7 +430,7 @@ impl Hart {
         width: Width,
         signed: bool,
     ) -> Option<Performed>
-        requires exists { IsDestination destination }
+        requires exists { IsRegister destination }
         requires count { self.old.csrs.retired < 2 ^ 64 - 1 }
         requires aligned { addr % width_bytes width ≡ 0 }
         ensures none { IfNone result (self.new ≡ self.old) }
@@ -576,7 +586,7 @@ impl Hart {
         time: Option<u64>,
         limit: u32,
     ) -> Performed
-        requires exists { IsDestination destination }
+        requires exists { IsRegister destination }
         requires count { self.old.csrs.retired < 2 ^ 64 - 1 }
         requires aligned { AlignedBy outcome.cause outcome.reach }
         requires limit { limit ≤ self.old.room }
@@ -629,7 +639,7 @@ impl Hart {
     /// None, and nothing done, of any other outcome.
     #[inline(always)]
     fn reach_ram(&mut self, destination: Option<u8>, outcome: Outcome) -> Option<Performed>
-        requires exists { IsDestination destination }
+        requires exists { IsRegister destination }
         requires count { self.old.csrs.retired < 2 ^ 64 - 1 }
         requires aligned { AlignedBy outcome.cause outcome.reach }
         ensures none { IfNone result (self.new ≡ self.old) }
@@ -675,7 +685,7 @@ impl Hart {
         time: Option<u64>,
         cmp: u64,
     ) -> Performed
-        requires exists { IsDestination (dest_of insn) }
+        requires exists { IsRegister (dest_of insn) }
         requires count { self.old.csrs.retired < 2 ^ 64 - 1 }
         ensures told { (limit : ℕ) (d : Devices)
             → Told limit (csr_result word insn self.old.pc time
@@ -722,15 +732,21 @@ impl Hart {
     /// The outcome of an instruction that changes at most a register and the next address. None of
     /// any other, and where it traps.
     #[inline(always)]
-    pub fn computed(&self, insn: Insn) -> Option<Outcome>
-        ensures outcome { result
-            ≡ plain_outcome insn self.now.pc (λ r. slice_index self.now.regs r) }
+    pub fn computed(&self, decoded: &Decoded) -> Option<Outcome>
+        requires fits { DecodedFits decoded.now }
+        ensures outcome { result ≡ plain_outcome decoded.now.insn self.now.pc
+            (λ r. slice_index self.now.regs r) }
     {
-        if reaches_out(insn) {
+        if reaches_out(decoded.insn) {
             return None;
         }
-        let (first, second) = insn.sources();
-        let outcome = eval(insn, self.pc, self.operand(first), self.operand(second));
+        let (first, second) = decoded.sources;
+        let outcome = eval(
+            decoded.insn,
+            self.pc,
+            self.operand(first),
+            self.operand(second),
+        );
         match outcome.cause {
             None => Some(outcome),
             Some(_) => None,
@@ -740,20 +756,19 @@ impl Hart {
     /// Makes a load or store of RAM, at whatever time. None, and nothing done, where the
     /// instruction is none, traps, or reaches a device.
     #[inline(always)]
-    pub fn transfer(&mut self, insn: Insn) -> Option<Performed>
-        requires fits { Fits insn }
+    pub fn transfer(&mut self, decoded: Decoded) -> Option<Performed>
+        requires fits { DecodedFits decoded }
         requires count { self.old.csrs.retired < 2 ^ 64 - 1 }
         ensures none { IfNone result (self.new ≡ self.old) }
-        ensures told { IfSome result (λ done.
-            (word limit : ℕ) (time : Option ℕ) (d : Devices)
-            → Told limit (result_of (range_of self.old.memory) (known word insn) time
-            (arch_of self.old d)) (arch_of self.old d) done) }
-        ensures arch { IfSome result (λ done.
-            (word limit : ℕ) (time : Option ℕ) (d : Devices)
+        ensures told { IfSome result (λ done. (limit : ℕ) (time : Option ℕ) (d : Devices)
+            → Told limit (result_of (range_of self.old.memory)
+            (known decoded.word decoded.insn) time (arch_of self.old d)) (arch_of self.old d)
+            done) }
+        ensures arch { IfSome result (λ done. (limit : ℕ) (time : Option ℕ) (d : Devices)
             → arch_of self.new d
-            ≡ behind limit (known word insn)
-            (result_of (range_of self.old.memory) (known word insn) time (arch_of self.old d)) time
-            (arch_of self.old d)) }
+            ≡ behind limit (known decoded.word decoded.insn)
+            (result_of (range_of self.old.memory) (known decoded.word decoded.insn) time
+            (arch_of self.old d)) time (arch_of self.old d)) }
         ensures back { IfSome result (λ done. (d : Devices)
             → TakesBack (range_of self.old.memory) done (arch_of self.old d)
             (arch_of self.new d)) }
@@ -761,12 +776,17 @@ impl Hart {
         ensures exec { exec_of self.new.memory ≡ exec_of self.old.memory }
         ensures room { self.new.room ≡ self.old.room }
     {
-        if !is_transfer(insn) {
+        if !is_transfer(decoded.insn) {
             return None;
         }
-        let (first, second) = insn.sources();
-        let outcome = eval(insn, self.pc, self.operand(first), self.operand(second));
-        self.reach_ram(insn.dest(), outcome)
+        let (first, second) = decoded.sources;
+        let outcome = eval(
+            decoded.insn,
+            self.pc,
+            self.operand(first),
+            self.operand(second),
+        );
+        self.reach_ram(decoded.destination, outcome)
     }
 
     /// Executes an instruction with a time or none and an output limit.
@@ -775,19 +795,19 @@ impl Hart {
     fn perform<D: Device>(
         &mut self,
         bus: &mut Bus<D>,
-        word: u32,
-        insn: Insn,
+        decoded: Decoded,
         time: Option<u64>,
         limit: u32,
     ) -> Performed
-        requires fits { Fits insn }
+        requires fits { DecodedFits decoded }
         requires count { self.old.csrs.retired < 2 ^ 64 - 1 }
         requires limit { limit ≤ self.old.room }
-        ensures told { Told limit (result_of (range_of self.old.memory) (known word insn) time
-            (arch_of self.old bus.old)) (arch_of self.old bus.old) result }
+        ensures told { Told limit (result_of (range_of self.old.memory)
+            (known decoded.word decoded.insn) time (arch_of self.old bus.old))
+            (arch_of self.old bus.old) result }
         ensures arch { arch_of self.new bus.new
-            ≡ behind limit (known word insn)
-            (result_of (range_of self.old.memory) (known word insn) time
+            ≡ behind limit (known decoded.word decoded.insn)
+            (result_of (range_of self.old.memory) (known decoded.word decoded.insn) time
             (arch_of self.old bus.old)) time (arch_of self.old bus.old) }
         ensures back { TakesBack (range_of self.old.memory) result (arch_of self.old bus.old)
             (arch_of self.new bus.new) }
@@ -795,17 +815,18 @@ impl Hart {
         ensures exec { exec_of self.new.memory ≡ exec_of self.old.memory }
         ensures room { self.new.room ≡ self.old.room }
     {
-        let (first, second) = insn.sources();
+        let (first, second) = decoded.sources;
+        let insn = decoded.insn;
         let x = self.operand(first);
         if is_csr(insn) {
-            return self.access_csr(word, insn, x, time, compare(bus));
+            return self.access_csr(decoded.word, insn, x, time, compare(bus));
         }
         if is_mret(insn) {
             return self.leave();
         }
         let y = self.operand(second);
         let outcome = eval(insn, self.pc, x, y);
-        self.reach(bus, insn.dest(), outcome, time, limit)
+        self.reach(bus, decoded.destination, outcome, time, limit)
     }
 
     /// Executes what was fetched, with a time or none. Where the output already has as many bytes
@@ -839,7 +860,7 @@ impl Hart {
             Fetched::Unknown(word) => {
                 self.fail(Access::Nothing, Cause::IllegalInstruction, word)
             }
-            Fetched::Known(word, insn) => self.perform(bus, word, insn, time, limit),
+            Fetched::Known(decoded) => self.perform(bus, decoded, time, limit),
         }
     }
 
@@ -862,7 +883,7 @@ impl Hart {
 
     /// The register that an instruction writes, as it is before; x0 where it writes none.
     pub fn before(&self, destination: Option<u8>) -> OldRegister
-        requires exists { IsDestination destination }
+        requires exists { IsRegister destination }
         ensures before { result ≡ register_before destination (λ r. slice_index self.now.regs r) }
     {
         match destination {

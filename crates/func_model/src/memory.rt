@@ -2,12 +2,12 @@ ghost use Rattle.std.specs.Prelude.{◌≡◌, ◌%◌, ◌^◌, All, OnOk, IfOk
 ghost use Rattle.fsim_base.specs.Width.{width_bytes};
 ghost use Rattle.elf_image.specs.Sound.{IsSound};
 ghost use Rattle.elf_image.specs.Load.{image_byte, is_executable};
-ghost use Rattle.mono_model.specs.Found.{refused};
+ghost use Rattle.mono_model.specs.Found.{known};
 ghost use Rattle.phys_mem.specs.Ram.{ram_of, exec_of, text_of, range_of, text_from, loaded, stored};
-ghost use Rattle.func_model.specs.Hart.{found_in, FetchedFits, found_by};
+ghost use Rattle.func_model.specs.Hart.{found_in, DecodedFits, FetchedFits, found_by};
 ghost use Rattle.func_model.specs.Memory.{IsOfText};
 
-use crate::found::Fetched;
+use crate::found::{Decoded, Fetched};
 use elf_image::Image;
 use fsim_base::{Cause, NoMemory, RamRange, Width};
 use phys_mem::Ram;
@@ -15,46 +15,49 @@ use rv_decode::{Insn, decode};
 use std::alloc::Global;
 use std::marker::Model;
 
-/// How many words of the text are kept: as many as 16 KiB have.
+/// How many instructions of the text are kept: as many as 16 KiB have.
 const KEPT: usize = 4096;
 
 /// Beyond every address.
 const NOWHERE: u64 = 1 << 32;
 
-/// A word of the text by its address, with its instruction, if it is one.
+/// An instruction of the text, with its word and what is read off it, by its address.
 #[derive(Clone, Copy, Debug)]
 struct TextWord {
-    /// `NOWHERE` where no word is kept.
+    /// `NOWHERE` where none is kept.
     addr: u64,
-    word: u32,
-    insn: Option<Insn>,
+    decoded: Decoded,
 }
 
-/// Keeps the word of the text at an address, in place of another one, or says why there is none.
+/// Keeps the instruction that stands in the text at an address, in place of another one, or says
+/// what fetch finds there instead.
 #[tactic(auto, unfolding(crate::specs::Hart::found_by))]
 #[inline(never)]
-fn keep(ram: &Ram, addr: u32, kept: &mut TextWord) -> Result<(), Cause>
+fn keep(ram: &Ram, addr: u32, kept: &mut TextWord) -> Result<(), Fetched>
     ensures kept { OnOk result (kept.new.addr ≡ addr) }
-    ensures refused { IfErr result (λ cause. refused cause
+    ensures found { IfErr result (λ other. found_in other
         ≡ found_by (exec_of ram.now) (text_of ram.now) addr) }
+    ensures fits { IfErr result FetchedFits }
     ensures text { IsOfText (exec_of ram.now) (text_of ram.now) kept.old
         → IsOfText (exec_of ram.now) (text_of ram.now) kept.new }
 {
     if addr % 4 != 0 {
-        return Err(Cause::InstructionMisaligned);
+        return Err(Fetched::Refused(Cause::InstructionMisaligned));
     }
     let Some(word) = ram.text(addr) else {
-        return Err(Cause::InstructionAccess);
+        return Err(Fetched::Refused(Cause::InstructionAccess));
+    };
+    let Some(insn) = decode(word) else {
+        return Err(Fetched::Unknown(word));
     };
     *kept = TextWord {
         addr: u64::from(addr),
-        word,
-        insn: decode(word),
+        decoded: Decoded::new(word, insn),
     };
     Ok(())
 }
 
-/// Keeps none of these words.
+/// Keeps none of these instructions.
 fn forget(words: &mut Vec<TextWord>)
     ensures length { length words.new.items ≡ length words.old.items }
     ensures nowhere { All (λ kept. kept.addr ≡ 2 ^ 32) words.new.items }
@@ -64,12 +67,12 @@ fn forget(words: &mut Vec<TextWord>)
     }
 }
 
-/// RAM, with words of its text that fetch was asked for and what they decode to. The text changes
-/// only where fetch is let see memory; until then what is kept stays true.
+/// RAM, with instructions of its text that fetch was asked for. The text changes only where fetch
+/// is let see memory; until then what is kept stays true.
 #[derive(Drop)]
 pub struct Memory {
     ram: Ram,
-    /// A word is kept in the place that its address selects.
+    /// An instruction is kept in the place that its address selects.
     words: Vec<TextWord>,
 }
 
@@ -102,8 +105,7 @@ impl Memory {
         let ram = Ram::new(alloc, range, image)?;
         let none = TextWord {
             addr: NOWHERE,
-            word: 0,
-            insn: None,
+            decoded: Decoded::new(0, Insn::Wfi),
         };
         let Ok(words) = vec![in alloc; none; KEPT] else {
             return Err(NoMemory);
@@ -152,6 +154,21 @@ impl Memory {
         forget(&mut self.words);
     }
 
+    /// The instruction at an address, where it is kept.
+    #[inline(always)]
+    pub fn known(&self, addr: u32) -> Option<&Decoded>
+        ensures found { IfSome result (λ decoded. known decoded.now.word decoded.now.insn
+            ≡ found_by (exec_of self.now) (text_of self.now) addr) }
+        ensures fits { IfSome result (λ decoded. DecodedFits decoded.now) }
+    {
+        let kept = &self.words[(addr / 4) as usize % KEPT];
+        if kept.addr == u64::from(addr) {
+            Some(&kept.decoded)
+        } else {
+            None
+        }
+    }
+
     /// What fetch finds at an address.
     #[inline(always)]
     pub fn fetch(&mut self, addr: u32) -> Fetched
@@ -161,13 +178,10 @@ impl Memory {
     {
         let kept = &mut self.words[(addr / 4) as usize % KEPT];
         if kept.addr != u64::from(addr) {
-            if let Err(cause) = keep(&self.ram, addr, kept) {
-                return Fetched::Refused(cause);
+            if let Err(other) = keep(&self.ram, addr, kept) {
+                return other;
             }
         }
-        match kept.insn {
-            None => Fetched::Unknown(kept.word),
-            Some(insn) => Fetched::Known(kept.word, insn),
-        }
+        Fetched::Known(kept.decoded)
     }
 }

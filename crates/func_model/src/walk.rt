@@ -2,7 +2,6 @@ ghost use Rattle.std.specs.Prelude.{◌≡◌, ◌<◌, ◌≤◌, ◌+◌, ◌^
 ghost use Rattle.std.specs.Prelude.{IfOk, IfSome, length};
 
 use crate::contents::Contents;
-use crate::found::Fetched;
 use device_bus::Device;
 use fsim_base::NoMemory;
 use mono_model::Setup;
@@ -42,7 +41,6 @@ impl<D: Device> Walk<D> {
     ghost use Rattle.func_model.specs.Walk.{IsSameBut, IsStanding, IsFresh, IsMoved};
     ghost use Rattle.func_model.specs.Walk.{bytes_before, given_at, IsForward, IsProduced};
     ghost use Rattle.func_model.specs.Walk.{noted_in};
-    ghost use Rattle.func_model.specs.Hart.{found_in, FetchedFits, next_found};
     ghost use Rattle.undo_journal.specs.Journal.{newest};
 
     /// The walk at the start of a run. All memory of the run is taken here.
@@ -111,32 +109,60 @@ impl<D: Device> Walk<D> {
         ensures position { self.new.position ≡ self.old.position + 1 }
         ensures others { IsSameBut self.old self.new }
     {
-        let fetched = self.contents.hart.fetch();
-        if let Fetched::Known(word, insn) = fetched {
-            let computed = self.contents.compute(word, insn, self.position, self.epoch);
-            if let Some((made, past)) = computed {
-                self.note(past);
-                *to = made;
-                return;
-            }
-            let time = self.time();
-            let moved = self
-                .contents
-                .transfer(word, insn, self.position, self.epoch, time);
-            if let Some((made, past)) = moved {
-                self.note(past);
-                *to = made;
-                return;
-            }
+        if self.compute_into(to) || self.transfer_into(to) {
+            return;
         }
-        *to = self.carry_out(fetched);
+        *to = self.carry_out();
     }
 
-    /// Executes what was fetched at the next address, whatever that is, and notes what takes it
+    /// Executes the next instruction, as `step_into` does, where it is kept and changes at most a
+    /// register and the next address, and says whether it did; nothing is done of any other.
+    #[inline(always)]
+    fn compute_into(&mut self, to: &mut Entry) -> bool
+        requires standing { IsStanding self.old }
+        requires running { self.old.is_stopped ≡ false }
+        requires room { self.old.position < self.old.committed + self.old.journal.room }
+        requires bounded { self.old.position < 2 ^ 63 }
+        ensures produced { result ≡ true → (s : RunSetup) (os : List SpecOrder)
+            → WalkStandsFor s os self.old → IsProduced s os self.old self.new (Some to.new) }
+        ensures forward { result ≡ true → IsForward self.old self.new }
+        ensures unchanged { result ≡ false → self.new ≡ self.old }
+        ensures unwritten { result ≡ false → to.new ≡ to.old }
+    {
+        let Some((made, past)) = self.contents.compute(self.position, self.epoch) else {
+            return false;
+        };
+        self.note(past);
+        *to = made;
+        true
+    }
+
+    /// The same where the next instruction is kept and is a load or store of RAM.
+    #[inline(never)]
+    fn transfer_into(&mut self, to: &mut Entry) -> bool
+        requires standing { IsStanding self.old }
+        requires running { self.old.is_stopped ≡ false }
+        requires room { self.old.position < self.old.committed + self.old.journal.room }
+        requires bounded { self.old.position < 2 ^ 63 }
+        ensures produced { result ≡ true → (s : RunSetup) (os : List SpecOrder)
+            → WalkStandsFor s os self.old → IsProduced s os self.old self.new (Some to.new) }
+        ensures forward { result ≡ true → IsForward self.old self.new }
+        ensures unchanged { result ≡ false → self.new ≡ self.old }
+        ensures unwritten { result ≡ false → to.new ≡ to.old }
+    {
+        let time = self.time();
+        let Some((made, past)) = self.contents.transfer(self.position, self.epoch, time) else {
+            return false;
+        };
+        self.note(past);
+        *to = made;
+        true
+    }
+
+    /// Executes what fetch finds at the next address, whatever that is, and notes what takes it
     /// back, unless it is committed.
-    fn carry_out(&mut self, fetched: Fetched) -> Entry
-        requires found { found_in fetched ≡ next_found self.old.contents.hart }
-        requires fits { FetchedFits fetched }
+    #[inline(never)]
+    fn carry_out(&mut self) -> Entry
         requires standing { IsStanding self.old }
         requires running { self.old.is_stopped ≡ false }
         requires room { self.old.position < self.old.committed + self.old.journal.room }
@@ -145,6 +171,7 @@ impl<D: Device> Walk<D> {
             → IsProduced s os self.old self.new (Some result) }
         ensures forward { IsForward self.old self.new }
     {
+        let fetched = self.contents.hart.fetch();
         let time = self.time();
         let (entry, past) = self
             .contents

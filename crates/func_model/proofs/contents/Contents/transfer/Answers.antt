@@ -7,29 +7,34 @@ use Rattle.phys_mem.specs.Ram.{exec_of, range_of}
 use Rattle.func_model.specs.Hart.{arch_of}
 use Rattle.func_model.specs.Steps.{result_of}
 use Rattle.func_model.specs.Undo.{IsRestorableChange}
+use Rattle.func_model.specs.Telling.{named_at}
 use Rattle.func_model.specs.Contents.{ContentsStandFor}
 use Rattle.func_model.proofs.Advance.{met_found}
 use Rattle.func_model.proofs.Compared.{compare_in, compare_for}
 use Rattle.func_model.proofs.Stepping.{Executed, executed_at, executed_seq, back_from}
-use Rattle.func_model.proofs.Telling.{told_entry, told_past}
+use Rattle.func_model.proofs.Telling.{told_entry, told_past, named_known}
 use Rattle.func_model.proofs.contents.Contents.transfer.Given as given
 use Rattle.func_model.proofs.contents.Contents.transfer.Goals as goal
 
 -- the instruction as it was executed at the state that the contents stand for
 executed : (g : given.Over) (c : goal.After-told g) (s : Setup) (a : Arch) → ContentsStandFor s a c.args.self.now →
-    Executed s c.args.time (length c.args.self.now.hart.output.items + 1) a (known c.args.word c.args.insn) c.in_ok-done.done (arch_of c.transfer.new.self c.args.self.now.bus)
+    Executed s c.args.time (length c.args.self.now.hart.output.items + 1) a (known c.in_ok-kept.kept.now.word c.in_ok-kept.kept.now.insn) c.in_ok-done.done (arch_of c.transfer.new.self c.args.self.now.bus)
 unfolding arch_of
 executed g c s a h =
     let now = arch_of c.args.self.now.hart c.args.self.now.bus in
     let limit = length c.args.self.now.hart.output.items + 1 in
-    executed_at s c.args.time limit (range_of c.args.self.now.hart.memory) (known c.args.word c.args.insn) now a (arch_of c.transfer.new.self c.args.self.now.bus) c.in_ok-done.done h.arch h.range
-    (met_found s (exec_of c.args.self.now.hart.memory) (known c.args.word c.args.insn) now a h.exec h.arch c.requires.found)
-    (c.in_ok-done.ensures.told c.args.word limit c.args.time c.args.self.now.bus) (c.in_ok-done.ensures.arch c.args.word limit c.args.time c.args.self.now.bus) (omega arith)
+    executed_at s c.args.time limit (range_of c.args.self.now.hart.memory) (known c.in_ok-kept.kept.now.word c.in_ok-kept.kept.now.insn) now a (arch_of c.transfer.new.self c.args.self.now.bus) c.in_ok-done.done h.arch h.range
+    (met_found s (exec_of c.args.self.now.hart.memory) (known c.in_ok-kept.kept.now.word c.in_ok-kept.kept.now.insn) now a h.exec h.arch c.in_ok-kept.ensures.found)
+    (c.in_ok-done.ensures.told limit c.args.time c.args.self.now.bus) (c.in_ok-done.ensures.arch limit c.args.time c.args.self.now.bus) (omega arith)
 
 seq_is : (g : given.Over) (c : goal.After-told g) (s : Setup) (a : Arch) → ContentsStandFor s a c.args.self.now → arch_of c.transfer.new.self c.args.self.now.bus ≡ seq s c.args.time a
 seq_is g c s a h =
-    executed_seq s c.args.time (length c.args.self.now.hart.output.items + 1) a (known c.args.word c.args.insn) c.in_ok-done.done (arch_of c.transfer.new.self c.args.self.now.bus)
+    executed_seq s c.args.time (length c.args.self.now.hart.output.items + 1) a (known c.in_ok-kept.kept.now.word c.in_ok-kept.kept.now.insn) c.in_ok-done.done (arch_of c.transfer.new.self c.args.self.now.bus)
     (executed g c s a h)
+
+-- what it is named by
+named : (g : given.Over) (c : goal.After-told g) → c.named-named.result ≡ named_at c.args.self.now.hart (known c.in_ok-kept.kept.now.word c.in_ok-kept.kept.now.insn) c.args.number c.args.epoch
+named g c = named_known c.args.self.now.hart c.in_ok-kept.kept.now c.args.number c.args.epoch c.named-named.result c.named-named.ensures.named c.in_ok-kept.ensures.fits
 
 -- mtimecmp behind it is as before
 compared : (g : given.Over) (c : goal.After-told g) (s : Setup) (a : Arch) → ContentsStandFor s a c.args.self.now → c.args.self.now.cmp ≡ compare_of c.args.self.now.bus
@@ -48,8 +53,8 @@ returns-clause-stands g c = λ s a h. record {
 pub returns-clause-entry : goal.returns-clause-entry
 returns-clause-entry g c = λ s a h.
     c.told.ensures.entry
-    ∙ told_entry s c.args.time (length c.args.self.now.hart.output.items + 1) c.args.number c.args.epoch a (known c.args.word c.args.insn) c.in_ok-done.done c.args.self.now.hart
-    c.transfer.new.self c.args.self.now.bus c.args.self.now.bus c.named-named.result c.is_unserved-unserved.result c.args.self.now.cmp (executed g c s a h) h.arch c.named-named.ensures.named
+    ∙ told_entry s c.args.time (length c.args.self.now.hart.output.items + 1) c.args.number c.args.epoch a (known c.in_ok-kept.kept.now.word c.in_ok-kept.kept.now.insn) c.in_ok-done.done c.args.self.now.hart
+    c.transfer.new.self c.args.self.now.bus c.args.self.now.bus c.named-named.result c.is_unserved-unserved.result c.args.self.now.cmp (executed g c s a h) h.arch (named g c)
     c.is_unserved-unserved.ensures.unserved (compared g c s a h)
 
 pub returns-clause-back : goal.returns-clause-back
@@ -57,11 +62,11 @@ unfolding arch_of
 returns-clause-back g c = λ s a h.
     let now = arch_of c.args.self.now.hart c.args.self.now.bus in
     let limit = length c.args.self.now.hart.output.items + 1 in
-    let found = known c.args.word c.args.insn in
+    let found = known c.in_ok-kept.kept.now.word c.in_ok-kept.kept.now.insn in
     back_from s c.args.time limit c.args.number (range_of c.args.self.now.hart.memory) found
     (result_of (range_of c.args.self.now.hart.memory) found c.args.time now) now a (arch_of c.transfer.new.self c.args.self.now.bus) c.in_ok-done.done c.told.result.1 h.arch h.range
-    (c.told.ensures.past ∙ told_past c.args.number c.args.epoch found c.in_ok-done.done c.args.self.now.hart c.args.self.now.bus c.named-named.result c.named-named.ensures.named)
-    (c.in_ok-done.ensures.told c.args.word limit c.args.time c.args.self.now.bus) (c.in_ok-done.ensures.arch c.args.word limit c.args.time c.args.self.now.bus)
+    (c.told.ensures.past ∙ told_past c.args.number c.args.epoch found c.in_ok-done.done c.args.self.now.hart c.args.self.now.bus c.named-named.result (named g c))
+    (c.in_ok-done.ensures.told limit c.args.time c.args.self.now.bus) (c.in_ok-done.ensures.arch limit c.args.time c.args.self.now.bus)
     (c.in_ok-done.ensures.back c.args.self.now.bus) (omega arith) (seq_is g c s a h)
 
 pub returns-clause-restorable : goal.returns-clause-restorable
