@@ -23,7 +23,7 @@ const NOWHERE: u64 = 1 << 32;
 
 /// An instruction of the text, with its word and what is read off it, by its address.
 #[derive(Clone, Copy, Debug)]
-struct TextWord {
+struct TextInsn {
     /// `NOWHERE` where none is kept.
     addr: u64,
     decoded: Decoded,
@@ -33,7 +33,7 @@ struct TextWord {
 /// what fetch finds there instead.
 #[tactic(auto, unfolding(crate::specs::Hart::found_by))]
 #[inline(never)]
-fn keep(ram: &Ram, addr: u32, kept: &mut TextWord) -> Result<(), Fetched>
+fn keep(ram: &Ram, addr: u32, kept: &mut TextInsn) -> Result<(), Fetched>
     ensures kept { OnOk result (kept.new.addr ≡ addr) }
     ensures found { IfErr result (λ other. found_in other
         ≡ found_by (exec_of ram.now) (text_of ram.now) addr) }
@@ -50,7 +50,7 @@ fn keep(ram: &Ram, addr: u32, kept: &mut TextWord) -> Result<(), Fetched>
     let Some(insn) = decode(word) else {
         return Err(Fetched::Unknown(word));
     };
-    *kept = TextWord {
+    *kept = TextInsn {
         addr: u64::from(addr),
         decoded: Decoded::new(word, insn),
     };
@@ -58,11 +58,11 @@ fn keep(ram: &Ram, addr: u32, kept: &mut TextWord) -> Result<(), Fetched>
 }
 
 /// Keeps none of these instructions.
-fn forget(words: &mut Vec<TextWord>)
-    ensures length { length words.new.items ≡ length words.old.items }
-    ensures nowhere { All (λ kept. kept.addr ≡ 2 ^ 32) words.new.items }
+fn forget(insns: &mut Vec<TextInsn>)
+    ensures length { length insns.new.items ≡ length insns.old.items }
+    ensures nowhere { All (λ kept. kept.addr ≡ 2 ^ 32) insns.new.items }
 {
-    for kept in words.iter_mut() {
+    for kept in insns.iter_mut() {
         kept.addr = NOWHERE;
     }
 }
@@ -73,7 +73,7 @@ fn forget(words: &mut Vec<TextWord>)
 pub struct Memory {
     ram: Ram,
     /// An instruction is kept in the place that its address selects.
-    words: Vec<TextWord>,
+    insns: Vec<TextInsn>,
 }
 
 impl Model for Memory {
@@ -87,8 +87,8 @@ impl Model for Memory {
 
     ghost view = { λ memory. memory.ram };
 
-    ghost invariant = { λ memory. (length memory.words.items ≡ 4096)
-        × All (IsOfText (exec_of memory.ram) (text_of memory.ram)) memory.words.items };
+    ghost invariant = { λ memory. (length memory.insns.items ≡ 4096)
+        × All (IsOfText (exec_of memory.ram) (text_of memory.ram)) memory.insns.items };
 }
 
 impl Memory {
@@ -103,14 +103,14 @@ impl Memory {
             ≡ text_from (is_executable image.now) (image_byte image.now)) }
     {
         let ram = Ram::new(alloc, range, image)?;
-        let none = TextWord {
+        let none = TextInsn {
             addr: NOWHERE,
             decoded: Decoded::new(0, Insn::Wfi),
         };
-        let Ok(words) = vec![in alloc; none; KEPT] else {
+        let Ok(insns) = vec![in alloc; none; KEPT] else {
             return Err(NoMemory);
         };
-        Ok(Memory { ram, words })
+        Ok(Memory { ram, insns })
     }
 
     /// The value of an aligned access, none where it isn't inside RAM. Little endian.
@@ -151,7 +151,7 @@ impl Memory {
         ensures range { range_of self.new ≡ range_of self.old }
     {
         self.ram.sync();
-        forget(&mut self.words);
+        forget(&mut self.insns);
     }
 
     /// The instruction at an address, where it is kept.
@@ -161,7 +161,7 @@ impl Memory {
             ≡ found_by (exec_of self.now) (text_of self.now) addr) }
         ensures fits { IfSome result (λ decoded. DecodedFits decoded.now) }
     {
-        let kept = &self.words[(addr / 4) as usize % KEPT];
+        let kept = &self.insns[(addr / 4) as usize % KEPT];
         if kept.addr == u64::from(addr) {
             Some(&kept.decoded)
         } else {
@@ -176,7 +176,7 @@ impl Memory {
         ensures fits { FetchedFits result }
         ensures others { self.new ≡ self.old }
     {
-        let kept = &mut self.words[(addr / 4) as usize % KEPT];
+        let kept = &mut self.insns[(addr / 4) as usize % KEPT];
         if kept.addr != u64::from(addr) {
             if let Err(other) = keep(&self.ram, addr, kept) {
                 return other;

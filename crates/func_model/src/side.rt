@@ -110,6 +110,7 @@ impl<D: Device> FuncSide<D> {
 
     /// The same, with the entry written over another one, where its reader finds it. False where
     /// none is made, and nothing written then.
+    #[inline(always)]
     pub fn produce_into(&mut self, to: &mut Entry) -> bool
         requires position { self.old.position < 2 ^ 62 }
         requires epoch { self.old.epoch < 2 ^ 62 }

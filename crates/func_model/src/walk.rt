@@ -97,6 +97,7 @@ impl<D: Device> Walk<D> {
 
     /// The same, with the entry written over another one, where its reader finds it: the host has
     /// not to copy what it has just written.
+    #[inline(always)]
     pub fn step_into(&mut self, to: &mut Entry)
         requires standing { IsStanding self.old }
         requires running { self.old.is_stopped ≡ false }
@@ -137,7 +138,8 @@ impl<D: Device> Walk<D> {
         true
     }
 
-    /// The same where the next instruction is kept and is a load or store of RAM.
+    /// The same where the next instruction is kept and is a load or store of RAM. It stays a call,
+    /// as does what carries out all others: a computed step needs no frame of theirs.
     #[inline(never)]
     fn transfer_into(&mut self, to: &mut Entry) -> bool
         requires standing { IsStanding self.old }
