@@ -131,6 +131,7 @@ impl<D: Device> FuncSide<D> {
     /// Obeys an order of the timing side. Each but Commit goes to instruction `n`, backwards by
     /// undoing or forwards by executing; a side that is stopped goes no further. What is committed,
     /// by Commit, Interrupt or Sync, is never taken back.
+    #[inline(always)]
     pub fn obey(&mut self, order: Order)
         requires reach { self.old.is_stopped ≡ true → number_of order ≤ self.old.position }
         requires from { self.old.committed ≤ number_of order }

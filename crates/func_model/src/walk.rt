@@ -252,6 +252,7 @@ impl<D: Device> Walk<D> {
 
     /// Makes `n` the number of the first instruction that isn't committed. What is below can't be
     /// taken back any more.
+    #[inline(always)]
     pub fn commit(&mut self, n: u64)
         requires from { self.old.committed ≤ n }
         ensures holds { (s : RunSetup) (os : List SpecOrder) → IsOnPath s os self.old

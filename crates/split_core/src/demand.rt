@@ -143,6 +143,7 @@ impl<D: Device, T: Timing> SplitState<D, T> {
     }
 
     /// Obeys the order that was told, if one was.
+    #[inline(always)]
     fn obey_told(&mut self, told: Option<Order>)
         requires may { IfSome told (λ order. MayObey order self.old.func) }
         ensures obeyed { HasObeyed told self.old self.new }

@@ -30,15 +30,17 @@ impl Telling {
         }
     }
 
-    /// Tells the first of a turn's orders, and owes the second. Entries made before an order that
-    /// opens an epoch are of no use behind it, so the held one is dropped.
+    /// Tells the first of a turn's orders, and owes the second, if there is one. Entries made before
+    /// an order that opens an epoch are of no use behind it, so the held one is dropped.
     pub fn tell(&mut self, orders: Orders) -> Option<Order>
         requires none { self.old.owed ≡ None }
         ensures told { result ≡ orders.first }
         ensures behind { self.new ≡ told_behind orders self.old }
     {
         let order = orders.first?;
-        self.owed = orders.second;
+        if orders.second.is_some() {
+            self.owed = orders.second;
+        }
         if order.opens_epoch() {
             self.epoch = self.epoch.saturating_add(1);
             self.held = None;
