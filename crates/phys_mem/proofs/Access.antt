@@ -3,7 +3,7 @@ use Rattle.std.proofs.Common.{◌≡◌, ◌≢◌, ℕ, zero, suc, ◌+◌, ◌
 use Rattle.std.specs.Prelude.{◌==◌, Some}
 use Rattle.std.proofs.lemmas.Bool.{cases_eq, cases_lt}
 use Rattle.std.proofs.lemmas.Bool.Decides.{nat_tests}
-use Rattle.std.proofs.lemmas.List.{get_or-set_same, get_or-set_other, get_or_read}
+use Rattle.std.proofs.lemmas.List.{get_or-set_same, get_or-set_other}
 use Rattle.fsim_base.specs.declared.access.RamRange.{RamRange}
 use Rattle.fsim_base.specs.declared.access.Width.{Width}
 use Rattle.fsim_base.specs.declared.access.Width.TheVariants.{Byte, Half, Word}
@@ -177,10 +177,10 @@ stored_back range pages addr width value aligned inside bytes =
 pub record IsPage (range : RamRange) (pages : List (List ℕ)) (addr index : ℕ) (page : List ℕ) : Type 0 where
   pub place : index ≡ page_of range addr
   pub within : index < length pages
-  pub there : page ≡ slice_index_or pages index page
+  pub there : page ≡ slice_index_or pages index []
 
 pub page_is : (range : RamRange) (pages : List (List ℕ)) (addr index : ℕ) (page : List ℕ) → IsPage range pages addr index page → page ≡ slice_index_or pages (page_of range addr) []
-page_is range pages addr index page h = get_or_read pages index page h.within h.there [] ∙ ap (λ i. slice_index_or pages i []) h.place
+page_is range pages addr index page h = h.there ∙ ap (λ i. slice_index_or pages i []) h.place
 
 -- what an access inside RAM loads
 pub loads : (range : RamRange) (pages : List (List ℕ)) (addr : ℕ) (width : Width) (index : ℕ) (page : List ℕ) (value : ℕ) → addr % width_bytes width ≡ 0 → IsInside range addr (width_bytes width) → IsPage range pages addr index page

@@ -1,5 +1,5 @@
 -- Bytes put into a page and read from it.
-use Rattle.std.proofs.Common.{◌≡◌, ℕ, zero, suc, ◌+◌, ◌-◌, ◌/◌, ◌%◌, ◌<◌, ◌≤◌, List, [], ◌∷◌, ◌++◌, length, take, drop, set, slice_index, slice_index_or, replicate, refl, ap, sym, ◌∙◌, arith, append_assoc, append-nil, add-one, length-set, length-drop}
+use Rattle.std.proofs.Common.{◌≡◌, ℕ, zero, suc, ◌+◌, ◌-◌, ◌/◌, ◌%◌, ◌<◌, ◌≤◌, List, [], ◌∷◌, ◌++◌, length, take, drop, set, refl, ap, sym, ◌∙◌, arith, append_assoc, append-nil, add-one, length-set, length-drop}
 use Rattle.std.proofs.Math.Seq.{take-suc-set}
 use Rattle.std.proofs.lemmas.Bool.Decides.{nat_tests}
 use Rattle.std.proofs.lemmas.List.{take-append-drop, take_all, drop_all, drop-drop, drop-set-lt, get_or-set_other}
@@ -8,7 +8,6 @@ use borrow.Rule.Slice.PartMut.{mid_of, put_mid}
 use Rattle.byteorder.specs.Endian.{little_bytes}
 use Rattle.fsim_base.specs.Memory.{put_byte, put_bytes}
 use Rattle.phys_mem.specs.PageBytes.{bytes_of}
-use Rattle.phys_mem.proofs.Marks.{zeros}
 
 -- a list with some items set, one after the other from a place on
 abbrev sets : List ℕ → ℕ → List ℕ → List ℕ
@@ -91,11 +90,3 @@ pub over_word : (page written : List ℕ) (at value : ℕ) → length page ≡ 4
     → bytes_of (put_mid at (4096 - at) page written) ≡ put_bytes 4 at value (bytes_of page)
 over_word page written at value long fits e =
     over_rest page (little_bytes 4 value) written at 4 value long fits (digits_four value) refl e
-
--- a page of zeros more
-pub zero_page : (pages : List (List ℕ)) (count : ℕ) → ((i offset : ℕ) → slice_index (slice_index_or pages i []) offset ≡ 0)
-    → (i offset : ℕ) → slice_index (slice_index_or (pages ++ replicate count 0 ∷ []) i []) offset ≡ 0
-zero_page [] count h zero offset = zeros count offset
-zero_page [] count h (suc i) offset = refl
-zero_page (page ∷ pages) count h zero offset = h zero offset
-zero_page (page ∷ pages) count h (suc i) offset = zero_page pages count (λ j o. h (suc j) o) i offset

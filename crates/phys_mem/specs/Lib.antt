@@ -1,5 +1,7 @@
 pub mod PageBytes
 pub mod Page
+pub mod Places
+pub mod Lends
 pub mod Fetch
 pub mod Ram
 pub mod Segment

@@ -37,7 +37,7 @@ range_of ram = ram.range
 
 -- RAM: the byte at each of its addresses, and 0 elsewhere
 unfoldable pub ram_of : Ram → (ℕ → ℕ)
-ram_of ram = memory_of ram.range ram.pages.items
+ram_of ram = memory_of ram.range ram.pages
 
 -- which addresses are text
 unfoldable pub exec_of : Ram → (ℕ → Bool)

@@ -3,6 +3,7 @@
 #![tactic(auto)]
 
 mod page;
+mod pages;
 mod ram;
 #[cfg(test)]
 mod tests;

@@ -1,12 +1,10 @@
-ghost use Rattle.std.specs.Prelude.{◌≡◌, ℕ, ◌+◌, ◌%◌, ◌<◌, ◌≤◌, [], IfOk, length, slice_index};
-ghost use Rattle.std.specs.Prelude.{slice_index_or};
+ghost use Rattle.std.specs.Prelude.{◌≡◌, ℕ, ◌+◌, ◌<◌, ◌≤◌, slice_index};
 ghost use Rattle.fsim_base.specs.Memory.{from_bytes, put_bytes};
 ghost use Rattle.fsim_base.specs.Width.{width_bytes};
 ghost use Rattle.phys_mem.specs.PageBytes.{bytes_of};
 
 use byteorder::{ByteOrder, LittleEndian};
 use fsim_base::Width;
-use std::alloc::{AllocError, Global};
 
 /// How many bytes a page has.
 pub const PAGE_SIZE: usize = 4096;
@@ -22,19 +20,6 @@ pub type Marks = [u8; PAGE_SIZE / 8];
 pub struct TextPage {
     pub bytes: Page,
     pub marks: Marks,
-}
-
-/// Pages of zeros.
-pub fn zero_pages(alloc: Global, count: usize) -> Result<Vec<Page>, AllocError>
-    ensures count { IfOk result (λ v. length v.items ≡ count) }
-    ensures zero { IfOk result (λ v. (i offset : ℕ)
-        → slice_index (slice_index_or v.items i []) offset ≡ 0) }
-{
-    let mut pages = Vec::with_capacity(alloc, count)?;
-    for _ in 0..count {
-        pages.push([0; PAGE_SIZE])?;
-    }
-    Ok(pages)
 }
 
 /// The value of an access inside a page.

@@ -7,7 +7,8 @@ ghost use Rattle.phys_mem.specs.Segment.{with_bytes, with_text, with_segment};
 ghost use Rattle.elf_image.specs.Load.{segments_byte, in_executable, image_byte, is_executable};
 ghost use Rattle.elf_image.specs.Sound.{IsPlaced, IsSound, AreApart};
 
-use crate::page::{PAGE_SIZE, Page, TextPage, load, store, zero_pages};
+use crate::page::{PAGE_SIZE, TextPage, load, store};
+use crate::pages::Pages;
 use crate::text::{add_text, copy_pages, fetch, no_texts};
 use elf_image::{Image, Segment};
 use fsim_base::{NoMemory, RamRange, Width};
@@ -22,11 +23,11 @@ pub struct Ram {
     range: RamRange,
     /// The bytes of RAM. The first page begins at the last multiple of the page size that isn't
     /// above RAM's base.
-    pages: Vec<Page>,
+    pages: Pages,
     /// For each page its text, where it has some.
     texts: Vec<Option<Box<TextPage>>>,
-    ghost covered: { range.base + range.size ≤ 4096 * (range.base / 4096 + length pages.items) },
-    ghost paired: { length texts.items ≡ length pages.items },
+    ghost covered: { range.base + range.size ≤ 4096 * (range.base / 4096 + length pages) },
+    ghost paired: { length texts.items ≡ length pages },
 }
 
 impl Ram {
@@ -38,7 +39,7 @@ impl Ram {
     fn page_index(&self, addr: u64) -> usize
         requires inside { IsInside self.now.range addr 1 }
         ensures place { result ≡ page_of self.now.range addr }
-        ensures within { result < length self.now.pages.items }
+        ensures within { result < length self.now.pages }
     {
         (addr / PAGE_STEP - u64::from(self.range.base) / PAGE_STEP) as usize
     }
@@ -55,7 +56,7 @@ impl Ram {
         let count = ((end + PAGE_STEP - 1) / PAGE_STEP - first) as usize;
         Ok(Ram {
             range,
-            pages: zero_pages(alloc, count)?,
+            pages: Pages::new(alloc, count)?,
             texts: no_texts(alloc, count)?,
         })
     }
@@ -70,7 +71,7 @@ impl Ram {
     {
         let index = self.page_index(addr);
         store(
-            &mut self.pages[index],
+            self.pages.page_mut(index),
             addr as usize % PAGE_SIZE,
             Width::Byte,
             u32::from(byte),
@@ -178,7 +179,7 @@ impl Ram {
             return None;
         }
         let index = self.page_index(u64::from(addr));
-        Some(load(&self.pages[index], addr as usize % PAGE_SIZE, width))
+        Some(load(self.pages.page(index), addr as usize % PAGE_SIZE, width))
     }
 
     /// Stores the low bytes of a value by an aligned access, and gives the value that it replaces;
@@ -202,7 +203,7 @@ impl Ram {
             return None;
         }
         let index = self.page_index(u64::from(addr));
-        let page = &mut self.pages[index];
+        let page = self.pages.page_mut(index);
         let offset = addr as usize % PAGE_SIZE;
         let old = load(page, offset, width);
         store(page, offset, width, value);

@@ -5,6 +5,7 @@ ghost use Rattle.phys_mem.specs.Page.{marked_in, copied_in};
 ghost use Rattle.phys_mem.specs.Fetch.{all_four, fetched};
 
 use crate::page::{Marks, PAGE_SIZE, Page, TextPage, load};
+use crate::pages::Pages;
 use fsim_base::Width;
 use std::alloc::{AllocError, Global};
 
@@ -43,7 +44,7 @@ fn copy_page(text: &mut Option<Box<TextPage>>, page: &Page)
 }
 
 /// Sets the copies of the pages that have text to the pages.
-pub fn copy_pages(pages: &[Page], texts: &mut [Option<Box<TextPage>>])
+pub fn copy_pages(pages: &Pages, texts: &mut [Option<Box<TextPage>>])
     requires lengths { length texts.old ≡ length pages.now }
     ensures marks { (i : ℕ)
         → marked_in (slice_index_or texts.new i None)
@@ -54,7 +55,7 @@ pub fn copy_pages(pages: &[Page], texts: &mut [Option<Box<TextPage>>])
         ≡ slice_index (slice_index_or pages.now i []) offset }
 {
     for i in 0..pages.len() {
-        copy_page(&mut texts[i], &pages[i]);
+        copy_page(&mut texts[i], pages.page(i));
     }
 }
 

@@ -10,6 +10,6 @@ returns c =
     let ram = c.args.self.now in
     let inside = subst (IsInside ram.range c.args.addr) c.bytes.ensures.count (c.if-not-contains.ensures.inside.0 refl) in
     record {
-      value = loads ram.range ram.pages.items c.args.addr c.args.width c.page_index-index.result c.index.result.now c.load.result c.requires.aligned inside
-          record { place = c.page_index-index.ensures.place ∙ ap (page_of ram.range) c.from.ensures; within = c.page_index-index.ensures.within; there = c.index.ensures } c.load.ensures.value;
+      value = loads ram.range ram.pages c.args.addr c.args.width c.page_index-index.result c.page.result.now c.load.result c.requires.aligned inside
+          record { place = c.page_index-index.ensures.place ∙ ap (page_of ram.range) c.from.ensures; within = c.page_index-index.ensures.within; there = c.page.ensures.page } c.load.ensures.value;
     }

@@ -8,6 +8,6 @@ pub returns-clause-ram : goal.returns-clause-ram
 unfolding ram_of
 returns-clause-ram c =
     let ram = c.args.self.now in
-    memory_of-put ram.range ram.pages.items c.args.addr c.page_index-index.result c.from.result c.index_mut.result.now c.store.new.page c.requires.inside
-    record { place = c.page_index-index.ensures.place; within = c.page_index-index.ensures.within; there = c.index_mut.ensures.value } (omega arith) c.store.ensures
-    ∙ ap (λ byte. put_byte c.args.addr byte (memory_of ram.range ram.pages.items)) c.from.ensures
+    memory_of-put ram.range ram.pages c.args.addr c.page_index-index.result c.from.result c.page_mut.result.now c.store.new.page c.requires.inside
+    record { place = c.page_index-index.ensures.place; within = c.page_index-index.ensures.within; there = c.page_mut.ensures.page } (omega arith) c.store.ensures
+    ∙ ap (λ byte. put_byte c.args.addr byte (memory_of ram.range ram.pages)) c.from.ensures

@@ -1,4 +1,4 @@
-use Rattle.std.proofs.Common.{◌≡◌, ℕ, ◌∙◌, refl, ap, arith, slice_index, slice_index_or, length, List, []}
+use Rattle.std.proofs.Common.{◌≡◌, ℕ, ◌∙◌, refl, ap, arith, slice_index_or, List}
 use Rattle.std.specs.Prelude.{Option, None}
 use Rattle.std.specs.Global.{Box}
 use Rattle.phys_mem.specs.declared.page.TextPage.{TextPage}
@@ -24,10 +24,9 @@ unfolding text_of exec_of ram_of
 returns-clause-text c =
     let ram = c.args.self.now in
     ap (copies_of ram.range) (kept c)
-    ∙ copies_of-copied ram.range ram.pages.items c.copy_pages.new.texts ram.texts.items ram.covered (marks c)
+    ∙ copies_of-copied ram.range ram.pages c.copy_pages.new.texts ram.texts.items ram.covered (marks c)
     (λ k offset within marked. let there = ap (λ (l : List (Option (Box TextPage))). marked_in (slice_index_or l k None) offset) c.deref_mut.ensures.value in
-    c.copy_pages.ensures.bytes k offset (omega (arith, within, ap length c.deref.ensures.value)) (there ∙ marked)
-    ∙ ap (λ (l : List (List ℕ)). slice_index (slice_index_or l k []) offset) c.deref.ensures.value)
+    c.copy_pages.ensures.bytes k offset within (there ∙ marked))
 
 pub returns-clause-ram : goal.returns-clause-ram
 unfolding ram_of

@@ -4,7 +4,7 @@ use Rattle.phys_mem.proofs.ram.Ram.zeros.Goals as goal
 
 pub returns-clause-ram : goal.returns-clause-ram
 unfolding ram_of
-returns-clause-ram c = memory_of-zero c.args.range c.in_ok-zero_pages.field-0.items c.in_ok-zero_pages.ensures.zero
+returns-clause-ram c = memory_of-zero c.args.range c.in_ok-new.field-0 c.in_ok-new.ensures.zero
 
 pub returns-clause-exec : goal.returns-clause-exec
 unfolding exec_of
