@@ -1,5 +1,5 @@
 -- What a timing side makes of a step, by what it wants and whether its run is over.
-use Rattle.std.proofs.Common.{◌≡◌, ℕ, suc, ◌==◌, ◌&&◌, if◌then◌else◌, is_none, IfSome, Bool, true, false, Option, Some, None, List, [], ◌∷◌, length, refl, ap, sym, ◌∙◌, subst, arith}
+use Rattle.std.proofs.Common.{◌≡◌, ℕ, suc, ◌==◌, ◌&&◌, if◌then◌else◌, is_none, IfSome, IfNone, Bool, true, false, Option, Some, None, List, [], ◌∷◌, length, refl, ap, sym, ◌∙◌, subst, arith}
 use Rattle.std.proofs.lemmas.Bool.{and_parts, eqb-true}
 use Rattle.rollback_cmds.specs.declared.order.Order.{Order}
 use Rattle.trace_entry.specs.declared.Entry.{Entry}
@@ -20,16 +20,19 @@ use Rattle.timing_core.specs.Orders.{orders_in}
 use Rattle.timing_core.specs.CoreStandsFor.{CoreStandsFor}
 use Rattle.time_model.specs.declared.at.At.TheVariants as code
 use Rattle.time_model.specs.declared.state.TimeState.{TimeState}
+use Rattle.time_model.specs.declared.telling.Telling.{Telling}
 use Rattle.time_model.specs.declared.turn.Turn.{Turn}
 use Rattle.time_model.specs.declared.turn.Turn.TheVariants as turn
 use Rattle.time_model.specs.At.{at_in}
 use Rattle.time_model.specs.Standing.{TimeSideStandsFor, IsStanding, owed_in, wants_in, is_told_out, IsMade, IsStep}
-use Rattle.time_model.specs.Telling.{telling_start}
+use Rattle.time_model.specs.Telling.{telling_start, behind_first, told_behind}
+use Rattle.time_model.specs.Turns.{turn_told}
+use Rattle.time_model.specs.Running.{Steps}
 use Rattle.time_model.specs.Turning.{MayTry, IsTurned, IsTold, over_in, held_by, turned_by}
 use Rattle.time_model.proofs.Bool.{if_not}
 use Rattle.time_model.proofs.Owing.{stands_owed, stands_wants, stands_over}
 use Rattle.time_model.proofs.Numbers.{IsBehind, seen_room, seen_behind}
-use Rattle.time_model.proofs.Steps.{none_appended, due_timing}
+use Rattle.time_model.proofs.Steps.{none_appended, due_timing, told_side, step_made}
 
 -- the start of a run
 pub start_stands : (s : Setup) (core : TimingCore) → CoreStandsFor s timing_start core →
@@ -183,3 +186,19 @@ turned_due s k old new told h free on none turned tried keeps =
         ap (λ (at : At). (timing_turn s e at p.timing).timing) h.at ∙ ap (λ (os : List Order). (turned_by s e p os).timing) (sym is) ∙ due_timing s k in
         tried try ∙ ap (λ (t : Timing). held_by t p.timing old.telling.held) behind
         ∙ if_not ((place s (suc k)).run.demand.machine.counts.fetched == (place s k).run.demand.machine.counts.fetched) old.telling.held None
+
+-- and where the first of them is told, that is a step
+pub due_told : (old mid : TimeState) (orders : Orders) (told : Option Order) (behind : Telling) → wants_in old ≡ false → over_in old ≡ false →
+    ((s : Setup) (k : ℕ) → is_setup s ≡ true → TimeSideStandsFor s k old → IsTold s k old mid orders) → mid.telling.epoch ≡ old.telling.epoch → told ≡ orders.first → behind ≡ told_behind orders mid.telling →
+    Steps old (record mid { telling = behind }) (turn_told told (at_in old.at))
+due_told old mid orders told behind free on due epoch first is =
+    let turn = turn_told told (at_in old.at) in
+    λ s k sound h.
+    subst (λ (t : Telling). IsStep s k old (record mid { telling = t }) turn) (sym is)
+    (going_step s k old h (told_side mid orders) turn free on
+    (λ still. step_made s k old mid orders turn sound h still (due s k sound h) epoch (ap (λ (o : Option Order). turn_told o (at_in old.at)) first)))
+
+-- where none is told none is owed
+pub untold_free : (told first second owed : Option Order) → told ≡ first → owed ≡ behind_first first second → IfNone told (owed ≡ None)
+untold_free None first second owed told is = is ∙ ap (λ (o : Option Order). behind_first o second) (sym told)
+untold_free (Some o) first second owed told is = tt

@@ -13,12 +13,17 @@ use Rattle.timing_laws.specs.Seen.{seen_at}
 use Rattle.timing_core.specs.declared.orders.Orders.{Orders}
 use Rattle.timing_core.specs.Orders.{orders_in}
 use Rattle.timing_core.specs.CoreStandsFor.{CoreStandsFor}
+use Rattle.time_model.specs.declared.at.At as declared
 use Rattle.time_model.specs.declared.state.TimeState.{TimeState}
 use Rattle.time_model.specs.At.{at_in}
 
 -- the run is over, and all is told
 abbrev pub over_in : TimeState → Bool
 over_in side = is_none side.telling.owed && is_halted (at_in side.at)
+
+-- a side with this turn as the one that comes next, which is kept beside it while turns are made
+abbrev pub placed : declared.At → TimeState → TimeState
+placed at side = record side { at = at }
 
 -- the held entry may be tried: the window has room, and the entry follows the youngest slot
 pub record MayTry (side : TimeState) : Type 0 where

@@ -42,6 +42,7 @@ impl TimeState {
     ghost use Rattle.time_model.specs.declared.turn.Turn.TheVariants.{Ordered};
     ghost use Rattle.time_model.specs.Feeding.{holding};
     ghost use Rattle.time_model.specs.Turning.{MayTry, IsTurned, IsTold, over_in, held_by};
+    ghost use Rattle.time_model.specs.Turning.{placed};
 
     /// Before the first step of a run. All memory is taken here.
     pub fn new(alloc: Global, setup: &Setup) -> Result<TimeState, NoMemory>
@@ -115,12 +116,15 @@ impl TimeState {
         }
     }
 
-    /// Tries to fetch the instruction of the held entry, with so many tries allowed behind it.
-    fn attempt(&mut self, allowed: u32) -> Orders
+    /// Tries to fetch the instruction of the held entry, with so many tries allowed behind it. It
+    /// goes inline, as all that stores to the turn that comes next: a stride keeps that in a local
+    /// variable.
+    #[inline(always)]
+    fn attempt(&mut self, next: &mut At, allowed: u32) -> Orders
         requires tries { MayTry self.old }
         ensures made { (s : RunSetup) (t : Timing) (e : SpecEntry) → CoreStandsFor s t self.old.core
             → IsSmall t → self.old.telling.held ≡ Some e →
-            IsTurned s (timing_turn s e (trying allowed) t) self.new result }
+            IsTurned s (timing_turn s e (trying allowed) t) (placed next.new self.new) result }
         ensures held { (s : RunSetup) (t : Timing) (e : SpecEntry) → CoreStandsFor s t self.old.core
             → IsSmall t → self.old.telling.held ≡ Some e →
             self.new.telling.held
@@ -128,13 +132,12 @@ impl TimeState {
         ensures others { self.new
             ≡ record self.old {
               core = self.new.core;
-              at = self.new.at;
               telling = record self.old.telling { held = self.new.telling.held };
             } }
     {
         let entry = self.telling.held.as_ref().unwrap();
         let tried = self.core.fetch(entry);
-        self.at = self.at_after_try(tried.goes_on, allowed);
+        *next = self.at_after_try(tried.goes_on, allowed);
         if tried.appended {
             self.telling.held = None;
         }
@@ -169,52 +172,51 @@ impl TimeState {
     /// Makes the turn that comes next. A try needs that its entry is held. It goes inline wherever
     /// it is made: in a stride which turn comes next is known, and nothing of the others is left.
     #[inline(always)]
-    fn turn(&mut self) -> Orders
-        requires tries { is_try (at_in self.old.at) ≡ true → MayTry self.old }
+    fn turn(&mut self, next: &mut At) -> Orders
+        requires tries { is_try (at_in next.old) ≡ true → MayTry self.old }
         ensures made { (s : RunSetup) (t : Timing) (e : SpecEntry) → CoreStandsFor s t self.old.core
             → IsSmall t →
-            (is_try (at_in self.old.at) ≡ true → self.old.telling.held ≡ Some e)
-            → IsTurned s (timing_turn s e (at_in self.old.at) t) self.new result }
+            (is_try (at_in next.old) ≡ true → self.old.telling.held ≡ Some e)
+            → IsTurned s (timing_turn s e (at_in next.old) t) (placed next.new self.new) result }
         ensures held { (s : RunSetup) (t : Timing) (e : SpecEntry) → CoreStandsFor s t self.old.core
-            → IsSmall t → is_try (at_in self.old.at) ≡ true → self.old.telling.held ≡ Some e →
+            → IsSmall t → is_try (at_in next.old) ≡ true → self.old.telling.held ≡ Some e →
             self.new.telling.held
-            ≡ held_by (timing_turn s e (at_in self.old.at) t).timing t self.old.telling.held }
-        ensures keeps { is_try (at_in self.old.at) ≡ false
+            ≡ held_by (timing_turn s e (at_in next.old) t).timing t self.old.telling.held }
+        ensures keeps { is_try (at_in next.old) ≡ false
             → self.new.telling.held ≡ self.old.telling.held }
         ensures others { self.new
             ≡ record self.old {
               core = self.new.core;
-              at = self.new.at;
               telling = record self.old.telling { held = self.new.telling.held };
             } }
     {
-        match self.at {
+        match *next {
             At::Interrupting => {
-                self.at = At::Committing;
+                *next = At::Committing;
                 self.core.interrupt()
             }
             At::Committing => {
                 let orders = self.core.commit();
-                self.at = self.at_after_commit();
+                *next = self.at_after_commit();
                 orders
             }
             At::Completing => {
-                self.at = At::Issuing;
+                *next = At::Issuing;
                 self.core.complete()
             }
             At::Issuing => {
                 let orders = self.core.issue();
-                self.at = self.try_or_end(self.core.fetch_width());
+                *next = self.try_or_end(self.core.fetch_width());
                 orders
             }
-            At::Trying(allowed) => self.attempt(allowed),
+            At::Trying(allowed) => self.attempt(next, allowed),
             At::Ending => {
                 self.core.end_cycle();
-                self.at = self.at_after_cycle();
+                *next = self.at_after_cycle();
                 Orders::none()
             }
             At::Stopping => {
-                self.at = At::Halted;
+                *next = At::Halted;
                 Orders::one(Order::Stop {
                     n: self.core.to_commit(),
                 })
@@ -223,19 +225,38 @@ impl TimeState {
         }
     }
 
-    /// The orders that stand to be told: the owed one, or else those of the turn that comes next,
-    /// which is made.
+    /// The orders of the turn that comes next, which is made, where none is owed.
     #[inline(always)]
-    fn due(&mut self) -> Orders
-        requires standing { IsStanding self.old }
-        requires holds { wants_in self.old ≡ false }
-        requires goes { over_in self.old ≡ false }
-        ensures due { (s : RunSetup) (k : ℕ) → is_setup s ≡ true → TimeSideStandsFor s k self.old
-            → IsTold s k self.old self.new result }
+    fn turn_due(&mut self, next: &mut At) -> Orders
+        requires free { self.old.telling.owed ≡ None }
+        requires standing { IsStanding (placed next.old self.old) }
+        requires holds { wants_in (placed next.old self.old) ≡ false }
+        requires goes { over_in (placed next.old self.old) ≡ false }
+        ensures due { (s : RunSetup) (k : ℕ) → is_setup s ≡ true
+            → TimeSideStandsFor s k (placed next.old self.old)
+            → IsTold s k (placed next.old self.old) (placed next.new self.new) result }
         ensures others { self.new
             ≡ record self.old {
               core = self.new.core;
-              at = self.new.at;
+              telling = record self.old.telling { held = self.new.telling.held };
+            } }
+    {
+        self.turn(next)
+    }
+
+    /// The orders that stand to be told: the owed one, or else those of the turn that comes next,
+    /// which is made.
+    #[inline(always)]
+    fn due(&mut self, next: &mut At) -> Orders
+        requires standing { IsStanding (placed next.old self.old) }
+        requires holds { wants_in (placed next.old self.old) ≡ false }
+        requires goes { over_in (placed next.old self.old) ≡ false }
+        ensures due { (s : RunSetup) (k : ℕ) → is_setup s ≡ true
+            → TimeSideStandsFor s k (placed next.old self.old)
+            → IsTold s k (placed next.old self.old) (placed next.new self.new) result }
+        ensures others { self.new
+            ≡ record self.old {
+              core = self.new.core;
               telling = record self.old.telling { owed = None; held = self.new.telling.held };
             } }
     {
@@ -244,35 +265,75 @@ impl TimeState {
                 self.telling.owed = None;
                 Orders::one(order)
             }
-            None => self.turn(),
+            None => self.turn_due(next),
         }
     }
 
     /// Tells the order that is owed, or else makes the turn that comes next and tells its first.
     #[inline(always)]
-    fn tell_due(&mut self) -> Option<Order>
-        requires standing { IsStanding self.old }
-        requires holds { wants_in self.old ≡ false }
-        requires goes { over_in self.old ≡ false }
-        ensures made { Steps self.old self.new (turn_told result (at_in self.old.at)) }
-        ensures standing { IsStanding self.new }
+    fn tell_due(&mut self, next: &mut At) -> Option<Order>
+        requires standing { IsStanding (placed next.old self.old) }
+        requires holds { wants_in (placed next.old self.old) ≡ false }
+        requires goes { over_in (placed next.old self.old) ≡ false }
+        ensures made { Steps (placed next.old self.old) (placed next.new self.new)
+            (turn_told result (at_in next.old)) }
+        ensures standing { IsStanding (placed next.new self.new) }
     {
-        let orders = self.due();
+        let orders = self.due(next);
         self.telling.tell(orders)
     }
 
-    /// The same where this turn comes next, which is no try, and else nothing.
+    /// Makes the turn that comes next and tells its first order, where it is this one, which is no
+    /// try; and else nothing. Nothing is owed before it, and behind it only where it tells one.
     #[inline(always)]
     #[tactic(auto, unfolding(crate::specs::Standing::wants_in))]
-    fn stride_over(&mut self, at: At) -> Option<Order>
-        requires standing { IsStanding self.old }
+    fn stride_over(&mut self, next: &mut At, at: At) -> Option<Order>
+        requires free { self.old.telling.owed ≡ None }
+        requires standing { IsStanding (placed next.old self.old) }
         requires holds { is_try (at_in at) ≡ false }
         requires goes { is_halted (at_in at) ≡ false }
-        ensures told { IfSome result (λ order. IsRun Steps self.old self.new (Ordered order)) }
-        ensures untold { IfNone result (IsSilent Steps self.old self.new) }
-        ensures standing { IsStanding self.new }
+        ensures told { IfSome result (λ order. IsRun Steps (placed next.old self.old)
+            (placed next.new self.new) (Ordered order)) }
+        ensures untold { IfNone result
+            (IsSilent Steps (placed next.old self.old) (placed next.new self.new)) }
+        ensures free { IfNone result (self.new.telling.owed ≡ None) }
+        ensures standing { IsStanding (placed next.new self.new) }
     {
-        if self.at == at { self.tell_due() } else { None }
+        if *next == at {
+            let orders = self.turn_due(next);
+            self.telling.tell(orders)
+        } else {
+            None
+        }
+    }
+
+    /// Makes the turns of a stride, where nothing is owed, up to the first that tells an order.
+    #[inline(always)]
+    fn stride_from(&mut self, next: &mut At) -> Option<Order>
+        requires free { self.old.telling.owed ≡ None }
+        requires standing { IsStanding (placed next.old self.old) }
+        ensures told { IfSome result (λ order. IsRun Steps (placed next.old self.old)
+            (placed next.new self.new) (Ordered order)) }
+        ensures untold { IfNone result
+            (IsSilent Steps (placed next.old self.old) (placed next.new self.new)) }
+        ensures standing { IsStanding (placed next.new self.new) }
+    {
+        if let Some(order) = self.stride_over(next, At::Ending) {
+            return Some(order);
+        }
+        if let Some(order) = self.stride_over(next, At::Interrupting) {
+            return Some(order);
+        }
+        if let Some(order) = self.stride_over(next, At::Committing) {
+            return Some(order);
+        }
+        if let Some(order) = self.stride_over(next, At::Completing) {
+            return Some(order);
+        }
+        if let Some(order) = self.stride_over(next, At::Issuing) {
+            return Some(order);
+        }
+        None
     }
 
     /// Makes the try that comes next with the entry that it needs, as if that were held; and tells
@@ -334,27 +395,23 @@ impl Stepping for TimeState {
     // It stays a call: a stride makes most turns, and inline they would all stand there once more.
     #[inline(never)]
     fn advance(&mut self) -> Option<Order> {
-        self.tell_due()
+        let mut next = self.at;
+        let told = self.tell_due(&mut next);
+        self.at = next;
+        told
     }
 
+    // The turn that comes next is kept in a local variable, and stored once.
     #[inline(always)]
+    #[tactic(auto, unfolding(crate::specs::Standing::wants_in))]
     fn stride(&mut self) -> Option<Order> {
-        if let Some(order) = self.stride_over(At::Ending) {
-            return Some(order);
+        if self.telling.owed.is_some() {
+            return self.advance();
         }
-        if let Some(order) = self.stride_over(At::Interrupting) {
-            return Some(order);
-        }
-        if let Some(order) = self.stride_over(At::Committing) {
-            return Some(order);
-        }
-        if let Some(order) = self.stride_over(At::Completing) {
-            return Some(order);
-        }
-        if let Some(order) = self.stride_over(At::Issuing) {
-            return Some(order);
-        }
-        None
+        let mut next = self.at;
+        let told = self.stride_from(&mut next);
+        self.at = next;
+        told
     }
 
     #[inline(always)]
