@@ -307,35 +307,6 @@ impl TimeState {
         }
     }
 
-    /// Makes the turns of a stride, where nothing is owed, up to the first that tells an order.
-    #[inline(always)]
-    fn stride_from(&mut self, next: &mut At) -> Option<Order>
-        requires free { self.old.telling.owed ≡ None }
-        requires standing { IsStanding (placed next.old self.old) }
-        ensures told { IfSome result (λ order. IsRun Steps (placed next.old self.old)
-            (placed next.new self.new) (Ordered order)) }
-        ensures untold { IfNone result
-            (IsSilent Steps (placed next.old self.old) (placed next.new self.new)) }
-        ensures standing { IsStanding (placed next.new self.new) }
-    {
-        if let Some(order) = self.stride_over(next, At::Ending) {
-            return Some(order);
-        }
-        if let Some(order) = self.stride_over(next, At::Interrupting) {
-            return Some(order);
-        }
-        if let Some(order) = self.stride_over(next, At::Committing) {
-            return Some(order);
-        }
-        if let Some(order) = self.stride_over(next, At::Completing) {
-            return Some(order);
-        }
-        if let Some(order) = self.stride_over(next, At::Issuing) {
-            return Some(order);
-        }
-        None
-    }
-
     /// Makes the try that comes next with the entry that it needs, as if that were held; and tells
     /// that the step behind it wants an entry where it does.
     #[inline(always)]
@@ -401,7 +372,8 @@ impl Stepping for TimeState {
         told
     }
 
-    // The turn that comes next is kept in a local variable, and stored once.
+    // The turn that comes next is kept in a local variable, and stored where the stride ends: in
+    // each place by itself, since in one behind them all the compiler keeps less in registers.
     #[inline(always)]
     #[tactic(auto, unfolding(crate::specs::Standing::wants_in))]
     fn stride(&mut self) -> Option<Order> {
@@ -409,9 +381,28 @@ impl Stepping for TimeState {
             return self.advance();
         }
         let mut next = self.at;
-        let told = self.stride_from(&mut next);
+        if let Some(order) = self.stride_over(&mut next, At::Ending) {
+            self.at = next;
+            return Some(order);
+        }
+        if let Some(order) = self.stride_over(&mut next, At::Interrupting) {
+            self.at = next;
+            return Some(order);
+        }
+        if let Some(order) = self.stride_over(&mut next, At::Committing) {
+            self.at = next;
+            return Some(order);
+        }
+        if let Some(order) = self.stride_over(&mut next, At::Completing) {
+            self.at = next;
+            return Some(order);
+        }
+        if let Some(order) = self.stride_over(&mut next, At::Issuing) {
+            self.at = next;
+            return Some(order);
+        }
         self.at = next;
-        told
+        None
     }
 
     #[inline(always)]
