@@ -117,9 +117,8 @@ impl TimeState {
     }
 
     /// Tries to fetch the instruction of the held entry, with so many tries allowed behind it. It
-    /// goes inline, as all that stores to the turn that comes next: a stride keeps that in a local
-    /// variable.
-    #[inline(always)]
+    /// stays a call: no stride makes a try, and a turn with it would be too large to go inline.
+    #[inline(never)]
     fn attempt(&mut self, next: &mut At, allowed: u32) -> Orders
         requires tries { MayTry self.old }
         ensures made { (s : RunSetup) (t : Timing) (e : SpecEntry) → CoreStandsFor s t self.old.core
