@@ -4,6 +4,7 @@ pub mod Numbers
 pub mod Bounded
 pub mod Small
 pub mod Steps
+pub mod Striding
 pub mod Sides
 pub mod Turns
 pub mod NextNumber

@@ -4,7 +4,7 @@ use Rattle.rollback_cmds.specs.declared.order.Order.{Order}
 use Rattle.trace_entry.specs.declared.Entry.{Entry}
 use Rattle.reorder_buffer.specs.Window.{youngest}
 use Rattle.mono_model.specs.declared.setup.Setup.{Setup}
-use Rattle.mono_model.specs.Demand.{place, needed_entry}
+use Rattle.mono_model.specs.Demand.{At, place, needed_entry}
 use Rattle.mono_model.specs.Split.{is_halted, has_appended}
 use Rattle.timing_side.specs.Timing.{Timing}
 use Rattle.timing_side.specs.Turn.{Turned, timing_turn}
@@ -12,6 +12,7 @@ use Rattle.timing_side.specs.Step.{TimingPlace}
 use Rattle.timing_laws.specs.Seen.{seen_at}
 use Rattle.timing_core.specs.declared.orders.Orders.{Orders}
 use Rattle.timing_core.specs.Orders.{orders_in}
+use Rattle.timing_core.specs.Small.{IsSmall}
 use Rattle.timing_core.specs.CoreStandsFor.{CoreStandsFor}
 use Rattle.time_model.specs.declared.at.At as declared
 use Rattle.time_model.specs.declared.state.TimeState.{TimeState}
@@ -37,6 +38,12 @@ pub record IsTurned (s : Setup) (made : Turned) (side : TimeState) (told : Order
   pub core : CoreStandsFor s made.timing side.core
   pub at : at_in side.at ≡ made.at
   pub orders : orders_in told ≡ made.orders
+
+-- A phase of a cycle, or its end: with an entry that it doesn't look at, it makes the core and tells as the turn of the
+-- timing machine does, and leaves the rest as it was.
+pub record IsPhase (at : At) (old : TimeState) (next : declared.At) (new : TimeState) (told : Orders) : Type 0 where
+  pub made : (s : Setup) (t : Timing) (e : Entry) → CoreStandsFor s t old.core → IsSmall t → IsTurned s (timing_turn s e at t) (placed next new) told
+  pub others : new ≡ record old { core = new.core }
 
 -- the held entry behind a try: spent where an instruction was appended
 abbrev pub held_by : Timing → Timing → Option Entry → Option Entry

@@ -29,6 +29,7 @@ impl TimeState {
     ghost use Rattle.trace_entry.specs.declared.Entry.{Entry as SpecEntry};
     ghost use Rattle.mono_model.specs.Setup.{is_setup};
     ghost use Rattle.mono_model.specs.Demand.{is_try, trying, ending};
+    ghost use Rattle.mono_model.specs.Demand.{interrupting, committing, completing, issuing};
     ghost use Rattle.mono_model.specs.Split.{is_cycle_start, is_halted};
     ghost use Rattle.timing_side.specs.Timing.{Timing};
     ghost use Rattle.timing_side.specs.Turn.{timing_turn, try_or_end, at_after_commit};
@@ -38,10 +39,9 @@ impl TimeState {
     ghost use Rattle.time_model.specs.At.{at_in};
     ghost use Rattle.time_model.specs.Standing.{TimeSideStandsFor, IsStanding, wants_in};
     ghost use Rattle.time_model.specs.Turns.{turn_told};
-    ghost use Rattle.time_model.specs.Running.{IsRun, IsSilent, Steps};
-    ghost use Rattle.time_model.specs.declared.turn.Turn.TheVariants.{Ordered};
+    ghost use Rattle.time_model.specs.Running.{IsRun, Steps, IsStridden};
     ghost use Rattle.time_model.specs.Feeding.{holding};
-    ghost use Rattle.time_model.specs.Turning.{MayTry, IsTurned, IsTold, over_in, held_by};
+    ghost use Rattle.time_model.specs.Turning.{MayTry, IsPhase, IsTurned, IsTold, over_in, held_by};
     ghost use Rattle.time_model.specs.Turning.{placed};
 
     /// Before the first step of a run. All memory is taken here.
@@ -168,8 +168,55 @@ impl TimeState {
         tried.orders
     }
 
-    /// Makes the turn that comes next. A try needs that its entry is held. It goes inline wherever
-    /// it is made: in a stride which turn comes next is known, and nothing of the others is left.
+    /// The first phase of a cycle, and what comes behind it.
+    #[inline(always)]
+    fn interrupting(&mut self, next: &mut At) -> Orders
+        ensures made { IsPhase interrupting self.old next.new self.new result }
+    {
+        *next = At::Committing;
+        self.core.interrupt()
+    }
+
+    /// The second phase, and what comes behind it.
+    #[inline(always)]
+    fn committing(&mut self, next: &mut At) -> Orders
+        ensures made { IsPhase committing self.old next.new self.new result }
+    {
+        let orders = self.core.commit();
+        *next = self.at_after_commit();
+        orders
+    }
+
+    /// The third phase, and what comes behind it.
+    #[inline(always)]
+    fn completing(&mut self, next: &mut At) -> Orders
+        ensures made { IsPhase completing self.old next.new self.new result }
+    {
+        *next = At::Issuing;
+        self.core.complete()
+    }
+
+    /// The fourth phase, and what comes behind it.
+    #[inline(always)]
+    fn issuing(&mut self, next: &mut At) -> Orders
+        ensures made { IsPhase issuing self.old next.new self.new result }
+    {
+        let orders = self.core.issue();
+        *next = self.try_or_end(self.core.fetch_width());
+        orders
+    }
+
+    /// The end of a cycle, and what comes behind it.
+    #[inline(always)]
+    fn ending(&mut self, next: &mut At) -> Orders
+        ensures made { IsPhase ending self.old next.new self.new result }
+    {
+        self.core.end_cycle();
+        *next = self.at_after_cycle();
+        Orders::none()
+    }
+
+    /// Makes the turn that comes next. A try needs that its entry is held.
     #[inline(always)]
     fn turn(&mut self, next: &mut At) -> Orders
         requires tries { is_try (at_in next.old) ≡ true → MayTry self.old }
@@ -190,30 +237,12 @@ impl TimeState {
             } }
     {
         match *next {
-            At::Interrupting => {
-                *next = At::Committing;
-                self.core.interrupt()
-            }
-            At::Committing => {
-                let orders = self.core.commit();
-                *next = self.at_after_commit();
-                orders
-            }
-            At::Completing => {
-                *next = At::Issuing;
-                self.core.complete()
-            }
-            At::Issuing => {
-                let orders = self.core.issue();
-                *next = self.try_or_end(self.core.fetch_width());
-                orders
-            }
+            At::Interrupting => self.interrupting(next),
+            At::Committing => self.committing(next),
+            At::Completing => self.completing(next),
+            At::Issuing => self.issuing(next),
             At::Trying(allowed) => self.attempt(next, allowed),
-            At::Ending => {
-                self.core.end_cycle();
-                *next = self.at_after_cycle();
-                Orders::none()
-            }
+            At::Ending => self.ending(next),
             At::Stopping => {
                 *next = At::Halted;
                 Orders::one(Order::Stop {
@@ -282,24 +311,75 @@ impl TimeState {
         self.telling.tell(orders)
     }
 
-    /// Makes the turn that comes next and tells its first order, where it is this one, which is no
-    /// try; and else nothing. Nothing is owed before it, and behind it only where it tells one.
+    /// The end of a cycle, where that comes next, with its first order told; and else nothing.
     #[inline(always)]
-    #[tactic(auto, unfolding(crate::specs::Standing::wants_in))]
-    fn stride_over(&mut self, next: &mut At, at: At) -> Option<Order>
+    fn over_ending(&mut self, next: &mut At) -> Option<Order>
         requires free { self.old.telling.owed ≡ None }
         requires standing { IsStanding (placed next.old self.old) }
-        requires holds { is_try (at_in at) ≡ false }
-        requires goes { is_halted (at_in at) ≡ false }
-        ensures told { IfSome result (λ order. IsRun Steps (placed next.old self.old)
-            (placed next.new self.new) (Ordered order)) }
-        ensures untold { IfNone result
-            (IsSilent Steps (placed next.old self.old) (placed next.new self.new)) }
-        ensures free { IfNone result (self.new.telling.owed ≡ None) }
-        ensures standing { IsStanding (placed next.new self.new) }
+        ensures strode { IsStridden (placed next.old self.old) (placed next.new self.new) result }
     {
-        if *next == at {
-            let orders = self.turn_due(next);
+        if *next == At::Ending {
+            let orders = self.ending(next);
+            self.telling.tell(orders)
+        } else {
+            None
+        }
+    }
+
+    /// The first phase, where that comes next, with its first order told; and else nothing.
+    #[inline(always)]
+    fn over_interrupting(&mut self, next: &mut At) -> Option<Order>
+        requires free { self.old.telling.owed ≡ None }
+        requires standing { IsStanding (placed next.old self.old) }
+        ensures strode { IsStridden (placed next.old self.old) (placed next.new self.new) result }
+    {
+        if *next == At::Interrupting {
+            let orders = self.interrupting(next);
+            self.telling.tell(orders)
+        } else {
+            None
+        }
+    }
+
+    /// The second phase, where that comes next, with its first order told; and else nothing.
+    #[inline(always)]
+    fn over_committing(&mut self, next: &mut At) -> Option<Order>
+        requires free { self.old.telling.owed ≡ None }
+        requires standing { IsStanding (placed next.old self.old) }
+        ensures strode { IsStridden (placed next.old self.old) (placed next.new self.new) result }
+    {
+        if *next == At::Committing {
+            let orders = self.committing(next);
+            self.telling.tell(orders)
+        } else {
+            None
+        }
+    }
+
+    /// The third phase, where that comes next, with its first order told; and else nothing.
+    #[inline(always)]
+    fn over_completing(&mut self, next: &mut At) -> Option<Order>
+        requires free { self.old.telling.owed ≡ None }
+        requires standing { IsStanding (placed next.old self.old) }
+        ensures strode { IsStridden (placed next.old self.old) (placed next.new self.new) result }
+    {
+        if *next == At::Completing {
+            let orders = self.completing(next);
+            self.telling.tell(orders)
+        } else {
+            None
+        }
+    }
+
+    /// The fourth phase, where that comes next, with its first order told; and else nothing.
+    #[inline(always)]
+    fn over_issuing(&mut self, next: &mut At) -> Option<Order>
+        requires free { self.old.telling.owed ≡ None }
+        requires standing { IsStanding (placed next.old self.old) }
+        ensures strode { IsStridden (placed next.old self.old) (placed next.new self.new) result }
+    {
+        if *next == At::Issuing {
+            let orders = self.issuing(next);
             self.telling.tell(orders)
         } else {
             None
@@ -380,23 +460,23 @@ impl Stepping for TimeState {
             return self.advance();
         }
         let mut next = self.at;
-        if let Some(order) = self.stride_over(&mut next, At::Ending) {
+        if let Some(order) = self.over_ending(&mut next) {
             self.at = next;
             return Some(order);
         }
-        if let Some(order) = self.stride_over(&mut next, At::Interrupting) {
+        if let Some(order) = self.over_interrupting(&mut next) {
             self.at = next;
             return Some(order);
         }
-        if let Some(order) = self.stride_over(&mut next, At::Committing) {
+        if let Some(order) = self.over_committing(&mut next) {
             self.at = next;
             return Some(order);
         }
-        if let Some(order) = self.stride_over(&mut next, At::Completing) {
+        if let Some(order) = self.over_completing(&mut next) {
             self.at = next;
             return Some(order);
         }
-        if let Some(order) = self.stride_over(&mut next, At::Issuing) {
+        if let Some(order) = self.over_issuing(&mut next) {
             self.at = next;
             return Some(order);
         }

@@ -10,24 +10,24 @@ returns-then-is_some-clause-told c = step_told Steps c.args.self.now c.advance.n
 pub returns-then-is_some-clause-untold : goal.returns-then-is_some-clause-untold
 returns-then-is_some-clause-untold c = step_untold Steps c.args.self.now c.advance.new.self c.advance.result (is_ending (at_in c.args.self.now.at)) c.advance.ensures.made
 
-pub returns-in-Some-stride_over-clause-told : goal.returns-in-Some-stride_over-clause-told
-returns-in-Some-stride_over-clause-told c = run_on Steps c.in_default.ensures.untold c.in-Some-stride_over.ensures.told
+pub returns-in-Some-over_interrupting-clause-told : goal.returns-in-Some-over_interrupting-clause-told
+returns-in-Some-over_interrupting-clause-told c = run_on Steps c.in_default.ensures.strode.silent c.in-Some-over_interrupting.ensures.strode.ordered
 
-pub returns-in-Some-stride_over-2-clause-told : goal.returns-in-Some-stride_over-2-clause-told
-returns-in-Some-stride_over-2-clause-told c = run_on Steps c.in_default.ensures.untold (run_on Steps c.in_default-stride_over.ensures.untold c.in-Some-stride_over-2.ensures.told)
+pub returns-in-Some-over_committing-clause-told : goal.returns-in-Some-over_committing-clause-told
+returns-in-Some-over_committing-clause-told c = run_on Steps c.in_default.ensures.strode.silent (run_on Steps c.in_default-over_interrupting.ensures.strode.silent c.in-Some-over_committing.ensures.strode.ordered)
 
-pub returns-in-Some-stride_over-3-clause-told : goal.returns-in-Some-stride_over-3-clause-told
-returns-in-Some-stride_over-3-clause-told c =
-    run_on Steps c.in_default.ensures.untold (run_on Steps c.in_default-stride_over.ensures.untold (run_on Steps c.in_default-stride_over-2.ensures.untold c.in-Some-stride_over-3.ensures.told))
+pub returns-in-Some-over_completing-clause-told : goal.returns-in-Some-over_completing-clause-told
+returns-in-Some-over_completing-clause-told c =
+    run_on Steps c.in_default.ensures.strode.silent (run_on Steps c.in_default-over_interrupting.ensures.strode.silent (run_on Steps c.in_default-over_committing.ensures.strode.silent c.in-Some-over_completing.ensures.strode.ordered))
 
-pub returns-in-Some-stride_over-4-clause-told : goal.returns-in-Some-stride_over-4-clause-told
-returns-in-Some-stride_over-4-clause-told c =
-    run_on Steps c.in_default.ensures.untold
-    (run_on Steps c.in_default-stride_over.ensures.untold
-    (run_on Steps c.in_default-stride_over-2.ensures.untold (run_on Steps c.in_default-stride_over-3.ensures.untold c.in-Some-stride_over-4.ensures.told)))
+pub returns-in-Some-over_issuing-clause-told : goal.returns-in-Some-over_issuing-clause-told
+returns-in-Some-over_issuing-clause-told c =
+    run_on Steps c.in_default.ensures.strode.silent
+    (run_on Steps c.in_default-over_interrupting.ensures.strode.silent
+    (run_on Steps c.in_default-over_committing.ensures.strode.silent (run_on Steps c.in_default-over_completing.ensures.strode.silent c.in-Some-over_issuing.ensures.strode.ordered)))
 
 pub returns-clause-untold : goal.returns-clause-untold
 returns-clause-untold c =
-    silent_on Steps c.in_default.ensures.untold
-    (silent_on Steps c.in_default-stride_over.ensures.untold
-    (silent_on Steps c.in_default-stride_over-2.ensures.untold (silent_on Steps c.in_default-stride_over-3.ensures.untold c.in_default-stride_over-4.ensures.untold)))
+    silent_on Steps c.in_default.ensures.strode.silent
+    (silent_on Steps c.in_default-over_interrupting.ensures.strode.silent
+    (silent_on Steps c.in_default-over_committing.ensures.strode.silent (silent_on Steps c.in_default-over_completing.ensures.strode.silent c.in_default-over_issuing.ensures.strode.silent)))

@@ -1,0 +1,12 @@
+use Rattle.std.proofs.Common.{refl}
+use Rattle.timing_side.specs.Turn.{timing_turn}
+use Rattle.time_model.proofs.state.TimeState.completing.Goals as goal
+
+pub returns : goal.returns
+unfolding timing_turn
+returns c = record {
+  made = record {
+    made = λ s t e h small. record { core = c.complete.ensures.kept s t h small; at = refl; orders = c.complete.ensures.orders s t h small };
+    others = refl;
+  };
+}
