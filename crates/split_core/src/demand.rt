@@ -84,10 +84,11 @@ impl<D: Device, T: Timing> SplitState<D, T> {
         requires clear { IsClear self.old }
         ensures plays { Plays T.timed self.old self.new }
     {
+        let mut entry = Entry::BLANK;
         for _ in 0..self.steps {
             match self.play_turn() {
                 Turn::Halted => return,
-                Turn::Want => self.hand_over_wanted(),
+                Turn::Want => self.hand_over_wanted(&mut entry),
                 Turn::Moved | Turn::CycleEnd | Turn::Ordered(_) => {}
             }
         }
@@ -106,16 +107,16 @@ impl<D: Device, T: Timing> SplitState<D, T> {
         turn
     }
 
-    /// Hands over one entry after the other, as long as the timing side wants the next one.
-    fn hand_over_wanted(&mut self)
+    /// Hands over one entry after the other, each written over the one before it, as long as the
+    /// timing side wants the next one.
+    fn hand_over_wanted(&mut self, entry: &mut Entry)
         requires standing { IsStandingOn T.timed self.old }
         requires clear { IsClear self.old }
         ensures plays { Plays T.timed self.old self.new }
         ensures clear { IsClear self.new }
     {
-        let mut entry = Entry::BLANK;
         for _ in 0..self.steps {
-            if self.hand_over(&mut entry) != Turn::Want {
+            if self.hand_over(entry) != Turn::Want {
                 return;
             }
         }
