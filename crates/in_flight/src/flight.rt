@@ -1,4 +1,4 @@
-use crate::dividing::{divisions_from, forget_division, note_division};
+use crate::dividing::{divisions_cut, forget_division, note_division};
 use crate::queueing::{finish_store, pop_oldest, put_store};
 use crate::reading::slot_at;
 use crate::registers::Registers;
@@ -163,7 +163,7 @@ impl InFlight {
         }
         let (_, slot) = slot_at(&self.window, place);
         let number = slot.number;
-        self.dividing -= divisions_from(&self.window, place);
+        self.dividing -= divisions_cut(&self.window, place, self.dividing);
         self.stations.keep(place);
         self.stores.cut_from(number);
         self.window.cut_from(number)

@@ -22,7 +22,7 @@ invariant_of-self c =
       stations_are = c.keep.ensures.kept ∙ ap front_stations c.self.invariant.stations_are
           ∙ ap (λ held. let now : Window = record { capacity = window.capacity; stations = held } in now) (take-map (station_in window.capacity) c.args.place window.slots);
       stores_are = c.cut_from.ensures.kept ∙ ap below c.self.invariant.stores_are ∙ ap (λ held. let now : Stores = record { capacity = window.capacity; stores = held } in now) stores;
-      dividing_is = omega (arith, c.self.invariant.dividing_is, c.divisions_from.ensures.divisions);
+      dividing_is = omega (arith, c.self.invariant.dividing_is, c.divisions_cut.ensures.divisions);
     })
 
 pub returns-clause-kept : goal.returns-clause-kept
