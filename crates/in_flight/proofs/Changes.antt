@@ -6,7 +6,7 @@ use Rattle.fsim_base.specs.declared.cause.Cause.{Cause}
 use Rattle.reorder_buffer.specs.declared.slot.Slot.{Slot}
 use Rattle.reorder_buffer.specs.declared.slot.SlotState.{SlotState}
 use Rattle.reorder_buffer.specs.declared.slot.SlotState.TheVariants.{Waiting, Until, Done}
-use Rattle.reorder_buffer.specs.Window.{Contents, HasOwnIndices, index_of}
+use Rattle.reorder_buffer.specs.Window.{Contents, HasOwnPositions, room_of, position_of}
 use Rattle.reservation_stations.specs.declared.station.Mark.{Mark}
 use Rattle.reservation_stations.specs.declared.station.Mark.TheVariants as mark
 use Rattle.reservation_stations.specs.declared.station.Station.{Station}
@@ -26,18 +26,18 @@ waiting_undivided : (slot : Slot) → slot.state ≡ Waiting → division slot �
 waiting_undivided slot waiting = rw (waiting, waits_undivided slot.class) refl
 
 -- a mark on the station of a slot
-marked_stations : (window : Contents) (stations : Window) (m : Mark) (place : ℕ) (slot new : Slot) → stations ≡ stations_of window.capacity window.slots
-    → HasOwnIndices window.capacity window.slots → slice_get window.slots place ≡ Some slot → station_in window.capacity new ≡ record (station_in window.capacity slot) { mark = m }
-    → record stations { stations = marked (index_of window.capacity slot.number) m stations.stations } ≡ stations_of window.capacity (slice_set window.slots place new)
+marked_stations : (window : Contents) (stations : Window) (m : Mark) (place : ℕ) (slot new : Slot) → stations ≡ stations_of (room_of window.capacity) window.slots
+    → HasOwnPositions (room_of window.capacity) window.slots → slice_get window.slots place ≡ Some slot → station_in (room_of window.capacity) new ≡ record (station_in (room_of window.capacity) slot) { mark = m }
+    → record stations { stations = marked (position_of (room_of window.capacity) slot.number) m stations.stations } ≡ stations_of (room_of window.capacity) (slice_set window.slots place new)
 marked_stations window stations m place slot new are apart here is =
-    ap (λ (w : Window). let now : Window = record w { stations = marked (index_of window.capacity slot.number) m w.stations } in now) are
-    ∙ ap (λ held. let now : Window = record { capacity = window.capacity; stations = held } in now) (marks_at window.capacity m window.slots place slot new apart here is)
+    ap (λ (w : Window). let now : Window = record w { stations = marked (position_of (room_of window.capacity) slot.number) m w.stations } in now) are
+    ∙ ap (λ held. let now : Window = record { capacity = room_of window.capacity; stations = held } in now) (marks_at (room_of window.capacity) m window.slots place slot new apart here is)
 
-pub waits_at : (window : Contents) (stations : Window) (place : ℕ) (slot : Slot) → stations ≡ stations_of window.capacity window.slots
-    → HasOwnIndices window.capacity window.slots → slice_get window.slots place ≡ Some slot → slot.state ≡ Waiting
-    → mark_of (index_of window.capacity slot.number) stations.stations ≡ Some mark.Waiting
+pub waits_at : (window : Contents) (stations : Window) (place : ℕ) (slot : Slot) → stations ≡ stations_of (room_of window.capacity) window.slots
+    → HasOwnPositions (room_of window.capacity) window.slots → slice_get window.slots place ≡ Some slot → slot.state ≡ Waiting
+    → mark_of (position_of (room_of window.capacity) slot.number) stations.stations ≡ Some mark.Waiting
 waits_at window stations place slot are apart here waiting =
-    ap (λ (w : Window). mark_of (index_of window.capacity slot.number) w.stations) are ∙ mark_at window.capacity window.slots place slot apart here
+    ap (λ (w : Window). mark_of (position_of (room_of window.capacity) slot.number) w.stations) are ∙ mark_at (room_of window.capacity) window.slots place slot apart here
     ∙ ap (λ state. Some (mark_in state slot.cause)) waiting
 
 issued_mark : (state : SlotState) (cause : Option Cause) → IsExecuting state → mark_in state cause ≡ mark.Issued
@@ -45,18 +45,18 @@ issued_mark Waiting cause executing = absurd executing
 issued_mark (Until cycle) cause executing = refl
 issued_mark Done cause executing = absurd executing
 
-pub executes_at : (window : Contents) (stations : Window) (place : ℕ) (slot : Slot) → stations ≡ stations_of window.capacity window.slots
-    → HasOwnIndices window.capacity window.slots → slice_get window.slots place ≡ Some slot → IsExecuting slot.state
-    → mark_of (index_of window.capacity slot.number) stations.stations ≡ Some mark.Issued
+pub executes_at : (window : Contents) (stations : Window) (place : ℕ) (slot : Slot) → stations ≡ stations_of (room_of window.capacity) window.slots
+    → HasOwnPositions (room_of window.capacity) window.slots → slice_get window.slots place ≡ Some slot → IsExecuting slot.state
+    → mark_of (position_of (room_of window.capacity) slot.number) stations.stations ≡ Some mark.Issued
 executes_at window stations place slot are apart here executing =
-    ap (λ (w : Window). mark_of (index_of window.capacity slot.number) w.stations) are ∙ mark_at window.capacity window.slots place slot apart here
+    ap (λ (w : Window). mark_of (position_of (room_of window.capacity) slot.number) w.stations) are ∙ mark_at (room_of window.capacity) window.slots place slot apart here
     ∙ ap Some (issued_mark slot.state slot.cause executing)
 
 -- it begins to execute
 pub begun_keeps : (window : Contents) (stations : Window) (stores : Stores) (dividing place until : ℕ) (slot : Slot) → IsInStep window stations stores dividing
-    → HasOwnIndices window.capacity window.slots → slice_get window.slots place ≡ Some slot → slot.state ≡ Waiting
+    → HasOwnPositions (room_of window.capacity) window.slots → slice_get window.slots place ≡ Some slot → slot.state ≡ Waiting
     → IsInStep (record window { slots = slice_set window.slots place (record slot { state = Until until }) })
-    (record stations { stations = marked (index_of window.capacity slot.number) mark.Issued stations.stations })
+    (record stations { stations = marked (position_of (room_of window.capacity) slot.number) mark.Issued stations.stations })
     stores
     (dividing + division (record slot { state = Until until }))
 begun_keeps window stations stores dividing place until slot step apart here waiting =
@@ -75,10 +75,10 @@ woken_mark None = refl
 woken_mark (Some cause) = refl
 
 pub finished_keeps : (window : Contents) (stations : Window) (stores queued : Stores) (dividing place : ℕ) (slot : Slot) → IsInStep window stations stores dividing
-    → HasOwnIndices window.capacity window.slots → slice_get window.slots place ≡ Some slot
+    → HasOwnPositions (room_of window.capacity) window.slots → slice_get window.slots place ≡ Some slot
     → queued ≡ queue_of window.capacity (slice_set window.slots place (record slot { state = Done }))
     → IsInStep (record window { slots = slice_set window.slots place (record slot { state = Done }) })
-    (record stations { stations = marked (index_of window.capacity slot.number) (if is_some slot.cause then mark.Faulted else mark.Done) stations.stations })
+    (record stations { stations = marked (position_of (room_of window.capacity) slot.number) (if is_some slot.cause then mark.Faulted else mark.Done) stations.stations })
     queued
     (dividing - division slot)
 finished_keeps window stations stores queued dividing place slot step apart here is =
@@ -89,22 +89,22 @@ finished_keeps window stations stores queued dividing place slot step apart here
       limit = step.limit;
       stations_are =
           marked_stations window stations faulted place slot new step.stations_are apart here
-          (ap (λ m. let station : Station = record (station_in window.capacity slot) { mark = m } in station) (sym (woken_mark slot.cause)));
+          (ap (λ m. let station : Station = record (station_in (room_of window.capacity) slot) { mark = m } in station) (sym (woken_mark slot.cause)));
       stores_are = is;
       dividing_is = omega (arith, step.dividing_is, divisions-set window.slots place slot new here, gone);
     }
 
 -- one more comes
-pub appended_keeps : (window : Contents) (stations : Window) (stores queued : Stores) (dividing index : ℕ) (registers : Registers) (slot : Slot)
-    → IsInStep window stations stores dividing → slot.state ≡ Waiting → index ≡ index_of window.capacity slot.number
+pub appended_keeps : (window : Contents) (stations : Window) (stores queued : Stores) (dividing position : ℕ) (registers : Registers) (slot : Slot)
+    → IsInStep window stations stores dividing → slot.state ≡ Waiting → position ≡ position_of (room_of window.capacity) slot.number
     → registers ≡ registers_of slot.word
     → queued ≡ queue_of window.capacity (window.slots ++ slot ∷ [])
     → IsInStep (record window { slots = window.slots ++ slot ∷ [] })
-    (record stations { stations = stations.stations ++ entered index registers.sources.0 registers.sources.1 registers.destination ∷ [] })
+    (record stations { stations = stations.stations ++ entered position registers.sources.0 registers.sources.1 registers.destination ∷ [] })
     queued
     dividing
-appended_keeps window stations stores queued dividing index registers slot step waiting at own is =
-    let entry : entered index registers.sources.0 registers.sources.1 registers.destination ≡ station_in window.capacity slot =
+appended_keeps window stations stores queued dividing position registers slot step waiting at own is =
+    let entry : entered position registers.sources.0 registers.sources.1 registers.destination ≡ station_in (room_of window.capacity) slot =
     λ i. record {
       index = at i;
       first = (own i).sources.0;
@@ -117,7 +117,7 @@ appended_keeps window stations stores queued dividing index registers slot step 
       limit = step.limit;
       stations_are =
           (λ i. let now : Window = record { capacity = (step.stations_are i).capacity; stations = (step.stations_are i).stations ++ entry i ∷ [] } in now)
-          ∙ ap (λ held. let now : Window = record { capacity = window.capacity; stations = held } in now) (sym (map-append (station_in window.capacity) window.slots (slot ∷ [])));
+          ∙ ap (λ held. let now : Window = record { capacity = room_of window.capacity; stations = held } in now) (sym (map-append (station_in (room_of window.capacity)) window.slots (slot ∷ [])));
       stores_are = is;
       dividing_is = omega (arith, step.dividing_is, divisions-append window.slots (slot ∷ []), waiting_undivided slot waiting);
     }

@@ -65,3 +65,10 @@ divisions-more (first ∷ slots) zero slot here =
     let same : division first ≡ division slot = ap division (let e : first ≡ slot = grind arith in e) in
     omega (arith, same)
 divisions-more (first ∷ slots) (suc place) slot here = omega (arith, divisions-more slots place slot here)
+
+-- no more in front of a place than there are
+pub divisions_front : (slots : List Slot) (place : ℕ) → busy_divisions (take place slots) ≤ busy_divisions slots
+divisions_front [] zero = omega arith
+divisions_front [] (suc place) = omega arith
+divisions_front (slot ∷ slots) zero = omega arith
+divisions_front (slot ∷ slots) (suc place) = omega (arith, divisions_front slots place)

@@ -7,7 +7,7 @@ use Rattle.fsim_base.specs.declared.cause.Cause.{Cause}
 use Rattle.reorder_buffer.specs.declared.slot.Slot.{Slot}
 use Rattle.reorder_buffer.specs.declared.slot.SlotState.{SlotState}
 use Rattle.reorder_buffer.specs.declared.slot.SlotState.TheVariants.{Waiting, Until, Done}
-use Rattle.reorder_buffer.specs.Window.{Contents}
+use Rattle.reorder_buffer.specs.Window.{Contents, room_of}
 use Rattle.reservation_stations.specs.Readiness.{is_waiting, is_issued, is_done, has_written_value, has_operand, older_than, can_begin, can_begin_at, waiting_count as stations_waiting, Window}
 use Rattle.reservation_stations.specs.Readiness as stations
 use Rattle.reservation_stations.specs.declared.sought.Sought.{Sought}
@@ -90,8 +90,8 @@ sought_same : (sought : Sought) (capacity : ℕ) (slots : List Slot) (place : �
 sought_same Ready = can_start
 sought_same Executing = executes_same
 
-pub sought_there : (sought : Sought) (window now : Contents) (those : Window) → those ≡ stations_of window.capacity window.slots → window ≡ now →
+pub sought_there : (sought : Sought) (window now : Contents) (those : Window) → those ≡ stations_of (room_of window.capacity) window.slots → window ≡ now →
     stations.is_sought_at sought those.stations ≡ is_sought_at sought now.slots
 sought_there sought window now those are is = λ i place.
-    (ap (λ (w : Window). stations.is_sought_at sought w.stations place) are ∙ sought_same sought window.capacity window.slots place
+    (ap (λ (w : Window). stations.is_sought_at sought w.stations place) are ∙ sought_same sought (room_of window.capacity) window.slots place
     ∙ ap (λ (w : Contents). is_sought_at sought w.slots place) is) i

@@ -5,7 +5,7 @@ use Rattle.fsim_base.specs.declared.cause.Cause.{Cause}
 use Rattle.reorder_buffer.specs.declared.slot.Slot.{Slot}
 use Rattle.reorder_buffer.specs.declared.slot.SlotState.{SlotState}
 use Rattle.reorder_buffer.specs.declared.slot.SlotState.TheVariants.{Waiting, Until, Done}
-use Rattle.reorder_buffer.specs.Window.{Contents, index_of}
+use Rattle.reorder_buffer.specs.Window.{Contents, room_of, position_of}
 use Rattle.reservation_stations.specs.declared.station.Mark.{Mark}
 use Rattle.reservation_stations.specs.declared.station.Mark.TheVariants as mark
 use Rattle.reservation_stations.specs.declared.station.Station.{Station}
@@ -27,10 +27,11 @@ mark_in Waiting cause = mark.Waiting
 mark_in (Until e) cause = mark.Issued
 mark_in Done cause = done_mark cause
 
--- the station of a slot, in a window of so many slots: its registers are those of its word
+-- the station of a slot, among so many positions: its index is the slot's position, and its registers are those of its
+-- word
 abbrev pub station_in : ℕ → Slot → Station
-station_in capacity slot = record {
-  index = index_of capacity slot.number;
+station_in room slot = record {
+  index = position_of room slot.number;
   first = first_source (found_in slot);
   second = second_source (found_in slot);
   destination = destination_in (found_in slot);
@@ -38,10 +39,10 @@ station_in capacity slot = record {
 }
 
 abbrev pub stations_in : ℕ → List Slot → List Station
-stations_in capacity slots = map (station_in capacity) slots
+stations_in room slots = map (station_in room) slots
 
 abbrev pub stations_of : ℕ → List Slot → Window
-stations_of capacity slots = record { capacity = capacity; stations = stations_in capacity slots }
+stations_of room slots = record { capacity = room; stations = stations_in room slots }
 
 -- the stores among some slots, and which of them are done
 abbrev pub is_store : Slot → Bool
@@ -68,6 +69,6 @@ queue_of capacity slots = record { capacity = capacity; stores = stores_in slots
 -- the stations, the store queue and the count of divisions are those of the window's slots
 pub record IsInStep (window : Contents) (stations : Window) (stores : Stores) (dividing : ℕ) : Type 0 where
   pub limit : window.capacity ≤ 256
-  pub stations_are : stations ≡ stations_of window.capacity window.slots
+  pub stations_are : stations ≡ stations_of (room_of window.capacity) window.slots
   pub stores_are : stores ≡ queue_of window.capacity window.slots
   pub dividing_is : dividing ≡ busy_divisions window.slots

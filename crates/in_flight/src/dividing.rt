@@ -46,8 +46,23 @@ fn divisions_in(slot: &Slot) -> u32
     if divides(slot) { 1 } else { 0 }
 }
 
+/// How many of the window's slots from a place on are divisions that execute, where `dividing` are
+/// among all. Mostly none is, and then no slot is looked at.
+#[inline(always)]
+pub fn divisions_cut(window: &Window, from: u32, dividing: u32) -> u32
+    requires within { from ≤ length window.now.slots }
+    requires counted { dividing ≡ busy_divisions window.now.slots }
+    ensures divisions { result + busy_divisions (take from window.now.slots)
+        ≡ busy_divisions window.now.slots }
+{
+    if dividing == 0 {
+        return 0;
+    }
+    divisions_from(window, from)
+}
+
 /// How many of the window's slots from a place on are divisions that execute.
-pub fn divisions_from(window: &Window, from: u32) -> u32
+fn divisions_from(window: &Window, from: u32) -> u32
     requires within { from ≤ length window.now.slots }
     ensures divisions { result + busy_divisions (take from window.now.slots)
         ≡ busy_divisions window.now.slots }

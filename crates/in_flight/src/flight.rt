@@ -1,4 +1,4 @@
-use crate::dividing::{divisions_from, forget_division, note_division};
+use crate::dividing::{divisions_cut, forget_division, note_division};
 use crate::queueing::{finish_store, pop_oldest, put_store};
 use crate::reading::slot_at;
 use crate::registers::Registers;
@@ -59,7 +59,7 @@ impl InFlight {
         ensures opening { IfOk result (λ f. f ≡ record { capacity = capacity; slots = [] }) }
     {
         let window = Window::new(alloc, capacity)?;
-        let stations = Stations::new(alloc, capacity)?;
+        let stations = Stations::new(alloc, window.room())?;
         let stores = StoreQueue::new(alloc, capacity)?;
         let known = KnownWords::new(alloc)?;
         Ok(InFlight {
@@ -132,11 +132,12 @@ impl InFlight {
             } }
     {
         prove!(self.window.len() < 256);
-        let index = self.window.append(entry, predicted, fetched);
+        let position = self.window.free_position(entry.number);
+        self.window.append(entry, predicted, fetched);
         put_store(&mut self.stores, entry);
         let registers = self.known.told(entry.addr, entry.word);
         self.stations
-            .enter(index, registers.sources, registers.destination);
+            .enter(position, registers.sources, registers.destination);
     }
 
     /// The oldest instruction leaves, in whatever state. There is one.
@@ -145,10 +146,10 @@ impl InFlight {
         requires some { 0 < length self.old.slots }
         ensures left { self.new ≡ record self.old { slots = drop 1 self.old.slots } }
     {
-        let (index, slot) = slot_at(&self.window, 0);
+        let (position, slot) = slot_at(&self.window, 0);
         pop_oldest(&mut self.stores, &self.window);
         forget_division(&mut self.dividing, &slot);
-        self.stations.retire(index);
+        self.stations.retire(position);
         self.window.pop();
     }
 
@@ -163,7 +164,7 @@ impl InFlight {
         }
         let (_, slot) = slot_at(&self.window, place);
         let number = slot.number;
-        self.dividing -= divisions_from(&self.window, place);
+        self.dividing -= divisions_cut(&self.window, place, self.dividing);
         self.stations.keep(place);
         self.stores.cut_from(number);
         self.window.cut_from(number)
@@ -250,14 +251,14 @@ impl InFlight {
             (λ slot. self.new ≡ record self.old
             { slots = slice_set self.old.slots place (record slot { state = Until until }) }) }
     {
-        let (index, slot) = slot_at(&self.window, place);
+        let (position, slot) = slot_at(&self.window, place);
         let begun = Slot {
             state: SlotState::Until(until),
             ..slot
         };
         self.window.mark(place, begun.state);
         note_division(&mut self.dividing, &begun);
-        self.stations.issue(index);
+        self.stations.issue(position);
     }
 
     /// Ends the execution of the instruction at a place. Without a cause, it wakes those that wait
@@ -270,10 +271,10 @@ impl InFlight {
             (λ slot. self.new ≡ record self.old
             { slots = slice_set self.old.slots place (record slot { state = Done }) }) }
     {
-        let (index, slot) = slot_at(&self.window, place);
+        let (position, slot) = slot_at(&self.window, place);
         self.window.mark(place, SlotState::Done);
         forget_division(&mut self.dividing, &slot);
-        self.stations.wake(index, slot.cause.is_some());
+        self.stations.wake(position, slot.cause.is_some());
         finish_store(&mut self.stores, &slot);
     }
 }

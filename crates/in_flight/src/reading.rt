@@ -1,6 +1,6 @@
 //! What is read of one slot.
 ghost use Rattle.std.specs.Prelude.{◌≡◌, ◌<◌, ◌≤◌, Some, length, slice_get};
-ghost use Rattle.reorder_buffer.specs.Window.{IsConsecutive, HasOwnIndices, index_of};
+ghost use Rattle.reorder_buffer.specs.Window.{IsConsecutive, HasOwnPositions, room_of, position_of};
 ghost use Rattle.in_flight.specs.Step.{is_store};
 
 use fsim_base::Class;
@@ -13,17 +13,17 @@ pub fn is_store(slot: &Slot) -> bool
     slot.class == Class::Store
 }
 
-/// The index and the slot at a place of a window, whose slots have numbers one after the other and
-/// indices of their own.
+/// The position of the slot at a place of a window, and the slot. The window's slots have numbers
+/// one after the other and positions of their own.
 #[inline(always)]
 pub fn slot_at(window: &Window, place: u32) -> (u32, Slot)
     requires within { place < length window.now.slots }
     ensures slot { slice_get window.now.slots place ≡ Some result.1 }
-    ensures index { result.0 ≡ index_of window.now.capacity result.1.number }
+    ensures position { result.0 ≡ position_of (room_of window.now.capacity) result.1.number }
     ensures consecutive { IsConsecutive window.now.slots }
-    ensures apart { HasOwnIndices window.now.capacity window.now.slots }
+    ensures apart { HasOwnPositions (room_of window.now.capacity) window.now.slots }
     ensures room { length window.now.slots ≤ window.now.capacity }
 {
     prove!(place < window.len());
-    window.at(place)
+    (window.position(place), window.slot(place))
 }

@@ -55,6 +55,13 @@ free_index capacity slots s consecutive next room = λ k d within same.
     let own = own_indices capacity (slots ++ s ∷ []) (one_more slots s consecutive next) (omega (arith, long)) k (length slots) d within (omega (arith, long)) in
     own (rw (get_or_append_left slots (s ∷ []) d k within, get_or_push slots s d (length slots) refl) same)
 
+-- the next number has an index, and so a position, that none of them has
+pub free_number : (capacity number : ℕ) (slots : List Slot) → IsConsecutive slots → IfSome (youngest slots) (λ last. number ≡ last.number + 1) → length slots < capacity
+    → All (λ held. index_of capacity held.number ≡ index_of capacity number → ⊥) slots
+free_number capacity number slots consecutive next room = λ k d within same.
+    let s : Slot = record d { number = number } in
+    free_index capacity slots s consecutive next room k d within same
+
 -- the slots behind the oldest follow one another too
 rest_follows : (s : Slot) (slots : List Slot) → IsConsecutive (s ∷ slots) → IsConsecutive slots
 rest_follows s slots consecutive = λ k d within. let e : suc k + 1 ≡ suc (k + 1) = omega arith in rw e at (consecutive (suc k) d (omega arith))
@@ -114,16 +121,9 @@ number_at slots place oldest slot consecutive first there =
     let on : (get_or slots place slot).number ≡ (get_or slots 0 slot).number + place = let e : 0 + place ≡ place = omega arith in rw e at (number_on slots consecutive 0 place slot (omega (arith, within))) in
     sym (ap (λ (s : Slot). s.number) mine) ∙ on ∙ ap (λ (s : Slot). s.number + place) theirs
 
--- What is behind the remainder of a number: the index and the position of the next slot, and the position of the oldest but one.
+-- What is behind the remainder of a number: the position of the next slot, and that of the oldest but one.
 behind : (room first places number : ℕ) → first ≡ position_of room number → position_of room (first + places) ≡ position_of room (number + places)
 behind room first places number is = ap (λ k. (k + places) % room) is ∙ mod-add-mod number room places
-
-pub next_index : (slots : List Slot) (capacity number index place : ℕ) (last : Slot) → IfSome (youngest slots) (λ last. number ≡ last.number + 1) → place ≡ length slots - 1
-    → slice_get slots place ≡ Some last → index ≡ index_of capacity last.number → index_of capacity (index + 1) ≡ index_of capacity number
-next_index slots capacity number index place last next at there is =
-    let newest : youngest slots ≡ Some last = ap (slice_get slots) (sym at) ∙ there in
-    let one : number ≡ last.number + 1 = rw newest at next in
-    behind capacity index 1 last.number is ∙ ap (index_of capacity) (sym one)
 
 -- the position of the oldest slot once there is one of this number behind the others
 abbrev pub IsFirstWith : List Slot → ℕ → ℕ → ℕ → ℕ → Type 0
@@ -150,6 +150,18 @@ module _ (room first : ℕ) where
   second_position (s ∷ t ∷ slots) consecutive is =
       let next : t.number ≡ s.number + 1 = consecutive 0 s (omega arith) in
       behind room first 1 s.number is ∙ ap (position_of room) (sym next)
+
+-- the position of the slot at a place
+if_some : {X : Type 0} (P : X → Type 0) (at : Option X) → ((x : X) → at ≡ Some x → P x) → IfSome at P
+if_some P None each = tt
+if_some P (Some x) each = each x refl
+
+pub place_position : (slots : List Slot) (room first place : ℕ) → IsConsecutive slots → IsFirst slots room first
+    → IfSome (slice_get slots place) (λ slot. position_of room (first + place) ≡ position_of room slot.number)
+place_position [] room first place consecutive is = tt
+place_position (s ∷ slots) room first place consecutive is =
+    if_some (λ (slot : Slot). position_of room (first + place) ≡ position_of room slot.number) (slice_get (s ∷ slots) place)
+    (λ slot there. behind room first place s.number is ∙ ap (position_of room) (sym (number_at (s ∷ slots) place s slot consecutive refl there)))
 
 pub rest_of : (slots : List Slot) → IsConsecutive slots → IsConsecutive (drop 1 slots)
 rest_of [] consecutive = consecutive

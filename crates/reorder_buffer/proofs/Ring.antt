@@ -1,9 +1,8 @@
 -- The slots of a ring: how many they are, which item each is, and what they are after a write, without the oldest, and without the youngest.
-use Rattle.std.proofs.Common.{◌≡◌, ℕ, ◌+◌, ◌-◌, ◌%◌, ◌<◌, ◌≤◌, ◌⊎◌, List, [], ◌∷◌, ◌++◌, length, get_or, take, drop, set, refl, ap, sym, Some, IfSome, All, slice_get, ◌∙◌, inl, inr, mod-eq_of_lt, arith, length-append, length-drop, length-set, length-take, get_or-drop, get_or-take}
+use Rattle.std.proofs.Common.{◌≡◌, ℕ, ◌+◌, ◌-◌, ◌%◌, ◌<◌, ◌≤◌, ◌⊎◌, List, [], ◌∷◌, ◌++◌, length, get_or, take, drop, set, refl, ap, sym, Some, IfSome, slice_get, ◌∙◌, inl, inr, mod-eq_of_lt, arith, length-append, length-drop, length-set, length-take, get_or-drop, get_or-take}
 use Rattle.std.proofs.Math.Nat.{mod-eq-sub-mod, mod-add-mod}
 use Rattle.std.proofs.Math.ListN.{get_or-map}
 use Rattle.std.proofs.lemmas.List.{same_lists, take-take, get_or_append_left, get_or-append_right, length-map, map-set}
-use Rattle.std.proofs.lemmas.List.Elements.{All-set}
 use Rattle.std.proofs.lemmas.Bool.{cases_lt}
 use Rattle.std.proofs.lemmas.Grind.{common_steps}
 use Rattle.std.proofs.lemmas.Option.{slice_get_read}
@@ -11,8 +10,9 @@ use Rattle.reorder_buffer.specs.declared.slot.Slot.{Slot}
 use Rattle.reorder_buffer.specs.declared.held.Held.{Held}
 use Rattle.reorder_buffer.specs.declared.window.Window.TheInside.{Inside}
 use Rattle.reorder_buffer.specs.Held.{slot_in, slots_in}
-use Rattle.reorder_buffer.specs.Window.{IsFirst, IsWindow, HasItsIndex, youngest, position_of, ring_slots}
-use Rattle.reorder_buffer.proofs.Consecutive.{IsFirstWith, next_position, second_position, rest_of, first_with, one_more, first_of, part_of, first_still, consecutive_still}
+use Rattle.reorder_buffer.specs.Window.{IsFirst, IsWindow, HasOwnPositions, youngest, room_of, position_of, ring_slots}
+use Rattle.reorder_buffer.proofs.Positions.{the_room}
+use Rattle.reorder_buffer.proofs.Consecutive.{IsFirstWith, next_position, second_position, rest_of, first_with, place_position, own_indices, one_more, first_of, part_of, first_still, consecutive_still}
 
 -- at most one wrap-around
 wraps : (n i : ℕ) → i < n + n → ((i < n) × (i % n ≡ i)) ⊎ ((n ≤ i) × (i % n ≡ i - n))
@@ -113,7 +113,14 @@ long_items w = w.held.ok.0 ∙ sym (length-map w.held.items slot_in)
 
 -- what holds of a window with these fields
 abbrev pub IsKept : Inside → Type 0
-IsKept w = IsWindow w.held.items w.held.len w.capacity w.mask w.first w.count (slots_of w)
+IsKept w = IsWindow w.held.len w.capacity w.mask w.first w.count (slots_of w)
+
+-- its positions are as many as its capacity asks for, and each slot has its own
+pub room_is : (w : Inside) → IsKept w → w.held.len ≡ room_of w.capacity
+room_is w kept = the_room w.capacity w.held.len (kept.positions.power, kept.positions.enough, kept.positions.least)
+
+pub own_positions : (w : Inside) → IsKept w → HasOwnPositions w.held.len (slots_of w)
+own_positions w kept = own_indices w.held.len (slots_of w) kept.ring.consecutive (omega (arith, kept.ring.held, kept.ring.within))
 
 -- What a window reads, and what it is after each change, where `position` is so many places behind the oldest slot's.
 module _ (w : Inside) (kept : IsKept w) (position : ℕ) where
@@ -124,13 +131,8 @@ module _ (w : Inside) (kept : IsKept w) (position : ℕ) where
       (item ∙ ap (λ k. get_or (items_of w) k (slot_in h)) is
       ∙ sym (get_or-ring (items_of w) w.held.len w.first w.count (long_items w) kept.ring.within kept.ring.inside place (slot_in h) held))
 
-  -- what is kept there has its index
-  pub index_at : (h : Held) → position < w.held.len → h ≡ get_or w.held.items position h → HasItsIndex w.capacity h
-  index_at h below read = rw (← read) at (kept.indices position h (omega (arith, w.held.ok.0, below)))
-
-  -- and still has it where something else is kept there
-  changed_indices : (h : Held) → HasItsIndex w.capacity h → All (HasItsIndex w.capacity) (set w.held.items position h)
-  changed_indices h own = All-set (HasItsIndex w.capacity) w.held.items position h own kept.indices
+  pub position_at : (place : ℕ) → position ≡ position_of w.held.len (w.first + place) → IfSome (slice_get (slots_of w) place) (λ slot. position ≡ position_of w.held.len slot.number)
+  position_at place is = rw is (place_position (slots_of w) w.held.len w.first place kept.ring.consecutive kept.ring.first_is)
 
   pub popped : 0 < w.count → position ≡ position_of w.held.len (w.first + 1) → ring_slots (items_of w) position (w.count - 1) ≡ drop 1 (slots_of w)
   popped some is = rw is (ring-pop (items_of w) w.held.len w.first w.count (long_items w) kept.ring.within kept.ring.inside some)
@@ -149,7 +151,6 @@ module _ (w : Inside) (kept : IsKept w) (position : ℕ) where
           first_is = first_is;
           consecutive = rest_of (slots_of w) kept.ring.consecutive;
         };
-        indices = kept.indices;
       }
 
   pub marked : (place : ℕ) (now : Held) → place < w.count → position ≡ position_of w.held.len (w.first + place)
@@ -159,9 +160,9 @@ module _ (w : Inside) (kept : IsKept w) (position : ℕ) where
       ∙ rw is (ring-set (items_of w) w.held.len w.first w.count (long_items w) kept.ring.within kept.ring.inside place (slot_in now) held)
 
   pub still_marked : (place : ℕ) (s : Slot) (now : Held) → place < w.count → position ≡ position_of w.held.len (w.first + place) → slice_get (slots_of w) place ≡ Some s
-      → now.entry.number ≡ s.number → HasItsIndex w.capacity now
-      → IsWindow (set w.held.items position now) w.held.len w.capacity w.mask w.first w.count (ring_slots (slots_in (set w.held.items position now)) w.first w.count)
-  still_marked place s now held is there same own =
+      → now.entry.number ≡ s.number
+      → IsWindow w.held.len w.capacity w.mask w.first w.count (ring_slots (slots_in (set w.held.items position now)) w.first w.count)
+  still_marked place s now held is there same =
       rw (marked place now held is) record {
         positions = kept.positions;
         within = kept.within;
@@ -172,7 +173,6 @@ module _ (w : Inside) (kept : IsKept w) (position : ℕ) where
           first_is = first_still (slots_of w) place s (slot_in now) w.held.len w.first there same kept.ring.first_is;
           consecutive = consecutive_still (slots_of w) place s (slot_in now) there same kept.ring.consecutive;
         };
-        indices = changed_indices now own;
       }
 
   -- where the next slot stands, once `now` is the position of the oldest
@@ -194,9 +194,9 @@ module _ (w : Inside) (kept : IsKept w) (position : ℕ) where
       (ring-append (items_of w) w.held.len now w.count (long_items w) kept.ring.within (λ positive. below) (slot_in h) room ∙ ap (λ xs. xs ++ slot_in h ∷ []) same)
 
   pub still_appended : (now : ℕ) (h : Held) → w.count < w.capacity → now < w.held.len → IsFirstWith (slots_of w) w.held.len w.first h.entry.number now
-      → IfSome (youngest (slots_of w)) (λ last. h.entry.number ≡ last.number + 1) → position ≡ position_of w.held.len h.entry.number → HasItsIndex w.capacity h
-      → IsWindow (set w.held.items position h) w.held.len w.capacity w.mask now (w.count + 1) (ring_slots (slots_in (set w.held.items position h)) now (w.count + 1))
-  still_appended now h room below with next is own =
+      → IfSome (youngest (slots_of w)) (λ last. h.entry.number ≡ last.number + 1) → position ≡ position_of w.held.len h.entry.number
+      → IsWindow w.held.len w.capacity w.mask now (w.count + 1) (ring_slots (slots_in (set w.held.items position h)) now (w.count + 1))
+  still_appended now h room below with next is =
       let longer = length-append (slots_of w) (slot_in h ∷ []) in
       let more : w.count < w.held.len = omega (arith, room, kept.positions.enough) in
       rw (appended now h more below with next is) record {
@@ -209,7 +209,6 @@ module _ (w : Inside) (kept : IsKept w) (position : ℕ) where
           first_is = first_with (slots_of w) (slot_in h) w.held.len w.first now kept.ring.first_is with;
           consecutive = one_more (slots_of w) (slot_in h) kept.ring.consecutive next;
         };
-        indices = changed_indices h own;
       }
 
 pub still_cut : (w : Inside) (left : ℕ) → IsKept w → left ≤ w.count → IsKept (record w { count = left })
@@ -225,5 +224,4 @@ still_cut w left kept less =
         first_is = first_of (slots_of w) left w.held.len w.first kept.ring.first_is;
         consecutive = part_of (slots_of w) left kept.ring.consecutive;
       };
-      indices = kept.indices;
     }

@@ -1,9 +1,8 @@
 -- The instructions in the window (Hennessy and Patterson, Computer Architecture, section 3.6, the reorder buffer).
-use Rattle.std.specs.Prelude.{◌≡◌, ◌≢◌, ℕ, ◌+◌, ◌-◌, ◌%◌, List, Option, IfSome, nat_lt, nat_le, length, filter, count_by, All, AllPairs, slice_get, ◌<◌, ◌≤◌, ◌^◌, ◌++◌, take, drop}
+use Rattle.std.specs.Prelude.{◌≡◌, ◌≢◌, ℕ, zero, suc, ◌+◌, ◌-◌, ◌*◌, ◌/◌, ◌%◌, if◌then◌else◌, max, List, Option, IfSome, nat_lt, nat_le, length, filter, count_by, AllPairs, slice_get, ◌<◌, ◌≤◌, ◌^◌, ◌++◌, take, drop}
 use Rattle.std.specs.List.{AllAdjacentBelow}
 use Rattle.std.specs.Int.{IsPowerOfTwo}
 use Rattle.reorder_buffer.specs.declared.slot.Slot.{Slot}
-use Rattle.reorder_buffer.specs.declared.held.Held.{Held}
 
 -- how many slots a window has room for, and those that it holds, the oldest first
 pub record Contents : Type 0 where
@@ -23,6 +22,15 @@ youngest slots = slice_get slots (length slots - 1)
 abbrev pub index_of : ℕ → ℕ → ℕ
 index_of capacity number = number % capacity
 
+-- a number that is doubled until it is the capacity or more, at most so many times
+abbrev pub doubled_to : ℕ → ℕ → ℕ → ℕ
+doubled_to capacity zero room = room
+doubled_to capacity (suc doublings) room = if nat_le capacity room then room else doubled_to capacity doublings (2 * room)
+
+-- how many positions a window has: the least power of two that is the capacity or more
+unfoldable pub room_of : ℕ → ℕ
+room_of capacity = doubled_to capacity capacity 1
+
 -- the position of an instruction's slot: where it stands in a vector of `room` items
 abbrev pub position_of : ℕ → ℕ → ℕ
 position_of room number = number % room
@@ -34,6 +42,10 @@ IsFirst slots room first = IfSome (slice_get slots 0) (λ oldest. first ≡ posi
 -- no two slots have one index
 abbrev pub HasOwnIndices : ℕ → List Slot → Type 0
 HasOwnIndices capacity slots = AllPairs (λ older younger. index_of capacity older.number ≢ index_of capacity younger.number) slots
+
+-- no two slots have one position
+abbrev pub HasOwnPositions : ℕ → List Slot → Type 0
+HasOwnPositions room slots = AllPairs (λ older younger. position_of room older.number ≢ position_of room younger.number) slots
 
 -- the slots whose numbers are below n
 abbrev pub below_number : ℕ → List Slot → List Slot
@@ -61,21 +73,17 @@ pub record HasPositions (room capacity mask : ℕ) : Type 0 where
   pub enough : capacity ≤ room
   -- so many that a mask takes the remainder
   pub power : IsPowerOfTwo room
+  -- and no more than that takes
+  pub least : room / 2 < max 1 capacity
   -- the mask is the last one
   pub masked : mask + 1 ≡ room
   -- so few that a position and a place add up to less than 2 ^ 32
   pub fits : room ≤ 2 ^ 31
 
--- what is kept has the index of its number
-abbrev pub HasItsIndex : ℕ → Held → Type 0
-HasItsIndex capacity held = held.index ≡ index_of capacity held.entry.number
-
--- what holds of the fields of a window that keeps these items and holds these slots
-pub record IsWindow (items : List Held) (room capacity mask first count : ℕ) (slots : List Slot) : Type 0 where
+-- what holds of the fields of a window that holds these slots
+pub record IsWindow (room capacity mask first count : ℕ) (slots : List Slot) : Type 0 where
   pub positions : HasPositions room capacity mask
   -- the slots have room
   pub within : count ≤ capacity
   -- and stand one behind the other from `first` on
   pub ring : IsRing room first count slots
-  -- each position keeps an index that is its number's, also where it has no slot of the window
-  pub indices : All (HasItsIndex capacity) items

@@ -13,8 +13,6 @@ pub(crate) struct Held {
     pub entry: Entry,
     /// The address that was predicted to follow it.
     pub predicted: u32,
-    /// The index of its slot.
-    pub index: u32,
     /// The cycle in which it was fetched.
     pub fetched: u64,
     /// How far it has come.
@@ -23,14 +21,10 @@ pub(crate) struct Held {
 
 impl Held {
     /// What a position that held no instruction yet keeps.
-    pub(crate) fn free() -> Held
-        ensures number { result.entry.number ≡ 0 }
-        ensures index { result.index ≡ 0 }
-    {
+    pub(crate) fn free() -> Held {
         Held {
             entry: Entry::BLANK,
             predicted: 0,
-            index: 0,
             fetched: 0,
             state: SlotState::Done,
         }
@@ -62,18 +56,16 @@ impl Held {
 
     /// Holds an instruction that waits, in place of what was held.
     #[inline(always)]
-    pub(crate) fn put(&mut self, entry: &Entry, predicted: u32, index: u32, fetched: u64)
+    pub(crate) fn put(&mut self, entry: &Entry, predicted: u32, fetched: u64)
         ensures put { self.new ≡ record {
           entry = entry.now;
           predicted = predicted;
-          index = index;
           fetched = fetched;
           state = Waiting;
         } }
     {
         self.entry = *entry;
         self.predicted = predicted;
-        self.index = index;
         self.fetched = fetched;
         self.state = SlotState::Waiting;
     }

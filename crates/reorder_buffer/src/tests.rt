@@ -164,6 +164,50 @@ fn a_window_of_three_goes_round(rt: HostRuntime) -> Result<(), Fail> {
     Ok(())
 }
 
+/// The position of the slot that comes next, whose number is this one; None where none may come.
+fn free_position(window: &Window, number: u64) -> Option<u32> {
+    if window.is_full() || !follows(window, number) {
+        return None;
+    }
+    Some(window.free_position(number))
+}
+
+/// The position of the youngest slot; None where there is none.
+fn youngest_position(window: &Window) -> Option<u32> {
+    let len = window.len();
+    if len == 0 {
+        return None;
+    }
+    Some(window.position(len - 1))
+}
+
+#[test]
+fn a_window_of_three_has_four_positions(rt: HostRuntime) -> Result<(), Fail> {
+    let mut window = Window::new(rt.alloc(), 3)?;
+    assert_eq!(rt; window.room(), 4);
+    for (number, position) in [(6, 2), (7, 3), (8, 0)] {
+        assert_eq!(rt;
+            free_position(&window, number),
+            Some(position),
+            "before {number}"
+        );
+        play(&mut window, Step::Append(number));
+        assert_eq!(rt;
+            youngest_position(&window),
+            Some(position),
+            "behind {number}"
+        );
+    }
+    assert_eq!(rt; free_position(&window, 9), None, "no room");
+    play(&mut window, Step::Pop);
+    assert_eq!(rt;
+        free_position(&window, 9),
+        Some(1),
+        "behind the last position"
+    );
+    Ok(())
+}
+
 #[test]
 fn a_window_without_room_is_full_and_empty(rt: HostRuntime) -> Result<(), Fail> {
     let window = Window::new(rt.alloc(), 0)?;

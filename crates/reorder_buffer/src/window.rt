@@ -40,7 +40,7 @@ impl Model for Window {
     } };
 
     ghost invariant = { λ w.
-        IsWindow w.held.items (vec_len w.held) w.capacity w.mask w.first w.count
+        IsWindow (vec_len w.held) w.capacity w.mask w.first w.count
         (ring_slots (slots_in w.held.items) w.first w.count) };
 }
 
@@ -50,7 +50,9 @@ impl Window {
     ghost use Rattle.std.specs.Prelude.{slice_set};
     ghost use Rattle.reorder_buffer.specs.declared.slot.SlotState.TheVariants.{Waiting};
     ghost use Rattle.reorder_buffer.specs.Held.{slot_from};
+    ghost use Rattle.std.specs.Int.{IsNextPowerOfTwo};
     ghost use Rattle.reorder_buffer.specs.Window.{IsConsecutive, HasOwnIndices, youngest, index_of};
+    ghost use Rattle.reorder_buffer.specs.Window.{HasOwnPositions, room_of, position_of};
     ghost use Rattle.reorder_buffer.specs.Window.{below_number, count_from};
 
     /// An empty window with room for `capacity` slots. All its memory is taken here. It is refused
@@ -94,6 +96,7 @@ impl Window {
 
     /// Adds the slot of an instruction that waits behind the others and gives its index, which no
     /// other slot has. There is room, and its number is the one behind the youngest slot's.
+    #[inline(always)]
     pub fn append(&mut self, entry: &Entry, predicted: u32, fetched: u64) -> u32
         requires room { length self.old.slots < self.old.capacity }
         requires next { IfSome (youngest self.old.slots)
@@ -107,29 +110,48 @@ impl Window {
         ensures free { All (λ held. index_of self.old.capacity held.number ≢ result)
             self.old.slots }
     {
-        let index = self.next_index(entry.number);
+        let index = index_in(self.capacity, entry.number);
         let position = position_in(entry.number, self.mask);
         if self.count == 0 {
             self.first = position;
         }
-        self.held[position as usize].put(entry, predicted, index, fetched);
+        self.held[position as usize].put(entry, predicted, fetched);
         self.count += 1;
         index
     }
 
-    /// The index of the slot that comes next, whose number is this one.
+    /// How many positions there are: the least power of two that is the capacity or more.
+    pub fn room(&self) -> u32
+        ensures room { result ≡ room_of self.now.capacity }
+        ensures power { IsNextPowerOfTwo self.now.capacity result }
+    {
+        self.mask + 1
+    }
+
+    /// The position that the slot of this number gets, which no slot has. There is room, and the
+    /// number is the one behind the youngest slot's.
     #[inline(always)]
-    fn next_index(&self, number: u64) -> u32
+    pub fn free_position(&self, number: u64) -> u32
         requires room { length self.now.slots < self.now.capacity }
         requires next { IfSome (youngest self.now.slots) (λ last. number ≡ last.number + 1) }
-        ensures index { result ≡ index_of self.now.capacity number }
-        ensures below { result < self.now.capacity }
+        ensures position { result ≡ position_of (room_of self.now.capacity) number }
+        ensures below { result < room_of self.now.capacity }
+        ensures free { All (λ held. position_of (room_of self.now.capacity) held.number ≢ result)
+            self.now.slots }
     {
-        if self.count == 0 {
-            return index_in(self.capacity, number);
-        }
-        let (last, _) = self.at(self.count - 1);
-        index_behind(self.capacity, last)
+        position_in(number, self.mask)
+    }
+
+    /// The position of the slot at a place, counted from the oldest at 0. No other slot has it.
+    #[inline(always)]
+    pub fn position(&self, place: u32) -> u32
+        requires place { place < length self.now.slots }
+        ensures position { IfSome (slice_get self.now.slots place)
+            (λ slot. result ≡ position_of (room_of self.now.capacity) slot.number) }
+        ensures below { result < room_of self.now.capacity }
+        ensures apart { HasOwnPositions (room_of self.now.capacity) self.now.slots }
+    {
+        position_behind(self.first, place, self.mask)
     }
 
     /// The index and the slot at a place, counted from the oldest at 0.
@@ -142,7 +164,7 @@ impl Window {
     {
         let position = position_behind(self.first, place, self.mask);
         let held = &self.held[position as usize];
-        (held.index, held.slot())
+        (index_in(self.capacity, held.entry.number), held.slot())
     }
 
     /// The slot at a place, counted from the oldest at 0.
@@ -214,23 +236,15 @@ impl Window {
     }
 }
 
-/// The index of the slot that an instruction of this number has in a window of this capacity.
+/// The index of the slot that an instruction of this number has in a window of this capacity. It
+/// goes inline, as `append` and `at` do, so that nothing is divided where no index is asked for.
+#[inline(always)]
 fn index_in(capacity: u32, number: u64) -> u32
     requires some { 0 < capacity }
     ensures index { result ≡ index_of capacity number }
     ensures below { result < capacity }
 {
     (number % u64::from(capacity)) as u32
-}
-
-/// The index behind one, in a window of this capacity.
-#[inline(always)]
-fn index_behind(capacity: u32, index: u32) -> u32
-    requires index { index < capacity }
-    ensures behind { result ≡ index_of capacity (index + 1) }
-    ensures below { result < capacity }
-{
-    if index + 1 == capacity { 0 } else { index + 1 }
 }
 
 /// The position of the slot of an instruction of this number, where `mask` is the last position.

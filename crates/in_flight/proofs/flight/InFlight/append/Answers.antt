@@ -1,7 +1,7 @@
 use Rattle.std.proofs.Common.{◌≡◌, ◌+◌, ◌<◌, length, ap, sym, ◌∙◌, subst, arith, refl, IfSome, IsNone}
 use Rattle.reorder_buffer.specs.declared.slot.SlotState.TheVariants.{Waiting}
 use Rattle.reorder_buffer.specs.Held.{slot_from}
-use Rattle.reorder_buffer.specs.Window.{Contents, youngest as window_youngest}
+use Rattle.reorder_buffer.specs.Window.{Contents, room_of, youngest as window_youngest}
 use Rattle.reservation_stations.specs.Readiness.{Window, station_of}
 use Rattle.load_store_queue.specs.Queue.{Contents as Stores, youngest}
 use Rattle.in_flight.specs.Step.{put_in}
@@ -13,8 +13,8 @@ use Rattle.in_flight.proofs.flight.InFlight.append.Goals as goal
 pub enter-requires-clause-free : goal.enter-requires-clause-free
 enter-requires-clause-free c =
     let window = c.self.inside.window in
-    subst (λ (w : Window). IsNone (station_of c.append-index.result w.stations)) (sym c.self.invariant.stations_are)
-    (none_holds window.capacity c.append-index.result window.slots c.append-index.ensures.free)
+    subst (λ (w : Window). IsNone (station_of c.free_position-position.result w.stations)) (sym c.self.invariant.stations_are)
+    (none_holds (room_of window.capacity) c.free_position-position.result window.slots c.free_position-position.ensures.free)
 
 pub put_store-requires-clause-room : goal.put_store-requires-clause-room
 put_store-requires-clause-room c =
@@ -40,8 +40,8 @@ invariant_of-self c =
     ∙ ap (λ stores. let now : Stores = record { capacity = window.capacity; stores = stores } in now) (puts window.slots slot refl)
     in
     let keeps =
-    appended_keeps window c.self.inside.stations c.self.inside.stores c.put_store.new.stores c.self.inside.dividing c.append-index.result
-    c.told-registers.result slot c.self.invariant refl c.append-index.ensures.index
+    appended_keeps window c.self.inside.stations c.self.inside.stores c.put_store.new.stores c.self.inside.dividing c.free_position-position.result
+    c.told-registers.result slot c.self.invariant refl c.free_position-position.ensures.position
     c.told-registers.ensures.told queued
     in
-    rw (c.append-index.ensures.appended, c.enter.ensures.entered) keeps
+    rw (c.append.ensures.appended, c.enter.ensures.entered) keeps

@@ -1,6 +1,6 @@
 use Rattle.std.proofs.Common.{◌-◌, ap, ◌∙◌, arith, take, length}
 use Rattle.std.proofs.lemmas.List.{take-map, length-map}
-use Rattle.reorder_buffer.specs.Window.{Contents}
+use Rattle.reorder_buffer.specs.Window.{Contents, room_of}
 use Rattle.reservation_stations.specs.Readiness.{Window}
 use Rattle.load_store_queue.specs.Queue.{Contents as Stores}
 use Rattle.load_store_queue.specs.Queue as queue
@@ -20,9 +20,9 @@ invariant_of-self c =
     rw kept (record {
       limit = c.self.invariant.limit;
       stations_are = c.keep.ensures.kept ∙ ap front_stations c.self.invariant.stations_are
-          ∙ ap (λ held. let now : Window = record { capacity = window.capacity; stations = held } in now) (take-map (station_in window.capacity) c.args.place window.slots);
+          ∙ ap (λ held. let now : Window = record { capacity = room_of window.capacity; stations = held } in now) (take-map (station_in (room_of window.capacity)) c.args.place window.slots);
       stores_are = c.cut_from.ensures.kept ∙ ap below c.self.invariant.stores_are ∙ ap (λ held. let now : Stores = record { capacity = window.capacity; stores = held } in now) stores;
-      dividing_is = omega (arith, c.self.invariant.dividing_is, c.divisions_from.ensures.divisions);
+      dividing_is = omega (arith, c.self.invariant.dividing_is, c.divisions_cut.ensures.divisions);
     })
 
 pub returns-clause-kept : goal.returns-clause-kept
@@ -41,5 +41,5 @@ returns-clause-count c =
 pub keep-requires : goal.keep-requires
 keep-requires c =
     let window = c.self.inside.window in
-    let as_many = ap (λ (w : Window). length w.stations) c.self.invariant.stations_are ∙ length-map window.slots (station_in window.capacity) in
+    let as_many = ap (λ (w : Window). length w.stations) c.self.invariant.stations_are ∙ length-map window.slots (station_in (room_of window.capacity)) in
     record { within = omega (arith, c.if-place-len.false, c.len.ensures.count, as_many) }

@@ -1,6 +1,6 @@
 use Rattle.std.proofs.Common.{rules, ◌≡◌, ◌+◌, ◌<◌, ap, sym, Some, ◌∙◌}
-use Rattle.reorder_buffer.specs.Window.{HasItsIndex, position_of}
-use Rattle.reorder_buffer.proofs.Ring.{slot_at, index_at}
+use Rattle.reorder_buffer.specs.Window.{position_of}
+use Rattle.reorder_buffer.proofs.Ring.{slot_at}
 use Rattle.reorder_buffer.proofs.window.Window.at.Goals as goal
 
 pub returns : goal.returns
@@ -13,9 +13,8 @@ returns c =
     let below : position < window.held.len = search rules in
     let is : position ≡ position_of window.held.len (window.first + c.args.place) = search rules in
     let there = slot_at window c.self.invariant position c.args.place held inside is c.index-held.ensures ∙ ap Some (sym c.slot.ensures.slot) in
-    let own : HasItsIndex window.capacity held = index_at window c.self.invariant position held below c.index-held.ensures in
     record {
       slot = rw (← c.self.view_is) there;
-      index = rw (← c.self.view_is, c.slot.ensures.slot) own;
+      index = rw (← c.self.view_is, c.slot.ensures.slot) (search rules);
       below = search rules;
     }

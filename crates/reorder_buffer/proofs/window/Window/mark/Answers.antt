@@ -1,7 +1,7 @@
 use Rattle.std.proofs.Common.{rules, ◌≡◌, ◌+◌, ◌<◌, refl}
 use Rattle.reorder_buffer.specs.Held.{slot_in}
 use Rattle.reorder_buffer.specs.Window.{position_of}
-use Rattle.reorder_buffer.proofs.Ring.{slot_at, index_at, marked, still_marked}
+use Rattle.reorder_buffer.proofs.Ring.{slot_at, marked, still_marked}
 use Rattle.reorder_buffer.proofs.window.Window.mark.Goals as goal
 
 pub invariant_of-self : goal.invariant_of-self
@@ -13,8 +13,7 @@ invariant_of-self c =
     let below : position < window.held.len = search rules in
     let is : position ≡ position_of window.held.len (window.first + c.args.place) = search rules in
     let there = slot_at window c.self.invariant position c.args.place held inside is c.index_mut.ensures.value in
-    let own = index_at window c.self.invariant position held below c.index_mut.ensures.value in
-    still_marked window c.self.invariant position c.args.place (slot_in held) (record held { state = c.args.state }) inside is there refl own
+    still_marked window c.self.invariant position c.args.place (slot_in held) (record held { state = c.args.state }) inside is there refl
 
 pub returns : goal.returns
 returns c =
