@@ -11,7 +11,6 @@ use crate::state::TimingCore;
 use cache_timing::Caches;
 use fsim_base::{Access, Flow, Spot, bits};
 use reorder_buffer::Slot;
-use rv_decode::decode;
 use timer_irq::IrqView;
 
 /// The opcodes of branches and jumps. MRET is one of the words with that of SYSTEM.
@@ -23,15 +22,20 @@ const JAL: u32 = 0x6f;
 
 const SYSTEM: u32 = 0x73;
 
-/// What a predictor may learn from the instruction of a word. A word that is none is plain. Only
-/// words with the opcodes of JALR, JAL and MRET are decoded for it.
+/// The word of MRET.
+const MRET: u32 = 0x3020_0073;
+
+/// What a predictor may learn from the instruction of a word, which isn't decoded for it. A word
+/// that is none is plain.
 #[tactic(auto, using(crate::proofs::Opcodes::plain_flow))]
 fn flow_of(word: u32) -> Flow
     ensures flow { result ≡ flow_in (found_word word (decode_of word)) }
 {
     match bits(word, 6, 0) {
         BRANCH => branch_flow(word),
-        JALR | JAL | SYSTEM => decoded_flow(word),
+        JALR => jalr_flow(word),
+        JAL => jal_flow(word),
+        SYSTEM => system_flow(word),
         _ => Flow::Plain,
     }
 }
@@ -48,13 +52,37 @@ fn branch_flow(word: u32) -> Flow
     }
 }
 
-/// The same, by decoding.
-fn decoded_flow(word: u32) -> Flow
+/// The same of a word with the opcode of JALR: one value of funct3 spells it.
+#[tactic(auto, unfolding(rv_decode::specs::Decode::decode_of, rv_decode::specs::Table::table))]
+fn jalr_flow(word: u32) -> Flow
+    requires opcode { bits_of word 6 0 ≡ 0x67 }
     ensures flow { result ≡ flow_in (found_word word (decode_of word)) }
 {
-    match decode(word) {
-        Some(insn) => insn.flow(),
-        None => Flow::Plain,
+    match bits(word, 14, 12) {
+        0 => Flow::Jump,
+        _ => Flow::Plain,
+    }
+}
+
+/// The same of a word with the opcode of JAL: each is one.
+#[tactic(auto, unfolding(rv_decode::specs::Decode::decode_of, rv_decode::specs::Table::table))]
+fn jal_flow(word: u32) -> Flow
+    requires opcode { bits_of word 6 0 ≡ 0x6f }
+    ensures flow { result ≡ flow_in (found_word word (decode_of word)) }
+{
+    Flow::Jump
+}
+
+/// The same of a word with the opcode of SYSTEM: of these MRET alone jumps.
+#[tactic(auto, unfolding(rv_decode::specs::Decode::decode_of, rv_decode::specs::Table::table))]
+fn system_flow(word: u32) -> Flow
+    requires opcode { bits_of word 6 0 ≡ 0x73 }
+    ensures flow { result ≡ flow_in (found_word word (decode_of word)) }
+{
+    if word == MRET {
+        Flow::Jump
+    } else {
+        Flow::Plain
     }
 }
 
