@@ -34,7 +34,7 @@ impl Mark {
 /// number, and its mark.
 #[derive(Clone, Copy, Debug, PartialEq, Eq)]
 pub struct Station {
-    /// Where it stands in the tables, from its entering to its leaving: the index of its slot in
+    /// Where it stands in the tables, from its entering to its leaving: the position of its slot in
     /// the window.
     pub index: u32,
     /// The register of its first operand, if it reads one.
