@@ -108,6 +108,7 @@ impl<D: Device> Contents<D> {
     ghost use Rattle.func_model.specs.Contents.{ContentsStandFor, retired_in, output_in};
     ghost use Rattle.func_model.specs.Contents.{after_instruction, before};
     ghost use Rattle.func_model.specs.Undo.{undone, IsRestorable};
+    ghost use Rattle.undo_journal.specs.Journal.{IsPlain};
     ghost use Rattle.func_model.specs.History.{resumed, step_undone, step_seq};
     ghost use Rattle.func_model.specs.History.{instruction_in, IsMade};
     ghost use Rattle.func_model.specs.Hart.{FetchedFits, next_found, IsRegister};
@@ -430,6 +431,18 @@ impl<D: Device> Contents<D> {
     {
         self.hart.restore(&mut self.bus, past);
         self.cmp = compare_behind(&self.bus, past.change, self.cmp);
+    }
+
+    /// Takes an instruction back whose undo step is plain.
+    #[inline(always)]
+    pub fn undo_plain(&mut self, past: Past)
+        requires restorable { IsRestorable past }
+        requires plain { IsPlain past }
+        ensures stands { (s : Setup) (a : Arch) → ContentsStandFor s a self.old
+            → ContentsStandFor s (undone (ram_range s.params) past a) self.new }
+        ensures room { self.new.hart.room ≡ self.old.hart.room }
+    {
+        self.hart.restore_plain(past);
     }
 
     /// Goes on at another address.

@@ -224,6 +224,7 @@ impl Hart {
     ghost use Rattle.func_model.specs.Undo.{register_before, trap_back};
     ghost use Rattle.fsim_base.specs.declared.access.RamRange.{RamRange};
     ghost use Rattle.undo_journal.specs.declared.past.Change.TheVariants.{Csr};
+    ghost use Rattle.undo_journal.specs.Journal.{IsPlain};
 
     /// What stands at the next address.
     #[inline(always)]
@@ -960,6 +961,22 @@ impl Hart {
         ensures uncounted { self.new ≡ record self.old { csrs = uncounted self.old.csrs } }
     {
         self.csrs.retired = self.csrs.retired.saturating_sub(1);
+    }
+
+    /// Takes an instruction back whose undo step is plain.
+    #[tactic(auto, unfolding(crate::specs::Hart::arch_of, crate::specs::Undo::undone))]
+    #[inline(always)]
+    pub fn restore_plain(&mut self, past: Past)
+        requires restorable { IsRestorable past }
+        requires plain { IsPlain past }
+        ensures arch { (range : RamRange) (d : Devices)
+            → arch_of self.new d ≡ undone range past (arch_of self.old d) }
+        ensures memory { self.new.memory ≡ self.old.memory }
+        ensures room { self.new.room ≡ self.old.room }
+    {
+        self.regs[past.reg.register as usize] = past.reg.value;
+        self.pc = past.addr;
+        self.uncount();
     }
 
     /// Takes an instruction back.

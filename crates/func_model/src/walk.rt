@@ -198,6 +198,42 @@ impl<D: Device> Walk<D> {
         self.position += 1;
     }
 
+    /// Takes the instruction back that was executed last. What is committed isn't taken back.
+    #[inline(always)]
+    fn step_back(&mut self)
+        requires holding { IsOnSomePath self.old }
+        requires above { self.old.committed < self.old.position }
+        ensures holds { (s : RunSetup) (os : List SpecOrder) → IsOnPath s os self.old
+            → IsOnPath s os self.new }
+        ensures position { self.new.position + 1 ≡ self.old.position }
+        ensures others { IsSameBut self.old self.new }
+    {
+        if let Some(past) = self.journal.back_plain() {
+            self.contents.undo_plain(past);
+            self.position -= 1;
+        } else {
+            self.step_back_by_call();
+        }
+    }
+
+    /// The same, whatever the instruction changed. It stays a call: what most instructions changed
+    /// needs no frame of it.
+    #[inline(never)]
+    fn step_back_by_call(&mut self)
+        requires holding { IsOnSomePath self.old }
+        requires above { self.old.committed < self.old.position }
+        ensures holds { (s : RunSetup) (os : List SpecOrder) → IsOnPath s os self.old
+            → IsOnPath s os self.new }
+        ensures position { self.new.position + 1 ≡ self.old.position }
+        ensures others { IsSameBut self.old self.new }
+    {
+        let Some(past) = self.journal.back() else {
+            return;
+        };
+        self.contents.undo(past);
+        self.position -= 1;
+    }
+
     /// Takes instructions back until instruction `n` is the next one. What is committed isn't taken
     /// back.
     fn go_back(&mut self, n: u64)
@@ -210,11 +246,7 @@ impl<D: Device> Walk<D> {
         ensures others { IsSameBut self.old self.new }
     {
         while self.position > n {
-            let Some(past) = self.journal.back() else {
-                return;
-            };
-            self.contents.undo(past);
-            self.position -= 1;
+            self.step_back();
         }
     }
 
