@@ -113,7 +113,7 @@ impl<D: Device> Walk<D> {
         if self.compute_into(to) || self.transfer_into(to) {
             return;
         }
-        *to = self.carry_out();
+        self.carry_out(to);
     }
 
     /// Executes the next instruction, as `step_into` does, where it is kept and changes at most a
@@ -161,16 +161,16 @@ impl<D: Device> Walk<D> {
         true
     }
 
-    /// Executes what fetch finds at the next address, whatever that is, and notes what takes it
-    /// back, unless it is committed.
+    /// Executes what fetch finds at the next address, whatever that is, writes its entry, and notes
+    /// what takes it back, unless it is committed.
     #[inline(never)]
-    fn carry_out(&mut self) -> Entry
+    fn carry_out(&mut self, to: &mut Entry)
         requires standing { IsStanding self.old }
         requires running { self.old.is_stopped ≡ false }
         requires room { self.old.position < self.old.committed + self.old.journal.room }
         requires bounded { self.old.position < 2 ^ 63 }
         ensures produced { (s : RunSetup) (os : List SpecOrder) → WalkStandsFor s os self.old
-            → IsProduced s os self.old self.new (Some result) }
+            → IsProduced s os self.old self.new (Some to.new) }
         ensures forward { IsForward self.old self.new }
     {
         let fetched = self.contents.hart.fetch();
@@ -179,7 +179,7 @@ impl<D: Device> Walk<D> {
             .contents
             .carry_out(fetched, self.position, self.epoch, time);
         self.note(past);
-        entry
+        *to = entry;
     }
 
     /// Notes what takes the instruction back that was executed last, unless that is committed.
