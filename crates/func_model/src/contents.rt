@@ -362,6 +362,37 @@ impl<D: Device> Contents<D> {
     }
 
     /// Executes the instruction at the next address, with its number, epoch and time or none, where
+    /// it is kept and is a load of RAM: what is told of it, and what takes it back. None, and
+    /// nothing done, of any other.
+    #[inline(always)]
+    pub fn load(&mut self, number: u64, epoch: u64, time: Option<u64>) -> Option<(Entry, Past)>
+        requires count { retired_in self.old < 2 ^ 64 - 1 }
+        ensures none { IfNone result (self.new ≡ self.old) }
+        ensures stands { IfSome result (λ told. (s : Setup) (a : Arch)
+            → ContentsStandFor s a self.old → ContentsStandFor s (seq s time a) self.new) }
+        ensures entry { IfSome result (λ told. (s : Setup) (a : Arch)
+            → ContentsStandFor s a self.old → told.0 ≡ entry_at s time a number epoch) }
+        ensures back { IfSome result (λ told. (s : Setup) (a : Arch)
+            → ContentsStandFor s a self.old
+            → undone (ram_range s.params) told.1 (seq s time a) ≡ a) }
+        ensures number { IfSome result (λ told. told.1.number ≡ number) }
+        ensures restorable { IfSome result (λ told. IsRestorable told.1) }
+        ensures room { self.new.hart.room ≡ self.old.hart.room }
+    {
+        let decoded = self.hart.known()?;
+        let load = self.hart.loaded(decoded)?;
+        let destination = decoded.destination;
+        let named = self.named(decoded.word, decoded.class, destination, number, epoch);
+        let unserved = is_unserved(Fetched::Known(*decoded), load.access, time);
+        self.hart.finish(destination, load.value, load.next);
+        let done = Performed {
+            access: load.access,
+            ..plain(Change::Nothing)
+        };
+        Some(self.told(named, done, unserved))
+    }
+
+    /// Executes the instruction at the next address, with its number, epoch and time or none, where
     /// it is kept and is a load or store of RAM: what is told of it, and what takes it back. None,
     /// and nothing done, of any other.
     #[inline(always)]

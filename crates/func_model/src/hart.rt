@@ -5,9 +5,10 @@ ghost use Rattle.mono_model.specs.Arch.{compare_of};
 ghost use Rattle.mono_model.specs.Found.{is_csr_insn, is_mret_insn};
 ghost use Rattle.mono_model.specs.Result.{attempted, csr_value};
 ghost use Rattle.mono_model.specs.Sequence.{byte_in};
-ghost use Rattle.func_model.specs.Steps.{plain_with, reaches_out, is_transfer};
+ghost use Rattle.func_model.specs.Steps.{plain_with, reaches_out, is_load, is_transfer};
 ghost use Rattle.func_model.specs.Undo.{csr_back, flags_before, trap_before};
 ghost use Rattle.machine_csr.specs.Csr.{csr_written};
+ghost use Rattle.rv_exec.specs.Load.{loaded_value};
 
 use crate::found::{Decoded, Fetched};
 use crate::memory::Memory;
@@ -52,6 +53,15 @@ struct StoreAccess {
     value: u32,
 }
 
+/// What a load of RAM does: what it writes to its register, its access, and the address of the
+/// instruction behind it.
+#[derive(Clone, Copy)]
+pub struct Loaded {
+    pub next: u32,
+    pub value: u32,
+    pub access: Access,
+}
+
 /// The bytes of a load, as a number, where it can be made; where they lie; and what takes an access
 /// to a device back.
 #[derive(Clone, Copy)]
@@ -84,11 +94,29 @@ fn reaches_out(insn: Insn) -> bool
     )
 }
 
+/// Whether the instruction is a load.
+fn is_load(insn: Insn) -> bool
+    ensures load { result ≡ is_load insn }
+{
+    matches!(insn, Insn::Load { .. })
+}
+
 /// Whether the instruction is a load or a store.
 fn is_transfer(insn: Insn) -> bool
     ensures transfer { result ≡ is_transfer insn }
 {
     matches!(insn, Insn::Load { .. } | Insn::Store { .. })
+}
+
+/// What a load writes to its register; a word as it is.
+#[inline(always)]
+fn extended(raw: u32, width: Width, signed: bool) -> u32
+    ensures value { result ≡ loaded_value width signed raw }
+{
+    match width {
+        Width::Word => raw,
+        _ => extend(raw, width, signed),
+    }
 }
 
 /// The timer's place on the bus, and the numbers that are the halves of its mtimecmp.
@@ -216,7 +244,7 @@ impl Hart {
     ghost use Rattle.func_model.specs.Steps.{failed_with, finished, read_devices, load_made};
     ghost use Rattle.func_model.specs.Steps.{stepped_by, concluded, store_made, outcome_made};
     ghost use Rattle.func_model.specs.Steps.{outcome_result, AlignedBy, csr_made, mret_made};
-    ghost use Rattle.func_model.specs.Steps.{behind, result_of, plain_outcome, Told};
+    ghost use Rattle.func_model.specs.Steps.{behind, result_of, plain_outcome, Told, load_with};
     ghost use Rattle.func_model.specs.Hart.{found_in, DecodedFits, FetchedFits, found_by};
     ghost use Rattle.func_model.specs.Hart.{arch_of, next_found, IsRegister};
     ghost use Rattle.func_model.specs.Undo.{undone, TakesBack, IsRestorable, IsRestorableChange};
@@ -455,6 +483,29 @@ impl Hart {
         Some(Performed {
             access: Access::Load { addr, width, spot },
             ..plain(Change::Nothing)
+        })
+    }
+
+    /// What an aligned load does, at whatever time. None where it isn't inside RAM.
+    #[tactic(auto, unfolding(crate::specs::Hart::arch_of))]
+    #[inline(always)]
+    fn read_ram(&self, next: u32, addr: u32, width: Width, signed: bool) -> Option<Loaded>
+        requires aligned { addr % width_bytes width ≡ 0 }
+        ensures told { IfSome result (λ load. (limit : ℕ) (time : Option ℕ) (d : Devices)
+            → Told limit (loaded_at next addr width signed (seen_in time (arch_of self.now d))
+            (spot_of (range_of self.now.memory) addr width)) (arch_of self.now d)
+            (load_with load.access)) }
+        ensures made { IfSome result (λ load. (destination : Option ℕ) (time : Option ℕ)
+            (d : Devices) → finished destination load.value load.next (arch_of self.now d)
+            ≡ load_made (range_of self.now.memory) destination next addr width signed time
+            (arch_of self.now d)) }
+    {
+        let raw = self.memory.get(addr, width)?;
+        let spot = Spot::Ram;
+        Some(Loaded {
+            next,
+            value: extended(raw, width, signed),
+            access: Access::Load { addr, width, spot },
         })
     }
 
@@ -751,6 +802,44 @@ impl Hart {
         match outcome.cause {
             None => Some(outcome),
             Some(_) => None,
+        }
+    }
+
+    /// What a load of RAM does, at whatever time. None where the instruction is none, traps, or
+    /// reaches a device.
+    #[inline(always)]
+    pub fn loaded(&self, decoded: &Decoded) -> Option<Loaded>
+        requires fits { DecodedFits decoded.now }
+        ensures told { IfSome result (λ load. (limit : ℕ) (time : Option ℕ) (d : Devices)
+            → Told limit (result_of (range_of self.now.memory)
+            (known decoded.now.word decoded.now.insn) time (arch_of self.now d))
+            (arch_of self.now d) (load_with load.access)) }
+        ensures made { IfSome result (λ load. (limit : ℕ) (time : Option ℕ) (d : Devices)
+            → finished decoded.now.destination load.value load.next (arch_of self.now d)
+            ≡ behind limit (known decoded.now.word decoded.now.insn)
+            (result_of (range_of self.now.memory) (known decoded.now.word decoded.now.insn) time
+            (arch_of self.now d)) time (arch_of self.now d)) }
+    {
+        if !is_load(decoded.insn) {
+            return None;
+        }
+        let (first, second) = decoded.sources;
+        let outcome = eval(
+            decoded.insn,
+            self.pc,
+            self.operand(first),
+            self.operand(second),
+        );
+        if outcome.cause.is_some() {
+            return None;
+        }
+        match outcome.reach {
+            Reach::Load {
+                addr,
+                width,
+                signed,
+            } => self.read_ram(outcome.next, addr, width, signed),
+            _ => None,
         }
     }
 

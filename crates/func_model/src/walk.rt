@@ -110,7 +110,7 @@ impl<D: Device> Walk<D> {
         ensures position { self.new.position ≡ self.old.position + 1 }
         ensures others { IsSameBut self.old self.new }
     {
-        if self.compute_into(to) || self.transfer_into(to) {
+        if self.compute_into(to) || self.load_into(to) || self.transfer_into(to) {
             return;
         }
         self.carry_out(to);
@@ -131,6 +131,29 @@ impl<D: Device> Walk<D> {
         ensures unwritten { result ≡ false → to.new ≡ to.old }
     {
         let Some((made, past)) = self.contents.compute(self.position, self.epoch) else {
+            return false;
+        };
+        self.note(past);
+        *to = made;
+        true
+    }
+
+    /// The same where the next instruction is kept and is a load of RAM. It stays a call, as does
+    /// what carries out all others: a computed step needs no frame of theirs.
+    #[inline(never)]
+    fn load_into(&mut self, to: &mut Entry) -> bool
+        requires standing { IsStanding self.old }
+        requires running { self.old.is_stopped ≡ false }
+        requires room { self.old.position < self.old.committed + self.old.journal.room }
+        requires bounded { self.old.position < 2 ^ 63 }
+        ensures produced { result ≡ true → (s : RunSetup) (os : List SpecOrder)
+            → WalkStandsFor s os self.old → IsProduced s os self.old self.new (Some to.new) }
+        ensures forward { result ≡ true → IsForward self.old self.new }
+        ensures unchanged { result ≡ false → self.new ≡ self.old }
+        ensures unwritten { result ≡ false → to.new ≡ to.old }
+    {
+        let time = self.time();
+        let Some((made, past)) = self.contents.load(self.position, self.epoch, time) else {
             return false;
         };
         self.note(past);
