@@ -7,11 +7,11 @@ ghost use Rattle.mono_model.specs.Arch.{compare_of};
 ghost use Rattle.func_model.specs.Undo.{ended_in, is_device};
 
 use crate::found::Fetched;
-use crate::hart::{Hart, compare, plain, trap_before};
+use crate::hart::{Hart, StoreAccess, compare, plain, trap_before};
 use crate::memory::Memory;
 use crate::performed::{Interrupted, Made, PastStep, Performed, Stepped};
 use device_bus::{Bus, Device};
-use fsim_base::{Access, Class, Halt, NoMemory, RamRange, Width};
+use fsim_base::{Access, Class, Halt, NoMemory, RamRange, Spot, Width};
 use machine_csr::Csrs;
 use mono_model::{End, Final, Setup, Stats, end_of};
 use std::alloc::Global;
@@ -392,31 +392,33 @@ impl<D: Device> Contents<D> {
         Some(self.told(named, done, unserved))
     }
 
-    /// Executes the instruction at the next address, with its number, epoch and time or none, where
-    /// it is kept and is a load or store of RAM: what is told of it, and what takes it back. None,
-    /// and nothing done, of any other.
+    /// The same of a store to RAM, whatever its time.
     #[inline(always)]
-    pub fn transfer(&mut self, number: u64, epoch: u64, time: Option<u64>) -> Option<(Entry, Past)>
+    pub fn store(&mut self, number: u64, epoch: u64) -> Option<(Entry, Past)>
         requires count { retired_in self.old < 2 ^ 64 - 1 }
         ensures none { IfNone result (self.new ≡ self.old) }
-        ensures stands { IfSome result (λ told. (s : Setup) (a : Arch)
+        ensures stands { IfSome result (λ told. (s : Setup) (time : Option ℕ) (a : Arch)
             → ContentsStandFor s a self.old → ContentsStandFor s (seq s time a) self.new) }
-        ensures entry { IfSome result (λ told. (s : Setup) (a : Arch)
+        ensures entry { IfSome result (λ told. (s : Setup) (time : Option ℕ) (a : Arch)
             → ContentsStandFor s a self.old → told.0 ≡ entry_at s time a number epoch) }
-        ensures back { IfSome result (λ told. (s : Setup) (a : Arch)
+        ensures back { IfSome result (λ told. (s : Setup) (time : Option ℕ) (a : Arch)
             → ContentsStandFor s a self.old
             → undone (ram_range s.params) told.1 (seq s time a) ≡ a) }
         ensures number { IfSome result (λ told. told.1.number ≡ number) }
         ensures restorable { IfSome result (λ told. IsRestorable told.1) }
         ensures room { self.new.hart.room ≡ self.old.hart.room }
     {
-        let kept = self.hart.known()?;
-        let decoded = *kept;
-        let destination = decoded.destination;
-        let named = self.named(decoded.word, decoded.class, destination, number, epoch);
-        let done = self.hart.transfer(decoded)?;
-        let unserved = is_unserved(Fetched::Known(decoded), done.access, time);
-        Some(self.told(named, done, unserved))
+        let decoded = self.hart.known()?;
+        let store = self.hart.storing(decoded)?;
+        let named = self.named(decoded.word, decoded.class, None, number, epoch);
+        let old = self.hart.store_ram(store)?;
+        let StoreAccess { addr, width, .. } = store;
+        let spot = Spot::Ram;
+        let done = Performed {
+            access: Access::Store { addr, width, spot },
+            ..plain(Change::Memory { addr, width, old })
+        };
+        Some(self.told(named, done, false))
     }
 
     /// Executes what was fetched at the next address, with its number, epoch and time or none: what

@@ -110,7 +110,7 @@ impl<D: Device> Walk<D> {
         ensures position { self.new.position ≡ self.old.position + 1 }
         ensures others { IsSameBut self.old self.new }
     {
-        if self.compute_into(to) || self.load_into(to) || self.transfer_into(to) {
+        if self.compute_into(to) || self.load_into(to) || self.store_into(to) {
             return;
         }
         self.carry_out(to);
@@ -161,10 +161,9 @@ impl<D: Device> Walk<D> {
         true
     }
 
-    /// The same where the next instruction is kept and is a load or store of RAM. It stays a call,
-    /// as does what carries out all others: a computed step needs no frame of theirs.
+    /// The same where it is a store to RAM.
     #[inline(never)]
-    fn transfer_into(&mut self, to: &mut Entry) -> bool
+    fn store_into(&mut self, to: &mut Entry) -> bool
         requires standing { IsStanding self.old }
         requires running { self.old.is_stopped ≡ false }
         requires room { self.old.position < self.old.committed + self.old.journal.room }
@@ -175,8 +174,7 @@ impl<D: Device> Walk<D> {
         ensures unchanged { result ≡ false → self.new ≡ self.old }
         ensures unwritten { result ≡ false → to.new ≡ to.old }
     {
-        let time = self.time();
-        let Some((made, past)) = self.contents.transfer(self.position, self.epoch, time) else {
+        let Some((made, past)) = self.contents.store(self.position, self.epoch) else {
             return false;
         };
         self.note(past);
