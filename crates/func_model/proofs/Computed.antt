@@ -2,6 +2,8 @@
 use Rattle.std.proofs.Common.{◌≡◌, ℕ, ◌+◌, ◌&&◌, Bool, true, false, not, if◌then◌else◌, length, Option, Some, None, is_none, refl, ap, ◌∙◌, arith}
 use Rattle.fsim_base.specs.declared.access.RamRange.{RamRange}
 use Rattle.fsim_base.specs.declared.access.Access.TheVariants as access
+use Rattle.fsim_base.specs.declared.access.Spot.TheVariants.{Ram}
+use Rattle.fsim_base.specs.declared.access.Width.{Width}
 use Rattle.fsim_base.specs.declared.cause.Cause.{Cause}
 use Rattle.fsim_base.specs.Number.{wrap_sum}
 use Rattle.rv_decode.specs.declared.insn.Insn.{Insn}
@@ -118,3 +120,7 @@ computed_back s time limit number word i o destination a b past e made is =
 -- it reads no time
 pub never_unserved : (word : ℕ) (i : Insn) (time : Option ℕ) → reads_time_of i ≡ false → false ≡ (is_time_read (known word i) access.Nothing && is_none time)
 never_unserved word i time timeless = rw timeless refl
+
+pub store_unserved : (word : ℕ) (i : Insn) (addr : ℕ) (width : Width) (time : Option ℕ) → reads_time_of i ≡ false →
+    false ≡ (is_time_read (known word i) (access.Store addr width Ram) && is_none time)
+store_unserved word i addr width time timeless = rw timeless refl

@@ -15,7 +15,7 @@ use Rattle.fsim_base.specs.declared.cause.Cause.{Cause}
 use Rattle.func_model.specs.declared.performed.Performed.{Performed}
 use Rattle.machine_csr.specs.declared.csrs.Csrs.{Csrs}
 use Rattle.undo_journal.specs.declared.past.Change.{Change}
-use Rattle.func_model.specs.Steps.{finished, concluded, outcome_made, outcome_result, plain_with, failed_with, Told}
+use Rattle.func_model.specs.Steps.{finished, concluded, load_made, store_made, outcome_made, outcome_result, plain_with, failed_with, Told}
 
 pub conclude_nothing : (limit next : ℕ) (what : Note) (a b : Arch) → what ≡ note.Nothing → b ≡ finished None 0 next a → b ≡ concluded limit what next a
 conclude_nothing limit next what a b is made = rw is made
@@ -36,6 +36,10 @@ nothing_made range limit destination o time a b none plain made = rw (none, plai
 pub load_result : (range : RamRange) (e : Seen) (o : Outcome) (addr : ℕ) (width : Width) (signed : Bool) → o.cause ≡ None → o.reach ≡ reach.Load addr width signed →
     loaded_at o.next addr width signed e (spot_of range addr width) ≡ outcome_result range e o
 load_result range e o addr width signed none there = rw (none, there) refl
+
+pub load_behind : (range : RamRange) (limit : ℕ) (destination : Option ℕ) (o : Outcome) (time : Option ℕ) (a b : Arch) (addr : ℕ) (width : Width) (signed : Bool) → o.cause ≡ None →
+    o.reach ≡ reach.Load addr width signed → b ≡ load_made range destination o.next addr width signed time a → b ≡ outcome_made range limit destination o time a
+load_behind range limit destination o time a b addr width signed none there made = rw (none, there) made
 
 -- what is told of one result is told of an equal one
 pub told_same : (limit : ℕ) (r s : Result) (a : Arch) (done : Performed) → r ≡ s → Told limit r a done → Told limit s a done
@@ -60,6 +64,10 @@ told_failed limit next tried cause mtval before a done is =
 pub store_result : (range : RamRange) (e : Seen) (o : Outcome) (addr : ℕ) (width : Width) (value : ℕ) → o.cause ≡ None → o.reach ≡ reach.Store addr width value →
     stored_at o.next addr width value (spot_of range addr width) ≡ outcome_result range e o
 store_result range e o addr width value none there = rw (none, there) refl
+
+pub store_behind : (range : RamRange) (limit : ℕ) (destination : Option ℕ) (o : Outcome) (time : Option ℕ) (a b : Arch) (addr : ℕ) (width : Width) (value : ℕ) → o.cause ≡ None →
+    o.reach ≡ reach.Store addr width value → b ≡ store_made range limit o.next addr width value a → b ≡ outcome_made range limit destination o time a
+store_behind range limit destination o time a b addr width value none there made = rw (none, there) made
 
 pub none_caused : (cause : Option (Cause × ℕ)) → is_some cause ≡ false → cause ≡ None
 none_caused None is = refl

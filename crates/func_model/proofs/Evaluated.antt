@@ -1,6 +1,8 @@
 -- What evaluation tells of an instruction's access and destination.
-use Rattle.std.proofs.Common.{◌≡◌, ℕ, ◌==◌, Bool, true, false, if◌then◌else◌, Option, Some, None, refl, sym, subst, arith}
+use Rattle.std.proofs.Common.{◌≡◌, ℕ, ◌%◌, ◌==◌, Bool, true, false, if◌then◌else◌, Option, Some, None, refl, sym, subst, arith}
 use Rattle.std.proofs.lemmas.Grind.{common_steps}
+use Rattle.fsim_base.specs.declared.access.Width.{Width}
+use Rattle.fsim_base.specs.Width.{width_bytes}
 use Rattle.fsim_base.specs.declared.cause.Cause.{Cause}
 use Rattle.rv_decode.specs.declared.insn.Insn.{Insn}
 use Rattle.rv_decode.specs.declared.insn.Insn.TheVariants as insn
@@ -11,8 +13,9 @@ use Rattle.rv_exec.specs.declared.outcome.Reach.TheVariants as reach
 use Rattle.rv_exec.specs.Eval.{eval_of, branched}
 use Rattle.rv_exec.specs.Branch.{branch_taken}
 use Rattle.fsim_base.specs.Number.{wrap_sum}
+use Rattle.machine_csr.specs.Csr.{reads_time_of}
 use Rattle.mono_model.specs.Found.{is_csr_insn, is_mret_insn}
-use Rattle.func_model.specs.Steps.{AlignedBy, IsAlignedReach, is_transfer}
+use Rattle.func_model.specs.Steps.{AlignedBy, IsAlignedReach, is_load, is_store}
 
 aligned_zero : (n : ℕ) → (n == 0) ≡ true → n ≡ 0
 aligned_zero n is = grind (arith, common_steps)
@@ -51,6 +54,13 @@ aligned_by o i addr a b is =
     let P : Outcome → Type 0 = λ x. AlignedBy x.cause x.reach in
     subst P (sym is) (outcome_aligned i addr a b)
 
+-- so a load or store is aligned that doesn't trap
+pub load_aligned : (o : Outcome) (addr : ℕ) (width : Width) (signed : Bool) → o.cause ≡ None → o.reach ≡ reach.Load addr width signed → AlignedBy o.cause o.reach → addr % width_bytes width ≡ 0
+load_aligned o addr width signed none there aligned = rw (none, there) at aligned
+
+pub store_aligned : (o : Outcome) (addr : ℕ) (width : Width) (value : ℕ) → o.cause ≡ None → o.reach ≡ reach.Store addr width value → AlignedBy o.cause o.reach → addr % width_bytes width ≡ 0
+store_aligned o addr width value none there aligned = rw (none, there) at aligned
+
 -- a store writes no register
 abbrev pub NoDestination : Option ℕ → Reach → Type 0
 NoDestination destination reach.Nothing = Unit {0}
@@ -81,10 +91,28 @@ stores_write_none insn.Wfi addr a b = tt
 stores_write_none (insn.Csr kind rd rs1 csr) addr a b = tt
 
 -- a load or a store is nothing else
-pub transfer_no_csr : (i : Insn) → is_transfer i ≡ true → is_csr_insn i ≡ false
-transfer_no_csr (insn.Csr kind rd rs1 csr) is = cc
-transfer_no_csr i is = refl
+pub load_no_csr : (i : Insn) → is_load i ≡ true → is_csr_insn i ≡ false
+load_no_csr (insn.Csr kind rd rs1 csr) is = cc
+load_no_csr i is = refl
 
-pub transfer_no_mret : (i : Insn) → is_transfer i ≡ true → is_mret_insn i ≡ false
-transfer_no_mret insn.Mret is = cc
-transfer_no_mret i is = refl
+pub load_no_mret : (i : Insn) → is_load i ≡ true → is_mret_insn i ≡ false
+load_no_mret insn.Mret is = cc
+load_no_mret i is = refl
+
+pub store_no_csr : (i : Insn) → is_store i ≡ true → is_csr_insn i ≡ false
+store_no_csr (insn.Csr kind rd rs1 csr) is = cc
+store_no_csr i is = refl
+
+pub store_no_mret : (i : Insn) → is_store i ≡ true → is_mret_insn i ≡ false
+store_no_mret insn.Mret is = cc
+store_no_mret i is = refl
+
+pub store_no_time : (i : Insn) → is_store i ≡ true → reads_time_of i ≡ false
+unfolding reads_time_of
+store_no_time (insn.Csr kind rd rs1 csr) is = cc
+store_no_time i is = refl
+
+-- nor does it write a register
+pub store_no_register : (i : Insn) → is_store i ≡ true → dest_of i ≡ None
+store_no_register (insn.Store kind rs1 rs2 imm) is = refl
+store_no_register i is = cc

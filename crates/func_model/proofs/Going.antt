@@ -46,28 +46,24 @@ last_step s os walk steps past h above is =
     place : (committed position count whole : ℕ) → committed < position → whole ≡ position - committed → whole ≡ count + 1 → committed + count ≡ position - 1
     place committed position count whole above held is = omega arith
 
-pub last_restorable : {D : Type 0} (n : ℕ) (opened walk : Walk D) (journal : Log) (past : Past) → IsOnSomePath opened → opened.committed ≤ n → Backing n opened walk → n < walk.position →
+pub last_restorable : {D : Type 0} (walk : Walk D) (journal : Log) (past : Past) → IsOnSomePath walk → walk.committed < walk.position →
     walk.journal ≡ record journal { steps = journal.steps ++ past ∷ [] } → IsRestorable past
-last_restorable n opened walk journal past holding from at more is =
-    (last_step holding.setup holding.orders walk journal.steps past (at.holds holding.setup holding.orders holding.holds) (omega (arith, at.others.committed)) (ap (λ (j : Log). j.steps) is)).1.restorable
+last_restorable walk journal past holding above is =
+    (last_step holding.setup holding.orders walk journal.steps past holding.holds above (ap (λ (j : Log). j.steps) is)).1.restorable
 
 -- there is such a step
-pub not_empty : {A : Type 0} {D : Type 0} (n : ℕ) (opened walk : Walk D) → IsOnSomePath opened → opened.committed ≤ n → Backing n opened walk → n < walk.position → walk.journal.steps ≡ [] → A
-not_empty n opened walk holding from at more empty =
-    let h = at.holds holding.setup holding.orders holding.holds in
+pub not_empty : {A : Type 0} {D : Type 0} (walk : Walk D) → IsOnSomePath walk → walk.committed < walk.position → walk.journal.steps ≡ [] → A
+not_empty walk holding above empty =
     let none : length walk.journal.steps ≡ 0 = ap (length {A = Past}) empty in
-    absurd (omega (arith, none, h.held, at.others.committed))
+    absurd (omega (arith, none, holding.holds.held))
 
 -- one instruction is taken back
-pub backing_more : {D : Type 0} (n : ℕ) (opened walk : Walk D) (contents : Contents D) (journal : Log) (past : Past) → opened.committed ≤ n → Backing n opened walk → n < walk.position →
+pub step_back_holds : {D : Type 0} (walk : Walk D) (contents : Contents D) (journal : Log) (past : Past) → walk.committed < walk.position →
     walk.journal ≡ record journal { steps = journal.steps ++ past ∷ [] } →
     ((s : Setup) (a : Arch) → ContentsStandFor s a walk.contents → ContentsStandFor s (undone (ram_range s.params) past a) contents) → contents.hart.room ≡ walk.contents.hart.room →
-    Backing n opened (record walk { contents = contents; journal = journal; position = walk.position - 1 })
-backing_more {D} n opened walk contents journal past from at more is stands space =
+    (s : Setup) (os : List Order) → IsOnPath s os walk → IsOnPath s os (record walk { contents = contents; journal = journal; position = walk.position - 1 })
+step_back_holds {D} walk contents journal past above is stands space s os now =
     let steps : walk.journal.steps ≡ journal.steps ++ past ∷ [] = ap (λ (j : Log). j.steps) is in
-    let above : walk.committed < walk.position = omega (arith, at.others.committed) in
-    let back : (s : Setup) (os : List Order) → IsOnPath s os opened → IsOnPath s os (record walk { contents = contents; journal = journal; position = walk.position - 1 }) = λ s os h.
-    let now : IsOnPath s os walk = at.holds s os h in
     let last = last_step s os walk journal.steps past now above steps in
     let P : Arch → Type 0 = λ a. ContentsStandFor {D = D} s a contents in
     let next : walk.position ≡ suc (walk.position - 1) = omega arith in
@@ -81,17 +77,35 @@ backing_more {D} n opened walk contents journal past from at more is stands spac
       given = now.given;
       epoch = now.epoch;
       within = now.within;
-    } in
-    record {
-      holds = back;
-      others = record { committed = at.others.committed; room = sym (ap (λ (j : Log). j.room) is) ∙ at.others.room; running = at.others.running; epoch = at.others.epoch; limit = at.others.limit };
-      within = omega (arith, at.within);
-      above = λ up. omega arith;
-      stays = λ low. absurd (omega (arith, ap (λ (w : Walk D). w.position) (at.stays low)));
     }
   where
     fewer : (position committed count whole : ℕ) → whole ≡ count + 1 → whole ≡ position - committed → count ≡ position - 1 - committed
     fewer position committed count whole is held = omega arith
+
+-- what is taken back is above what is committed, and on a path
+pub backing_above : {D : Type 0} (n : ℕ) (opened walk : Walk D) → opened.committed ≤ n → Backing n opened walk → n < walk.position → walk.committed < walk.position
+backing_above n opened walk from at more = omega (arith, at.others.committed)
+
+pub backing_holding : {D : Type 0} (n : ℕ) (opened walk : Walk D) → (n < opened.position → IsOnSomePath opened) → Backing n opened walk → n < walk.position → IsOnSomePath walk
+backing_holding n opened walk holding at more =
+    let held = holding (omega (arith, at.within)) in
+    record { setup = held.setup; orders = held.orders; holds = at.holds held.setup held.orders held.holds }
+
+pub backing_more : {D : Type 0} (n : ℕ) (opened walk next : Walk D) → Backing n opened walk → n < walk.position →
+    ((s : Setup) (os : List Order) → IsOnPath s os walk → IsOnPath s os next) → next.position + 1 ≡ walk.position → IsSameBut walk next → Backing n opened next
+backing_more {D} n opened walk next at more holds position same = record {
+  holds = λ s os h. holds s os (at.holds s os h);
+  others = record {
+    committed = same.committed ∙ at.others.committed;
+    room = same.room ∙ at.others.room;
+    running = same.running ∙ at.others.running;
+    epoch = same.epoch ∙ at.others.epoch;
+    limit = same.limit ∙ at.others.limit;
+  };
+  within = omega (arith, at.within);
+  above = λ up. omega arith;
+  stays = λ low. absurd (omega (arith, ap (λ (w : Walk D). w.position) (at.stays low)));
+}
 
 -- what holds as instructions are executed until `n` is the next one
 pub record Onward {D : Type 0} (n : ℕ) (opened walk : Walk D) : Type 0 where

@@ -4,6 +4,7 @@ use Rattle.fsim_base.specs.declared.access.Access.{Access}
 use Rattle.fsim_base.specs.declared.access.Access.TheVariants as access
 use Rattle.fsim_base.specs.declared.access.Width.{Width}
 use Rattle.fsim_base.specs.declared.access.Spot.{Spot}
+use Rattle.fsim_base.specs.declared.access.Spot.TheVariants.{Ram}
 use Rattle.fsim_base.specs.declared.access.RamRange.{RamRange}
 use Rattle.fsim_base.specs.Cause.{cause_number}
 use Rattle.fsim_base.specs.Width.{width_bytes}
@@ -25,7 +26,7 @@ use Rattle.device_bus.specs.declared.undo.Note.{Note}
 use Rattle.device_bus.specs.declared.undo.Note.TheVariants as note
 use Rattle.device_bus.specs.Bus.{Devices}
 use Rattle.undo_journal.specs.declared.past.Change.{Change}
-use Rattle.undo_journal.specs.declared.past.Change.TheVariants.{Trap}
+use Rattle.undo_journal.specs.declared.past.Change.TheVariants.{Nothing, Memory, Trap}
 use Rattle.func_model.specs.Undo.{trap_before}
 use Rattle.mono_model.specs.Arch.{Arch, with_register, register_value, trapped}
 use Rattle.mono_model.specs.Found.{Found, first_source, second_source}
@@ -161,11 +162,15 @@ reaches_out insn.Mret = true
 reaches_out (insn.Csr kind rd rs1 csr) = true
 reaches_out other = false
 
--- a load or a store
-abbrev pub is_transfer : Insn → Bool
-is_transfer (insn.Load kind rd rs1 imm) = true
-is_transfer (insn.Store kind rs1 rs2 imm) = true
-is_transfer other = false
+-- a load
+abbrev pub is_load : Insn → Bool
+is_load (insn.Load kind rd rs1 imm) = true
+is_load other = false
+
+-- a store
+abbrev pub is_store : Insn → Bool
+is_store (insn.Store kind rs1 rs2 imm) = true
+is_store other = false
 
 -- the outcome of an instruction at an address, with the values of the registers
 abbrev pub outcome_at : Insn → ℕ → (ℕ → ℕ) → Outcome
@@ -179,6 +184,14 @@ plain_outcome i addr regs =
 -- what is told of an instruction that reached neither memory nor a device
 abbrev pub plain_with : Change → Performed
 plain_with change = record { stepped = On; sent = None; access = access.Nothing; cause = None; change = change }
+
+-- what is told of a load of RAM
+abbrev pub load_with : Access → Performed
+load_with made = record { stepped = On; sent = None; access = made; cause = None; change = Nothing }
+
+-- what is told of a store to RAM that replaces a value
+abbrev pub store_with : ℕ → Width → ℕ → Performed
+store_with addr width old = record { stepped = On; sent = None; access = access.Store addr width Ram; cause = None; change = Memory addr width old }
 
 -- what is told of a trap, with the access that was attempted, and the control and status registers before it
 abbrev pub failed_with : Access → Cause → Csrs → Performed

@@ -7,11 +7,11 @@ ghost use Rattle.mono_model.specs.Arch.{compare_of};
 ghost use Rattle.func_model.specs.Undo.{ended_in, is_device};
 
 use crate::found::Fetched;
-use crate::hart::{Hart, compare, plain, trap_before};
+use crate::hart::{Hart, StoreAccess, compare, plain, trap_before};
 use crate::memory::Memory;
 use crate::performed::{Interrupted, Made, PastStep, Performed, Stepped};
 use device_bus::{Bus, Device};
-use fsim_base::{Access, Class, Halt, NoMemory, RamRange, Width};
+use fsim_base::{Access, Class, Halt, NoMemory, RamRange, Spot, Width};
 use machine_csr::Csrs;
 use mono_model::{End, Final, Setup, Stats, end_of};
 use std::alloc::Global;
@@ -108,6 +108,7 @@ impl<D: Device> Contents<D> {
     ghost use Rattle.func_model.specs.Contents.{ContentsStandFor, retired_in, output_in};
     ghost use Rattle.func_model.specs.Contents.{after_instruction, before};
     ghost use Rattle.func_model.specs.Undo.{undone, IsRestorable};
+    ghost use Rattle.undo_journal.specs.Journal.{IsPlain};
     ghost use Rattle.func_model.specs.History.{resumed, step_undone, step_seq};
     ghost use Rattle.func_model.specs.History.{instruction_in, IsMade};
     ghost use Rattle.func_model.specs.Hart.{FetchedFits, next_found, IsRegister};
@@ -361,10 +362,10 @@ impl<D: Device> Contents<D> {
     }
 
     /// Executes the instruction at the next address, with its number, epoch and time or none, where
-    /// it is kept and is a load or store of RAM: what is told of it, and what takes it back. None,
-    /// and nothing done, of any other.
+    /// it is kept and is a load of RAM: what is told of it, and what takes it back. None, and
+    /// nothing done, of any other.
     #[inline(always)]
-    pub fn transfer(&mut self, number: u64, epoch: u64, time: Option<u64>) -> Option<(Entry, Past)>
+    pub fn load(&mut self, number: u64, epoch: u64, time: Option<u64>) -> Option<(Entry, Past)>
         requires count { retired_in self.old < 2 ^ 64 - 1 }
         ensures none { IfNone result (self.new ≡ self.old) }
         ensures stands { IfSome result (λ told. (s : Setup) (a : Arch)
@@ -378,13 +379,46 @@ impl<D: Device> Contents<D> {
         ensures restorable { IfSome result (λ told. IsRestorable told.1) }
         ensures room { self.new.hart.room ≡ self.old.hart.room }
     {
-        let kept = self.hart.known()?;
-        let decoded = *kept;
+        let decoded = self.hart.known()?;
+        let load = self.hart.loaded(decoded)?;
         let destination = decoded.destination;
         let named = self.named(decoded.word, decoded.class, destination, number, epoch);
-        let done = self.hart.transfer(decoded)?;
-        let unserved = is_unserved(Fetched::Known(decoded), done.access, time);
+        let unserved = is_unserved(Fetched::Known(*decoded), load.access, time);
+        self.hart.finish(destination, load.value, load.next);
+        let done = Performed {
+            access: load.access,
+            ..plain(Change::Nothing)
+        };
         Some(self.told(named, done, unserved))
+    }
+
+    /// The same of a store to RAM, whatever its time.
+    #[inline(always)]
+    pub fn store(&mut self, number: u64, epoch: u64) -> Option<(Entry, Past)>
+        requires count { retired_in self.old < 2 ^ 64 - 1 }
+        ensures none { IfNone result (self.new ≡ self.old) }
+        ensures stands { IfSome result (λ told. (s : Setup) (time : Option ℕ) (a : Arch)
+            → ContentsStandFor s a self.old → ContentsStandFor s (seq s time a) self.new) }
+        ensures entry { IfSome result (λ told. (s : Setup) (time : Option ℕ) (a : Arch)
+            → ContentsStandFor s a self.old → told.0 ≡ entry_at s time a number epoch) }
+        ensures back { IfSome result (λ told. (s : Setup) (time : Option ℕ) (a : Arch)
+            → ContentsStandFor s a self.old
+            → undone (ram_range s.params) told.1 (seq s time a) ≡ a) }
+        ensures number { IfSome result (λ told. told.1.number ≡ number) }
+        ensures restorable { IfSome result (λ told. IsRestorable told.1) }
+        ensures room { self.new.hart.room ≡ self.old.hart.room }
+    {
+        let decoded = self.hart.known()?;
+        let store = self.hart.storing(decoded)?;
+        let named = self.named(decoded.word, decoded.class, None, number, epoch);
+        let old = self.hart.store_ram(store)?;
+        let StoreAccess { addr, width, .. } = store;
+        let spot = Spot::Ram;
+        let done = Performed {
+            access: Access::Store { addr, width, spot },
+            ..plain(Change::Memory { addr, width, old })
+        };
+        Some(self.told(named, done, false))
     }
 
     /// Executes what was fetched at the next address, with its number, epoch and time or none: what
@@ -430,6 +464,18 @@ impl<D: Device> Contents<D> {
     {
         self.hart.restore(&mut self.bus, past);
         self.cmp = compare_behind(&self.bus, past.change, self.cmp);
+    }
+
+    /// Takes an instruction back whose undo step is plain.
+    #[inline(always)]
+    pub fn undo_plain(&mut self, past: Past)
+        requires restorable { IsRestorable past }
+        requires plain { IsPlain past }
+        ensures stands { (s : Setup) (a : Arch) → ContentsStandFor s a self.old
+            → ContentsStandFor s (undone (ram_range s.params) past a) self.new }
+        ensures room { self.new.hart.room ≡ self.old.hart.room }
+    {
+        self.hart.restore_plain(past);
     }
 
     /// Goes on at another address.

@@ -1,13 +1,14 @@
 ghost use Rattle.std.specs.Prelude.{◌≡◌, ◌≤◌, ◌<◌, ◌^◌, ◌+◌, ◌-◌, ◌%◌, ℕ, None, Some};
 ghost use Rattle.std.specs.Prelude.{slice_index, vec_capacity, unwrap_or, if◌then◌else◌};
-ghost use Rattle.std.specs.Prelude.{Option, IfSome, IfNone};
+ghost use Rattle.std.specs.Prelude.{Option, IfSome, IfNone, true};
 ghost use Rattle.mono_model.specs.Arch.{compare_of};
 ghost use Rattle.mono_model.specs.Found.{is_csr_insn, is_mret_insn};
 ghost use Rattle.mono_model.specs.Result.{attempted, csr_value};
 ghost use Rattle.mono_model.specs.Sequence.{byte_in};
-ghost use Rattle.func_model.specs.Steps.{plain_with, reaches_out, is_transfer};
+ghost use Rattle.func_model.specs.Steps.{plain_with, reaches_out, is_load, is_store};
 ghost use Rattle.func_model.specs.Undo.{csr_back, flags_before, trap_before};
 ghost use Rattle.machine_csr.specs.Csr.{csr_written};
+ghost use Rattle.rv_exec.specs.Load.{loaded_value};
 
 use crate::found::{Decoded, Fetched};
 use crate::memory::Memory;
@@ -45,11 +46,20 @@ struct LoadAccess {
 
 /// A store, by its address and value, and the address of the instruction behind it.
 #[derive(Clone, Copy)]
-struct StoreAccess {
-    next: u32,
-    addr: u32,
-    width: Width,
-    value: u32,
+pub struct StoreAccess {
+    pub next: u32,
+    pub addr: u32,
+    pub width: Width,
+    pub value: u32,
+}
+
+/// What a load of RAM does: what it writes to its register, its access, and the address of the
+/// instruction behind it.
+#[derive(Clone, Copy)]
+pub struct Loaded {
+    pub next: u32,
+    pub value: u32,
+    pub access: Access,
 }
 
 /// The bytes of a load, as a number, where it can be made; where they lie; and what takes an access
@@ -84,11 +94,29 @@ fn reaches_out(insn: Insn) -> bool
     )
 }
 
-/// Whether the instruction is a load or a store.
-fn is_transfer(insn: Insn) -> bool
-    ensures transfer { result ≡ is_transfer insn }
+/// Whether the instruction is a load.
+fn is_load(insn: Insn) -> bool
+    ensures load { result ≡ is_load insn }
 {
-    matches!(insn, Insn::Load { .. } | Insn::Store { .. })
+    matches!(insn, Insn::Load { .. })
+}
+
+/// Whether the instruction is a store.
+fn is_store(insn: Insn) -> bool
+    ensures store { result ≡ is_store insn }
+{
+    matches!(insn, Insn::Store { .. })
+}
+
+/// What a load writes to its register; a word as it is.
+#[inline(always)]
+fn extended(raw: u32, width: Width, signed: bool) -> u32
+    ensures value { result ≡ loaded_value width signed raw }
+{
+    match width {
+        Width::Word => raw,
+        _ => extend(raw, width, signed),
+    }
 }
 
 /// The timer's place on the bus, and the numbers that are the halves of its mtimecmp.
@@ -216,7 +244,8 @@ impl Hart {
     ghost use Rattle.func_model.specs.Steps.{failed_with, finished, read_devices, load_made};
     ghost use Rattle.func_model.specs.Steps.{stepped_by, concluded, store_made, outcome_made};
     ghost use Rattle.func_model.specs.Steps.{outcome_result, AlignedBy, csr_made, mret_made};
-    ghost use Rattle.func_model.specs.Steps.{behind, result_of, plain_outcome, Told};
+    ghost use Rattle.func_model.specs.Steps.{behind, result_of, plain_outcome, Told, load_with};
+    ghost use Rattle.func_model.specs.Steps.{store_with};
     ghost use Rattle.func_model.specs.Hart.{found_in, DecodedFits, FetchedFits, found_by};
     ghost use Rattle.func_model.specs.Hart.{arch_of, next_found, IsRegister};
     ghost use Rattle.func_model.specs.Undo.{undone, TakesBack, IsRestorable, IsRestorableChange};
@@ -224,6 +253,7 @@ impl Hart {
     ghost use Rattle.func_model.specs.Undo.{register_before, trap_back};
     ghost use Rattle.fsim_base.specs.declared.access.RamRange.{RamRange};
     ghost use Rattle.undo_journal.specs.declared.past.Change.TheVariants.{Csr};
+    ghost use Rattle.undo_journal.specs.Journal.{IsPlain};
 
     /// What stands at the next address.
     #[inline(always)]
@@ -418,42 +448,26 @@ impl Hart {
         }
     }
 
-    /// An aligned load of RAM, with the register that it writes. None, and nothing done, where it
-    /// isn't inside RAM.
+    /// What an aligned load does, at whatever time. None where it isn't inside RAM.
     #[tactic(auto, unfolding(crate::specs::Hart::arch_of))]
     #[inline(always)]
-    fn load_ram(
-        &mut self,
-        destination: Option<u8>,
-        next: u32,
-        addr: u32,
-        width: Width,
-        signed: bool,
-    ) -> Option<Performed>
-        requires exists { IsRegister destination }
-        requires count { self.old.csrs.retired < 2 ^ 64 - 1 }
+    fn read_ram(&self, next: u32, addr: u32, width: Width, signed: bool) -> Option<Loaded>
         requires aligned { addr % width_bytes width ≡ 0 }
-        ensures none { IfNone result (self.new ≡ self.old) }
-        ensures told { IfSome result (λ done. (limit : ℕ) (time : Option ℕ) (d : Devices)
-            → Told limit (loaded_at next addr width signed (seen_in time (arch_of self.old d))
-            (spot_of (range_of self.old.memory) addr width)) (arch_of self.old d) done) }
-        ensures arch { IfSome result (λ done. (time : Option ℕ) (d : Devices)
-            → arch_of self.new d
-            ≡ load_made (range_of self.old.memory) destination next addr width signed time
-            (arch_of self.old d)) }
-        ensures back { IfSome result (λ done. (d : Devices)
-            → TakesBack (range_of self.old.memory) done (arch_of self.old d)
-            (arch_of self.new d)) }
-        ensures memory { self.new.memory ≡ self.old.memory }
-        ensures room { self.new.room ≡ self.old.room }
+        ensures told { IfSome result (λ load. (limit : ℕ) (time : Option ℕ) (d : Devices)
+            → Told limit (loaded_at next addr width signed (seen_in time (arch_of self.now d))
+            (spot_of (range_of self.now.memory) addr width)) (arch_of self.now d)
+            (load_with load.access)) }
+        ensures made { IfSome result (λ load. (destination : Option ℕ) (time : Option ℕ)
+            (d : Devices) → finished destination load.value load.next (arch_of self.now d)
+            ≡ load_made (range_of self.now.memory) destination next addr width signed time
+            (arch_of self.now d)) }
     {
         let raw = self.memory.get(addr, width)?;
-        let value = extend(raw, width, signed);
-        self.finish(destination, value, next);
         let spot = Spot::Ram;
-        Some(Performed {
+        Some(Loaded {
+            next,
+            value: extended(raw, width, signed),
             access: Access::Load { addr, width, spot },
-            ..plain(Change::Nothing)
         })
     }
 
@@ -545,34 +559,32 @@ impl Hart {
         }
     }
 
-    /// An aligned store to RAM. None, and nothing done, where it isn't inside RAM.
+    /// Makes an aligned store to RAM, and gives the value that it replaces. None, and nothing done,
+    /// where it isn't inside RAM.
     #[tactic(auto, unfolding(crate::specs::Hart::arch_of))]
     #[inline(always)]
-    fn store_ram(&mut self, next: u32, addr: u32, width: Width, value: u32) -> Option<Performed>
+    pub fn store_ram(&mut self, access: StoreAccess) -> Option<u32>
         requires count { self.old.csrs.retired < 2 ^ 64 - 1 }
-        requires aligned { addr % width_bytes width ≡ 0 }
+        requires aligned { access.addr % width_bytes access.width ≡ 0 }
         ensures none { IfNone result (self.new ≡ self.old) }
-        ensures told { IfSome result (λ done. (limit : ℕ) (d : Devices)
-            → Told limit (stored_at next addr width value
-            (spot_of (range_of self.old.memory) addr width)) (arch_of self.old d) done) }
-        ensures arch { IfSome result (λ done. (limit : ℕ) (d : Devices)
+        ensures told { IfSome result (λ old. (limit : ℕ) (d : Devices)
+            → Told limit (stored_at access.next access.addr access.width access.value
+            (spot_of (range_of self.old.memory) access.addr access.width)) (arch_of self.old d)
+            (store_with access.addr access.width old)) }
+        ensures arch { IfSome result (λ old. (limit : ℕ) (d : Devices)
             → arch_of self.new d
-            ≡ store_made (range_of self.old.memory) limit next addr width value
-            (arch_of self.old d)) }
-        ensures back { IfSome result (λ done. (d : Devices)
-            → TakesBack (range_of self.old.memory) done (arch_of self.old d)
-            (arch_of self.new d)) }
+            ≡ store_made (range_of self.old.memory) limit access.next access.addr access.width
+            access.value (arch_of self.old d)) }
+        ensures back { IfSome result (λ old. (d : Devices)
+            → TakesBack (range_of self.old.memory) (store_with access.addr access.width old)
+            (arch_of self.old d) (arch_of self.new d)) }
         ensures range { range_of self.new.memory ≡ range_of self.old.memory }
         ensures exec { exec_of self.new.memory ≡ exec_of self.old.memory }
         ensures room { self.new.room ≡ self.old.room }
     {
-        let old = self.memory.set(addr, width, value)?;
-        self.finish(None, 0, next);
-        let spot = Spot::Ram;
-        Some(Performed {
-            access: Access::Store { addr, width, spot },
-            ..plain(Change::Memory { addr, width, old })
-        })
+        let old = self.memory.set(access.addr, access.width, access.value)?;
+        self.finish(None, 0, access.next);
+        Some(old)
     }
 
     /// Does what an instruction does whose outcome this is, with an output limit.
@@ -631,44 +643,6 @@ impl Hart {
                     value,
                 };
                 self.store(bus, access, limit)
-            }
-        }
-    }
-
-    /// Does what an instruction does whose outcome this is, where that is a load or store of RAM.
-    /// None, and nothing done, of any other outcome.
-    #[inline(always)]
-    fn reach_ram(&mut self, destination: Option<u8>, outcome: Outcome) -> Option<Performed>
-        requires exists { IsRegister destination }
-        requires count { self.old.csrs.retired < 2 ^ 64 - 1 }
-        requires aligned { AlignedBy outcome.cause outcome.reach }
-        ensures none { IfNone result (self.new ≡ self.old) }
-        ensures told { IfSome result (λ done. (limit : ℕ) (time : Option ℕ) (d : Devices)
-            → Told limit (outcome_result (range_of self.old.memory)
-            (seen_in time (arch_of self.old d)) outcome) (arch_of self.old d) done) }
-        ensures arch { IfSome result (λ done. (limit : ℕ) (time : Option ℕ) (d : Devices)
-            → arch_of self.new d
-            ≡ outcome_made (range_of self.old.memory) limit destination outcome time
-            (arch_of self.old d)) }
-        ensures back { IfSome result (λ done. (d : Devices)
-            → TakesBack (range_of self.old.memory) done (arch_of self.old d)
-            (arch_of self.new d)) }
-        ensures range { range_of self.new.memory ≡ range_of self.old.memory }
-        ensures exec { exec_of self.new.memory ≡ exec_of self.old.memory }
-        ensures room { self.new.room ≡ self.old.room }
-    {
-        if outcome.cause.is_some() {
-            return None;
-        }
-        match outcome.reach {
-            Reach::Nothing => None,
-            Reach::Load {
-                addr,
-                width,
-                signed,
-            } => self.load_ram(destination, outcome.next, addr, width, signed),
-            Reach::Store { addr, width, value } => {
-                self.store_ram(outcome.next, addr, width, value)
             }
         }
     }
@@ -753,30 +727,22 @@ impl Hart {
         }
     }
 
-    /// Makes a load or store of RAM, at whatever time. None, and nothing done, where the
-    /// instruction is none, traps, or reaches a device.
+    /// What a load of RAM does, at whatever time. None where the instruction is none, traps, or
+    /// reaches a device.
     #[inline(always)]
-    pub fn transfer(&mut self, decoded: Decoded) -> Option<Performed>
-        requires fits { DecodedFits decoded }
-        requires count { self.old.csrs.retired < 2 ^ 64 - 1 }
-        ensures none { IfNone result (self.new ≡ self.old) }
-        ensures told { IfSome result (λ done. (limit : ℕ) (time : Option ℕ) (d : Devices)
-            → Told limit (result_of (range_of self.old.memory)
-            (known decoded.word decoded.insn) time (arch_of self.old d)) (arch_of self.old d)
-            done) }
-        ensures arch { IfSome result (λ done. (limit : ℕ) (time : Option ℕ) (d : Devices)
-            → arch_of self.new d
-            ≡ behind limit (known decoded.word decoded.insn)
-            (result_of (range_of self.old.memory) (known decoded.word decoded.insn) time
-            (arch_of self.old d)) time (arch_of self.old d)) }
-        ensures back { IfSome result (λ done. (d : Devices)
-            → TakesBack (range_of self.old.memory) done (arch_of self.old d)
-            (arch_of self.new d)) }
-        ensures range { range_of self.new.memory ≡ range_of self.old.memory }
-        ensures exec { exec_of self.new.memory ≡ exec_of self.old.memory }
-        ensures room { self.new.room ≡ self.old.room }
+    pub fn loaded(&self, decoded: &Decoded) -> Option<Loaded>
+        requires fits { DecodedFits decoded.now }
+        ensures told { IfSome result (λ load. (limit : ℕ) (time : Option ℕ) (d : Devices)
+            → Told limit (result_of (range_of self.now.memory)
+            (known decoded.now.word decoded.now.insn) time (arch_of self.now d))
+            (arch_of self.now d) (load_with load.access)) }
+        ensures made { IfSome result (λ load. (limit : ℕ) (time : Option ℕ) (d : Devices)
+            → finished decoded.now.destination load.value load.next (arch_of self.now d)
+            ≡ behind limit (known decoded.now.word decoded.now.insn)
+            (result_of (range_of self.now.memory) (known decoded.now.word decoded.now.insn) time
+            (arch_of self.now d)) time (arch_of self.now d)) }
     {
-        if !is_transfer(decoded.insn) {
+        if !is_load(decoded.insn) {
             return None;
         }
         let (first, second) = decoded.sources;
@@ -786,7 +752,63 @@ impl Hart {
             self.operand(first),
             self.operand(second),
         );
-        self.reach_ram(decoded.destination, outcome)
+        if outcome.cause.is_some() {
+            return None;
+        }
+        match outcome.reach {
+            Reach::Load {
+                addr,
+                width,
+                signed,
+            } => self.read_ram(outcome.next, addr, width, signed),
+            _ => None,
+        }
+    }
+
+    /// The store that an instruction makes, wherever that reaches, and at whatever time. None where
+    /// the instruction is none, and where it traps.
+    #[inline(always)]
+    pub fn storing(&self, decoded: &Decoded) -> Option<StoreAccess>
+        requires fits { DecodedFits decoded.now }
+        ensures store { IfSome result (λ store. is_store decoded.now.insn ≡ true) }
+        ensures aligned { IfSome result (λ store. store.addr % width_bytes store.width ≡ 0) }
+        ensures comes_to { IfSome result (λ store. (time : Option ℕ) (d : Devices)
+            → stored_at store.next store.addr store.width store.value
+            (spot_of (range_of self.now.memory) store.addr store.width)
+            ≡ result_of (range_of self.now.memory) (known decoded.now.word decoded.now.insn) time
+            (arch_of self.now d)) }
+        ensures made { IfSome result (λ store. (limit : ℕ) (time : Option ℕ) (d : Devices)
+            → store_made (range_of self.now.memory) limit store.next store.addr store.width
+            store.value (arch_of self.now d)
+            ≡ behind limit (known decoded.now.word decoded.now.insn)
+            (result_of (range_of self.now.memory) (known decoded.now.word decoded.now.insn) time
+            (arch_of self.now d)) time (arch_of self.now d)) }
+    {
+        if !is_store(decoded.insn) {
+            return None;
+        }
+        let (first, second) = decoded.sources;
+        let outcome = eval(
+            decoded.insn,
+            self.pc,
+            self.operand(first),
+            self.operand(second),
+        );
+        if outcome.cause.is_some() {
+            return None;
+        }
+        match outcome.reach {
+            Reach::Store { addr, width, value } => {
+                let next = outcome.next;
+                Some(StoreAccess {
+                    next,
+                    addr,
+                    width,
+                    value,
+                })
+            }
+            _ => None,
+        }
     }
 
     /// Executes an instruction with a time or none and an output limit.
@@ -960,6 +982,22 @@ impl Hart {
         ensures uncounted { self.new ≡ record self.old { csrs = uncounted self.old.csrs } }
     {
         self.csrs.retired = self.csrs.retired.saturating_sub(1);
+    }
+
+    /// Takes an instruction back whose undo step is plain.
+    #[tactic(auto, unfolding(crate::specs::Hart::arch_of, crate::specs::Undo::undone))]
+    #[inline(always)]
+    pub fn restore_plain(&mut self, past: Past)
+        requires restorable { IsRestorable past }
+        requires plain { IsPlain past }
+        ensures arch { (range : RamRange) (d : Devices)
+            → arch_of self.new d ≡ undone range past (arch_of self.old d) }
+        ensures memory { self.new.memory ≡ self.old.memory }
+        ensures room { self.new.room ≡ self.old.room }
+    {
+        self.regs[past.reg.register as usize] = past.reg.value;
+        self.pc = past.addr;
+        self.uncount();
     }
 
     /// Takes an instruction back.

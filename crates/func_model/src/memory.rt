@@ -114,6 +114,7 @@ impl Memory {
     }
 
     /// The value of an aligned access, none where it isn't inside RAM. Little endian.
+    #[inline(always)]
     pub fn get(&self, addr: u32, width: Width) -> Option<u32>
         requires aligned { addr % width_bytes width ≡ 0 }
         ensures value { result ≡ loaded (range_of self.now) (ram_of self.now) addr width }
@@ -124,6 +125,7 @@ impl Memory {
     /// Stores the low bytes of a value by an aligned access, and gives the value that it replaces;
     /// none, and nothing changes, where the access isn't inside RAM. Little endian. Storing the
     /// value that was given restores RAM.
+    #[inline(always)]
     pub fn set(&mut self, addr: u32, width: Width, value: u32) -> Option<u32>
         requires aligned { addr % width_bytes width ≡ 0 }
         ensures old { result ≡ loaded (range_of self.old) (ram_of self.old) addr width }

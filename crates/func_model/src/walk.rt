@@ -110,10 +110,10 @@ impl<D: Device> Walk<D> {
         ensures position { self.new.position ≡ self.old.position + 1 }
         ensures others { IsSameBut self.old self.new }
     {
-        if self.compute_into(to) || self.transfer_into(to) {
+        if self.compute_into(to) || self.load_into(to) || self.store_into(to) {
             return;
         }
-        *to = self.carry_out();
+        self.carry_out(to);
     }
 
     /// Executes the next instruction, as `step_into` does, where it is kept and changes at most a
@@ -138,10 +138,10 @@ impl<D: Device> Walk<D> {
         true
     }
 
-    /// The same where the next instruction is kept and is a load or store of RAM. It stays a call,
-    /// as does what carries out all others: a computed step needs no frame of theirs.
+    /// The same where the next instruction is kept and is a load of RAM. It stays a call, as does
+    /// what carries out all others: a computed step needs no frame of theirs.
     #[inline(never)]
-    fn transfer_into(&mut self, to: &mut Entry) -> bool
+    fn load_into(&mut self, to: &mut Entry) -> bool
         requires standing { IsStanding self.old }
         requires running { self.old.is_stopped ≡ false }
         requires room { self.old.position < self.old.committed + self.old.journal.room }
@@ -153,7 +153,7 @@ impl<D: Device> Walk<D> {
         ensures unwritten { result ≡ false → to.new ≡ to.old }
     {
         let time = self.time();
-        let Some((made, past)) = self.contents.transfer(self.position, self.epoch, time) else {
+        let Some((made, past)) = self.contents.load(self.position, self.epoch, time) else {
             return false;
         };
         self.note(past);
@@ -161,16 +161,37 @@ impl<D: Device> Walk<D> {
         true
     }
 
-    /// Executes what fetch finds at the next address, whatever that is, and notes what takes it
-    /// back, unless it is committed.
+    /// The same where it is a store to RAM.
     #[inline(never)]
-    fn carry_out(&mut self) -> Entry
+    fn store_into(&mut self, to: &mut Entry) -> bool
+        requires standing { IsStanding self.old }
+        requires running { self.old.is_stopped ≡ false }
+        requires room { self.old.position < self.old.committed + self.old.journal.room }
+        requires bounded { self.old.position < 2 ^ 63 }
+        ensures produced { result ≡ true → (s : RunSetup) (os : List SpecOrder)
+            → WalkStandsFor s os self.old → IsProduced s os self.old self.new (Some to.new) }
+        ensures forward { result ≡ true → IsForward self.old self.new }
+        ensures unchanged { result ≡ false → self.new ≡ self.old }
+        ensures unwritten { result ≡ false → to.new ≡ to.old }
+    {
+        let Some((made, past)) = self.contents.store(self.position, self.epoch) else {
+            return false;
+        };
+        self.note(past);
+        *to = made;
+        true
+    }
+
+    /// Executes what fetch finds at the next address, whatever that is, writes its entry, and notes
+    /// what takes it back, unless it is committed.
+    #[inline(never)]
+    fn carry_out(&mut self, to: &mut Entry)
         requires standing { IsStanding self.old }
         requires running { self.old.is_stopped ≡ false }
         requires room { self.old.position < self.old.committed + self.old.journal.room }
         requires bounded { self.old.position < 2 ^ 63 }
         ensures produced { (s : RunSetup) (os : List SpecOrder) → WalkStandsFor s os self.old
-            → IsProduced s os self.old self.new (Some result) }
+            → IsProduced s os self.old self.new (Some to.new) }
         ensures forward { IsForward self.old self.new }
     {
         let fetched = self.contents.hart.fetch();
@@ -179,7 +200,7 @@ impl<D: Device> Walk<D> {
             .contents
             .carry_out(fetched, self.position, self.epoch, time);
         self.note(past);
-        entry
+        *to = entry;
     }
 
     /// Notes what takes the instruction back that was executed last, unless that is committed.
@@ -198,6 +219,42 @@ impl<D: Device> Walk<D> {
         self.position += 1;
     }
 
+    /// Takes the instruction back that was executed last. What is committed isn't taken back.
+    #[inline(always)]
+    fn step_back(&mut self)
+        requires holding { IsOnSomePath self.old }
+        requires above { self.old.committed < self.old.position }
+        ensures holds { (s : RunSetup) (os : List SpecOrder) → IsOnPath s os self.old
+            → IsOnPath s os self.new }
+        ensures position { self.new.position + 1 ≡ self.old.position }
+        ensures others { IsSameBut self.old self.new }
+    {
+        if let Some(past) = self.journal.back_plain() {
+            self.contents.undo_plain(past);
+            self.position -= 1;
+        } else {
+            self.step_back_by_call();
+        }
+    }
+
+    /// The same, whatever the instruction changed. It stays a call: what most instructions changed
+    /// needs no frame of it.
+    #[inline(never)]
+    fn step_back_by_call(&mut self)
+        requires holding { IsOnSomePath self.old }
+        requires above { self.old.committed < self.old.position }
+        ensures holds { (s : RunSetup) (os : List SpecOrder) → IsOnPath s os self.old
+            → IsOnPath s os self.new }
+        ensures position { self.new.position + 1 ≡ self.old.position }
+        ensures others { IsSameBut self.old self.new }
+    {
+        let Some(past) = self.journal.back() else {
+            return;
+        };
+        self.contents.undo(past);
+        self.position -= 1;
+    }
+
     /// Takes instructions back until instruction `n` is the next one. What is committed isn't taken
     /// back.
     fn go_back(&mut self, n: u64)
@@ -210,11 +267,7 @@ impl<D: Device> Walk<D> {
         ensures others { IsSameBut self.old self.new }
     {
         while self.position > n {
-            let Some(past) = self.journal.back() else {
-                return;
-            };
-            self.contents.undo(past);
-            self.position -= 1;
+            self.step_back();
         }
     }
 

@@ -1,5 +1,5 @@
 -- A list of steps with rising numbers: its newest step, one step more, and the steps from a number on.
-use Rattle.std.proofs.Common.{◌≡◌, ℕ, zero, suc, ◌+◌, ◌-◌, ◌<◌, ◌≤◌, nat_lt, nat_le, List, [], ◌∷◌, ◌++◌, length, get_or, take, drop, min, refl, sym, ap, ◌∙◌, arith, Option, Some, None, IfSome, IfNone, All, inl, inr}
+use Rattle.std.proofs.Common.{◌≡◌, ℕ, zero, suc, ◌+◌, ◌-◌, ◌<◌, ◌≤◌, nat_lt, nat_le, List, [], ◌∷◌, ◌++◌, length, get_or, take, drop, min, refl, sym, ap, ◌∙◌, arith, Option, Some, None, if◌then◌else◌, slice_get, IfSome, IfNone, All, inl, inr}
 use Rattle.std.specs.List.{prefix_len}
 use Rattle.std.proofs.lemmas.List.Kept.{AllPairs-filter}
 use Rattle.std.proofs.lemmas.List.Sums.{prefix_len-le-length}
@@ -88,6 +88,11 @@ below_from m n ps below = All-filter (λ p. nat_le m p.number) (λ p. p.number <
 pub below_front : (n : ℕ) (ps : List Past) (p : Past) → All (λ p. p.number < n) (ps ++ p ∷ []) → All (λ p. p.number < n) ps
 below_front n ps p below = λ k d within.
     rw (← get_or_append_left ps (p ∷ []) d k within) (below k d (omega (arith, length-append ps (p ∷ []))))
+
+-- a step that is shown as the newest one
+pub newest_shown : (ps : List Past) (p : Past) → Some p ≡ (if nat_lt 0 (length ps) then slice_get ps (length ps - 0 - 1) else None) → Some p ≡ newest ps
+newest_shown [] p shown = cc
+newest_shown (q ∷ ps) p shown = grind (arith, shown)
 
 -- what is left in front of the newest step, and the newest step behind it
 module _ (log : Log) (room : ℕ) (rest : List Past) (same_room : room ≡ log.room) (front : rest ≡ take (length log.steps - 1) log.steps) where

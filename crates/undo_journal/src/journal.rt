@@ -25,7 +25,7 @@ impl Journal {
     ghost use Rattle.std.specs.Prelude.{◌≡◌, ◌↔◌, ◌<◌, ◌≤◌, ◌++◌, ◌∷◌, [], length, IsTrue, IsNone};
     ghost use Rattle.std.specs.Prelude.{IfOk, IfSome, IfNone, nat_lt, drop};
     ghost use Rattle.std.specs.List.{prefix_len};
-    ghost use Rattle.undo_journal.specs.Journal.{IsRising, newest, from_number};
+    ghost use Rattle.undo_journal.specs.Journal.{IsRising, newest, from_number, IsPlain};
 
     /// An empty journal with room for `capacity` steps. All its memory is taken here.
     pub fn with_room(alloc: Global, capacity: u32) -> Result<Journal, NoMemory>
@@ -73,6 +73,26 @@ impl Journal {
         ensures none { IfNone result (self.new ≡ self.old) }
     {
         self.steps.pop_back()
+    }
+
+    /// Removes the newest step and gives it, where it is plain. None, and nothing removed, of any
+    /// other.
+    #[inline(always)]
+    #[tactic(auto, using(crate::proofs::Steps::split_newest, crate::proofs::Steps::split_empty))]
+    pub fn back_plain(&mut self) -> Option<Past>
+        ensures newest { IfSome result (λ p. self.old ≡ record self.new
+            { steps = self.new.steps ++ p ∷ [] }) }
+        ensures plain { IfSome result IsPlain }
+        ensures none { IfNone result (self.new ≡ self.old) }
+    {
+        let newest = self.steps.nth_back(0)?;
+        if !newest.is_plain() {
+            return None;
+        }
+        // What is read where it stands isn't moved with all that others need.
+        let plain = *newest;
+        let _ = self.steps.pop_back();
+        Some(plain)
     }
 
     /// Removes the steps whose numbers are below `n`.

@@ -1,3 +1,6 @@
+ghost use Rattle.std.specs.Prelude.{◌↔◌, IsTrue};
+ghost use Rattle.undo_journal.specs.Journal.{IsPlain};
+
 use device_bus::DevUndo;
 use fsim_base::Width;
 
@@ -66,4 +69,18 @@ pub struct Past {
     pub reg: OldRegister,
     /// What else it changed.
     pub change: Change,
+}
+
+impl Past {
+    /// Whether the instruction changed nothing beside its register and the count of retired
+    /// instructions.
+    #[inline(always)]
+    pub fn is_plain(&self) -> bool
+        ensures plain { IsTrue result ↔ IsPlain self.now }
+    {
+        match self.change {
+            Change::Nothing => !self.out,
+            _ => false,
+        }
+    }
 }

@@ -1,36 +1,20 @@
-use Rattle.std.proofs.Common.{refl, arith}
-use Rattle.func_model.proofs.Going.{backing_start, backing_more, last_restorable, not_empty}
-use Rattle.func_model.proofs.walk.Walk.go_back.Given as given
+use Rattle.std.proofs.Common.{arith}
+use Rattle.func_model.proofs.Going.{backing_start, backing_more, backing_above, backing_holding}
 use Rattle.func_model.proofs.walk.Walk.go_back.Goals as goal
 
 pub loop-self-init : goal.loop-self-init
 loop-self-init g c = backing_start c.args.n c.args.self.now
 
--- what is committed isn't reached
-impossible : {A : Type 0} (g : given.Over) (c : goal.In_default g) → A
-impossible g c = not_empty c.args.n c.args.self.now c.loop-self.self (c.requires.holding (omega (arith, c.loop-self.invariant.within, c.loop-self-test.true))) c.requires.from c.loop-self.invariant c.loop-self-test.true (c.in_default.ensures.empty.0 refl)
+pub step_back-requires-clause-holding : goal.step_back-requires-clause-holding
+step_back-requires-clause-holding g c = backing_holding c.args.n c.args.self.now c.loop-self.self c.requires.holding c.loop-self.invariant c.loop-self-test.true
 
-pub returns-in_default-clause-holds : goal.returns-in_default-clause-holds
-returns-in_default-clause-holds g c = impossible g c
-
-pub returns-in_default-clause-position : goal.returns-in_default-clause-position
-returns-in_default-clause-position g c = impossible g c
-
-pub returns-in_default-clause-stays : goal.returns-in_default-clause-stays
-returns-in_default-clause-stays g c = impossible g c
-
-pub returns-in_default-clause-others : goal.returns-in_default-clause-others
-returns-in_default-clause-others g c = impossible g c
-
-pub undo-requires : goal.undo-requires
-undo-requires g c = record {
-  restorable = last_restorable c.args.n c.args.self.now c.loop-self.self c.back.new.self c.in-Some.past (c.requires.holding (omega (arith, c.loop-self.invariant.within, c.loop-self-test.true))) c.requires.from c.loop-self.invariant c.loop-self-test.true c.in-Some.ensures.newest;
-}
+pub step_back-requires-clause-above : goal.step_back-requires-clause-above
+step_back-requires-clause-above g c = backing_above c.args.n c.args.self.now c.loop-self.self c.requires.from c.loop-self.invariant c.loop-self-test.true
 
 pub loop-self-preserved : goal.loop-self-preserved
 loop-self-preserved g c =
-    backing_more c.args.n c.args.self.now c.loop-self.self c.undo.new.self c.back.new.self c.in-Some.past c.requires.from c.loop-self.invariant c.loop-self-test.true
-    c.in-Some.ensures.newest c.undo.ensures.stands c.undo.ensures.room
+    backing_more c.args.n c.args.self.now c.loop-self.self c.step_back.new.self c.loop-self.invariant c.loop-self-test.true
+    c.step_back.ensures.holds c.step_back.ensures.position c.step_back.ensures.others
 
 pub returns-clause-holds : goal.returns-clause-holds
 returns-clause-holds g c = c.loop-self.invariant.holds

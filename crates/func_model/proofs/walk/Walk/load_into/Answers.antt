@@ -1,10 +1,10 @@
 use Rattle.std.proofs.Common.{◌∙◌, arith}
 use Rattle.mono_model.specs.Path.{path}
 use Rattle.func_model.proofs.Walking.{walk_retired, note_above, produced_on}
-use Rattle.func_model.proofs.walk.Walk.transfer_into.Goals as goal
+use Rattle.func_model.proofs.walk.Walk.load_into.Goals as goal
 
-pub transfer-requires : goal.transfer-requires
-transfer-requires g c = record {
+pub load-requires : goal.load-requires
+load-requires g c = record {
   count = omega (arith, walk_retired c.requires.standing.setup c.requires.standing.orders c.args.self.now c.requires.standing.stands.holds, c.requires.bounded);
 }
 
@@ -15,7 +15,7 @@ note-requires-clause-above g c = λ below.
 pub returns-clause-produced : goal.returns-clause-produced
 returns-clause-produced g c = λ did s os h.
     let a = path s os c.args.self.now.position in
-    produced_on s os c.args.self.now c.transfer.new.self c.time-time.result c.in-Some.made c.in-Some.past c.note.new.self h c.requires.running
+    produced_on s os c.args.self.now c.load.new.self c.time-time.result c.in-Some.made c.in-Some.past c.note.new.self h c.requires.running
     (c.time-time.ensures.time ∙ h.holds.given c.args.self.now.position)
     (c.in-Some.ensures.stands s a h.holds.contents) c.in-Some.ensures.room
     (c.in-Some.ensures.entry s a h.holds.contents) c.in-Some.ensures.number (c.in-Some.ensures.back s a h.holds.contents) c.in-Some.ensures.restorable c.note.ensures.noted
