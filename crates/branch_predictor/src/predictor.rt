@@ -119,6 +119,7 @@ impl Predictor {
 
     /// Learns from an instruction that was committed without a fault and went from `addr` to
     /// `next`.
+    #[inline(always)]
     #[tactic(auto, unfolding(crate::specs::Predictor::trained))]
     pub fn train(&mut self, addr: u32, flow: Flow, next: u32)
         ensures trained { (p : PredParams) (s : Predicting) → PredictorStandsFor self.old p s →

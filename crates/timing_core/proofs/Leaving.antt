@@ -27,6 +27,10 @@ branch_count_limit flow.Plain = omega arith
 branch_count_limit flow.Branch = omega arith
 branch_count_limit flow.Jump = omega arith
 
+-- the oldest slot is one
+pub same_oldest : (oldest : Option Slot) (found slot : Slot) → oldest ≡ Some found → oldest ≡ Some slot → found ≡ slot
+same_oldest oldest found slot is there = cc
+
 -- the oldest slot stays where there is none, and where it isn't done
 IsNotDone : Option Slot → Type 0
 IsNotDone None = Unit {0}

@@ -7,4 +7,4 @@ pub mod Fetching
 pub mod Walks
 pub mod Issuing
 pub mod Opcodes
-pub mod Plain
+pub mod Retiring

@@ -1,9 +1,9 @@
 -- Which words can be branches, jumps or FENCE.I, by their opcodes: a word whose opcode is that of none is found plain in
 -- the instruction table.
-use Rattle.std.proofs.Common.{◌≡◌, ◌≢◌, ℕ, nat_eq, ◌==◌, ◌&&◌, Bool, true, false, Option, List, [], ◌∷◌, refl, ap, ◌∙◌, arith}
+use Rattle.std.proofs.Common.{◌≡◌, ◌≢◌, ℕ, nat_eq, ◌==◌, ◌&&◌, Bool, true, false, Option, List, [], ◌∷◌, refl, ap, ◌∙◌}
 use Rattle.std.proofs.lemmas.Bool.{and_parts, eqb-true}
 use Rattle.fsim_base.specs.Number.{bits_of}
-use Rattle.fsim_base.specs.declared.instruction.Flow.TheVariants.{Plain}
+use Rattle.fsim_base.specs.declared.instruction.Flow.TheVariants.{Plain, Jump}
 use Rattle.rv_decode.specs.declared.insn.Insn.{Insn}
 use Rattle.rv_decode.specs.Decode.{decode_of}
 use Rattle.rv_decode.specs.Class.{flow_of}
@@ -15,11 +15,9 @@ use Rattle.mono_model.specs.Found.{found_word, flow_in, is_fence_i, is_fence_i_i
 pub other : {A : Type 0} (word value : ℕ) (rest : Bool) → bits_of word 6 0 ≢ value → (bits_of word 6 0 == value && rest) ≡ true → A
 other word value rest differs has = absurd (differs (eqb-true (bits_of word 6 0) value (and_parts (bits_of word 6 0 == value) rest has).0))
 
--- nor those of MRET
-no_mret : {A : Type 0} (word : ℕ) → bits_of word 6 0 ≢ 0x73 → (bits_of word 31 0 == 0x30200073 && true) ≡ true → A
-no_mret word differs has =
-    let is : bits_of word 31 0 ≡ 0x30200073 = eqb-true (bits_of word 31 0) 0x30200073 (and_parts (bits_of word 31 0 == 0x30200073) true has).0 in
-    absurd (differs (omega (arith, is)))
+-- nor has another word those of a whole row
+whole_other : {A : Type 0} (word value : ℕ) → bits_of word 31 0 ≢ value → (bits_of word 31 0 == value && true) ≡ true → A
+whole_other word value differs has = absurd (differs (eqb-true (bits_of word 31 0) value (and_parts (bits_of word 31 0 == value) true has).0))
 
 -- the rows that a word has are plain
 abbrev ArePlain : ℕ → List Row → Type 0
@@ -35,12 +33,12 @@ find_plain word (row ∷ rows) all = by_test (has_fixed word row) refl (find_pla
     by_test true has rest = ap (λ (o : Option Insn). flow_in (found_word word o)) (found-here word row rows has) ∙ all.0 has
     by_test false lacks rest = ap (λ (o : Option Insn). flow_in (found_word word o)) (found-past word row rows lacks) ∙ rest
 
--- an opcode of neither branches nor jumps
+-- a word that is neither branch nor jump
 pub record JumpsNot (word : ℕ) : Type 0 where
   pub branch : bits_of word 6 0 ≢ 0x63
   pub jalr : bits_of word 6 0 ≢ 0x67
   pub jal : bits_of word 6 0 ≢ 0x6f
-  pub system : bits_of word 6 0 ≢ 0x73
+  pub mret : bits_of word 31 0 ≢ 0x30200073
 
 pub plain_flow : (word : ℕ) → JumpsNot word → flow_in (found_word word (decode_of word)) ≡ Plain
 unfolding decode_of table
@@ -143,7 +141,7 @@ plain_flow word o = find_plain word table (
                                                                                                 (
                                                                                                   λ has. refl,
                                                                                                   (
-                                                                                                    no_mret word o.system,
+                                                                                                    whole_other word 0x30200073 o.mret,
                                                                                                     (
                                                                                                       λ has. refl,
                                                                                                       (
@@ -213,6 +211,11 @@ plain_flow word o = find_plain word table (
     ),
   ),
 )
+
+-- MRET jumps
+pub mret_flow : (word : ℕ) → word ≡ 0x30200073 → flow_in (found_word word (decode_of word)) ≡ Jump
+unfolding decode_of table
+mret_flow word is = ap (λ (w : ℕ). flow_in (found_word w (decode_of w))) is
 
 -- the rows that a word has are no FENCE.I
 abbrev HaveNone : ℕ → List Row → Type 0

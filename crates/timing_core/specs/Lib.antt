@@ -3,5 +3,5 @@ pub mod Orders
 pub mod Counts
 pub mod CoreStandsFor
 pub mod Leaving
-pub mod Plain
+pub mod Retiring
 pub mod Units

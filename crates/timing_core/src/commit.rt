@@ -1,17 +1,16 @@
-ghost use Rattle.std.specs.Prelude.{◌≡◌, ◌-◌, ◌<◌, ◌^◌, true, false, List};
-ghost use Rattle.fsim_base.specs.declared.instruction.Flow.TheVariants.{Plain as PlainFlow};
+ghost use Rattle.std.specs.Prelude.{◌≡◌, ◌-◌, ◌<◌, ◌^◌, true, List};
 ghost use Rattle.rv_decode.specs.Decode.{decode_of};
-ghost use Rattle.mono_model.specs.Found.{found_word, flow_in, is_fence_i, is_fence_i_insn};
+ghost use Rattle.mono_model.specs.Found.{found_word, is_fence_i, is_fence_i_insn};
 ghost use Rattle.mono_model.specs.Demand.{commit_order};
 ghost use Rattle.rollback_cmds.specs.declared.order.Order.{Order as SpecOrder};
 ghost use Rattle.timing_side.specs.Commit.{ending_orders};
 ghost use Rattle.timing_core.specs.Orders.{and_then};
 ghost use Rattle.timing_core.specs.Leaving.{ending_in, ended_by};
-ghost use Rattle.timing_core.specs.Plain.{IsPlain};
+ghost use Rattle.timing_core.specs.Retiring.{IsQuiet};
 
 use crate::orders::Orders;
 use crate::state::TimingCore;
-use fsim_base::{Access, bits};
+use fsim_base::bits;
 use mono_model::{End, end_of};
 use reorder_buffer::{Slot, SlotState};
 use rollback_cmds::Order;
@@ -19,9 +18,6 @@ use rv_decode::{Insn, decode};
 
 /// The opcode of FENCE and FENCE.I.
 const FENCE: u32 = 0x0f;
-
-/// No opcode below it is that of a branch or a jump.
-const HIGH_OPCODES: u32 = 0x40;
 
 /// What the oldest instruction does in this phase.
 #[derive(Clone, Copy, Debug, PartialEq, Eq)]
@@ -122,27 +118,14 @@ fn ending_order(ending: Ending, done: u64) -> Option<Order>
     }
 }
 
-/// Whether a word is by its opcode neither branch nor jump nor FENCE.I.
+/// Whether a slot has no cause and sends nothing, and the next may follow. No word is decoded for
+/// it.
 #[inline(always)]
-#[tactic(auto, using(crate::proofs::Plain::low_flow, crate::proofs::Opcodes::no_fence))]
-fn is_plain_word(word: u32) -> bool
-    ensures flow { result ≡ true → flow_in (found_word word (decode_of word)) ≡ PlainFlow }
-    ensures fence { result ≡ true → is_fence_i (found_word word (decode_of word)) ≡ false }
+#[tactic(auto, using(crate::proofs::Opcodes::no_fence, crate::proofs::Retiring::not_some))]
+fn is_quiet(slot: &Slot) -> bool
+    ensures quiet { result ≡ true → IsQuiet slot.now }
 {
-    let opcode = bits(word, 6, 0);
-    opcode < HIGH_OPCODES && opcode != FENCE
-}
-
-/// Whether all that a slot does where it leaves is to retire. Nothing is decoded for it.
-#[inline(always)]
-fn is_plain(slot: &Slot) -> bool
-    ensures plain { result ≡ true → IsPlain slot.now }
-{
-    is_plain_word(slot.word)
-        && !matches!(slot.access, Access::Store { .. })
-        && slot.cause.is_none()
-        && !slot.sends
-        && slot.halt.is_none()
+    bits(slot.word, 6, 0) != FENCE && slot.cause.is_none() && !slot.sends && slot.halt.is_none()
 }
 
 impl TimingCore {
@@ -219,8 +202,8 @@ impl TimingCore {
             → result ≡ kind_of (leaving s t) }
     {
         match self.oldest_done() {
-            Some(slot) if is_plain(&slot) => {
-                self.retire_plain(&slot);
+            Some(slot) if is_quiet(&slot) => {
+                self.retire_quiet(&slot);
                 Leaving::Leaves
             }
             Some(_) => self.leave_done(),
