@@ -381,9 +381,9 @@ impl<D: Device> Contents<D> {
     {
         let decoded = self.hart.known()?;
         let load = self.hart.loaded(decoded)?;
+        let unserved = is_unserved(Fetched::Known(*decoded), load.access, time);
         let destination = decoded.destination;
         let named = self.named(decoded.word, decoded.class, destination, number, epoch);
-        let unserved = is_unserved(Fetched::Known(*decoded), load.access, time);
         self.hart.finish(destination, load.value, load.next);
         let done = Performed {
             access: load.access,
