@@ -237,14 +237,15 @@ impl Window {
 }
 
 /// The index of the slot that an instruction of this number has in a window of this capacity. It
-/// goes inline, as `append` and `at` do, so that nothing is divided where no index is asked for.
+/// goes inline, as `append` and `at` do, so that nothing is divided where no index is asked for,
+/// and by a remainder that is checked, so that nothing is tested there either.
 #[inline(always)]
 fn index_in(capacity: u32, number: u64) -> u32
     requires some { 0 < capacity }
     ensures index { result ≡ index_of capacity number }
     ensures below { result < capacity }
 {
-    (number % u64::from(capacity)) as u32
+    number.checked_rem(u64::from(capacity)).unwrap_or(0) as u32
 }
 
 /// The position of the slot of an instruction of this number, where `mask` is the last position.
