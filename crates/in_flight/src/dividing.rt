@@ -1,5 +1,6 @@
 //! The count of the divisions that execute, as one slot goes on, and of slots that are cut.
-ghost use Rattle.std.specs.Prelude.{◌≡◌, ◌+◌, ◌-◌, ◌<◌, ◌≤◌, ◌^◌, if◌then◌else◌, length, take};
+ghost use Rattle.std.specs.Prelude.{◌≡◌, ◌+◌, ◌-◌, ◌<◌, ◌≤◌, ◌^◌, ℕ, if◌then◌else◌, length, take};
+ghost use Rattle.reorder_buffer.specs.declared.slot.SlotState.TheVariants.{Until};
 ghost use Rattle.timing_side.specs.Issue.{is_busy_division, busy_divisions};
 
 use crate::reading::slot_at;
@@ -14,14 +15,14 @@ fn divides(slot: &Slot) -> bool
     slot.class == Class::Div && matches!(slot.state, SlotState::Until(_))
 }
 
-/// Counts the slot where it is a division that executes.
+/// Counts an instruction of this class that begins to execute, where it is a division.
 #[inline(always)]
-pub fn note_division(dividing: &mut u32, slot: &Slot)
+pub fn note_division(dividing: &mut u32, class: Class)
     requires room { dividing.old < 2 ^ 32 - 1 }
-    ensures noted { dividing.new
-        ≡ dividing.old + (if is_busy_division slot.now.class slot.now.state then 1 else 0) }
+    ensures noted { (until : ℕ) → dividing.new
+        ≡ dividing.old + (if is_busy_division class (Until until) then 1 else 0) }
 {
-    if divides(slot) {
+    if class == Class::Div {
         *dividing += 1;
     }
 }

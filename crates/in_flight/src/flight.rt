@@ -252,12 +252,8 @@ impl InFlight {
             { slots = slice_set self.old.slots place (record slot { state = Until until }) }) }
     {
         let (position, slot) = slot_at(&self.window, place);
-        let begun = Slot {
-            state: SlotState::Until(until),
-            ..slot
-        };
-        self.window.mark(place, begun.state);
-        note_division(&mut self.dividing, &begun);
+        self.window.mark(place, SlotState::Until(until));
+        note_division(&mut self.dividing, slot.class);
         self.stations.issue(position);
     }
 

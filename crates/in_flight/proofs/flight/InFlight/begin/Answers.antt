@@ -34,4 +34,4 @@ invariant_of-self c =
     in
     let marks = rw c.slot_at-position.ensures.slot at c.mark.ensures.marked in
     let issues = rw c.slot_at-position.ensures.position at c.issue.ensures.issued in
-    rw (marks, issues, c.note_division.ensures.noted) keeps
+    rw (marks, issues, c.note_division.ensures.noted c.args.until) keeps
