@@ -171,7 +171,8 @@ impl InFlight {
     }
 
     /// The first place from a place on at which an instruction is sought; None where there is none.
-    #[inline(always)]
+    /// It stays a call: a walk through a window of at most 64 slots makes none.
+    #[inline(never)]
     pub fn first(&self, sought: Sought, from: u32) -> Option<u32>
         ensures behind { IfSome result (λ place. from ≤ place) }
         ensures found { IfSome result (λ place. IsTrue (is_sought_at sought self.now.slots place)) }
