@@ -9,10 +9,10 @@ use Rattle.mono_model.specs.Found.{Found}
 use Rattle.mono_model.specs.Result.{Result}
 use Rattle.mono_model.specs.Effect.{effect, note_of, is_fence_result}
 use Rattle.mono_model.specs.Alone.{with_fence}
+use Rattle.mono_model.specs.Sequence.{found_next, result_at}
 use Rattle.func_model.specs.declared.contents.Contents.{Contents}
 use Rattle.phys_mem.specs.Ram.{exec_of, range_of}
 use Rattle.func_model.specs.Hart.{arch_of}
-use Rattle.mono_model.specs.Sequence.{found_next, result_at}
 use Rattle.func_model.specs.declared.performed.Stepped.TheVariants.{On}
 use Rattle.func_model.specs.Steps.{is_full, stepped_by}
 

@@ -1,6 +1,6 @@
 ghost use Rattle.std.specs.Prelude.{◌≡◌, ◌<◌, ◌≤◌, ◌+◌, ◌-◌, ◌^◌, Some, IfOk, is_none, length};
 ghost use Rattle.std.specs.Prelude.{ℕ, Option, IfSome, IfNone, ◌&&◌, map, true, is_some};
-ghost use Rattle.std.specs.Prelude.{if◌then◌else◌, false};
+ghost use Rattle.std.specs.Prelude.{if◌then◌else◌, None, false};
 ghost use Rattle.mono_model.specs.Result.{is_time_load, is_time_read};
 ghost use Rattle.func_model.specs.Hart.{found_in};
 ghost use Rattle.mono_model.specs.Arch.{compare_of};
@@ -110,7 +110,7 @@ impl<D: Device> Contents<D> {
     ghost use Rattle.func_model.specs.Undo.{undone, IsRestorable};
     ghost use Rattle.undo_journal.specs.Journal.{IsPlain};
     ghost use Rattle.func_model.specs.History.{resumed, step_undone, step_seq};
-    ghost use Rattle.func_model.specs.History.{instruction_in, IsMade};
+    ghost use Rattle.func_model.specs.History.{instruction_in, IsMade, going_on};
     ghost use Rattle.func_model.specs.Hart.{FetchedFits, next_found, IsRegister};
     ghost use Rattle.func_model.specs.Telling.{named_by, entry_by, past_by};
 
@@ -431,6 +431,9 @@ impl<D: Device> Contents<D> {
             → undone (ram_range s.params) told.1 (seq s time a) ≡ a) }
         ensures number { IfSome result (λ told. told.1.number ≡ number) }
         ensures restorable { IfSome result (λ told. IsRestorable told.1) }
+        ensures silent { IfSome result (λ told. told.0.out ≡ None) }
+        ensures going { IfSome result (λ told. told.0.halt ≡ None) }
+        ensures out { IfSome result (λ told. told.1.out ≡ false) }
         ensures room { self.new.hart.room ≡ self.old.hart.room }
     {
         let decoded = self.hart.known()?;
@@ -615,6 +618,36 @@ impl<D: Device> Contents<D> {
                 interrupted,
             },
         }
+    }
+
+    /// Makes one step, as `make` does, where no timer interrupt is pending, and the instruction is
+    /// kept, changes at most a register and the next address, and is no FENCE.I: what takes the
+    /// step back. None, and nothing done, of any other step.
+    #[inline(always)]
+    pub fn make_computed(&mut self, number: u64) -> Option<PastStep>
+        requires count { retired_in self.old < 2 ^ 64 - 1 }
+        ensures none { IfNone result (self.new ≡ self.old) }
+        ensures stands { IfSome result (λ past. (s : Setup) (a : Arch)
+            → ContentsStandFor s a self.old → ContentsStandFor s (step_seq s number a) self.new) }
+        ensures made { IfSome result (λ past. (s : Setup) (a : Arch)
+            → ContentsStandFor s a self.old → IsMade s number a (going_on past)) }
+        ensures restorable { IfSome result (λ past. IsRestorable (instruction_in past)) }
+        ensures room { self.new.hart.room ≡ self.old.hart.room }
+    {
+        if self.hart.csrs.timer_pending(number, self.cmp) {
+            return None;
+        }
+        if self.hart.known()?.is_fence_i() {
+            return None;
+        }
+        let (_, past) = self.compute(number, 0)?;
+        Some(PastStep {
+            addr: past.addr,
+            sent: None,
+            reg: past.reg,
+            change: past.change,
+            interrupted: None,
+        })
     }
 
     /// Takes a step of a run alone back.
