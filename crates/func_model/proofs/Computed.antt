@@ -22,7 +22,7 @@ use Rattle.mono_model.specs.Arch.{Arch, register_value}
 use Rattle.mono_model.specs.Found.{Found, known, is_csr_insn, is_mret_insn}
 use Rattle.mono_model.specs.Result.{resulting, is_time_read}
 use Rattle.mono_model.specs.Sequence.{seen_in, found_next, result_at, seq}
-use Rattle.func_model.specs.Steps.{finished, plain_with, reaches_out, outcome_at, plain_outcome, outcome_result, result_of}
+use Rattle.func_model.specs.Steps.{finished, plain_with, reaches_out, outcome_at, plain_outcome, outcome_result, result_of, behind, Told}
 use Rattle.func_model.specs.Undo.{undone, past_of}
 use Rattle.func_model.proofs.Concluded.{nothing_made, told_plain, told_same}
 use Rattle.func_model.proofs.Effects.{evaluated_behind, evaluated_result}
@@ -93,18 +93,27 @@ plain_result range word i time o a plain =
     same
     ∙ evaluated_result range word i (register_value a.regs (sources_of i).0) (register_value a.regs (sources_of i).1) time o a plain.csr plain.mret plain.outcome refl refl
 
+-- what is told of it, and the state behind it, whatever its time and the room of the output
+pub computed_told : (limit : ℕ) (time : Option ℕ) (range : RamRange) (word : ℕ) (i : Insn) (o : Outcome) (x : Arch) → IsPlain i x.pc x.regs o →
+    Told limit (result_of range (known word i) time x) x (plain_with Nothing)
+computed_told limit time range word i o x plain =
+    told_same limit (resulting o.value o.next access.Nothing) (result_of range (known word i) time x) x (plain_with Nothing) (plain_result range word i time o x plain)
+    (told_plain limit o.value o.next Nothing x (plain_with Nothing) refl)
+
+pub computed_behind : (limit : ℕ) (time : Option ℕ) (range : RamRange) (word : ℕ) (i : Insn) (o : Outcome) (destination : Option ℕ) (x b : Arch) → IsPlain i x.pc x.regs o →
+    destination ≡ dest_of i → b ≡ finished destination o.value o.next x → b ≡ behind limit (known word i) (result_of range (known word i) time x) time x
+computed_behind limit time range word i o destination x b plain register made =
+    evaluated_behind range limit word i (register_value x.regs (sources_of i).0) (register_value x.regs (sources_of i).1) time o destination x b plain.csr plain.mret plain.outcome register refl refl
+    (nothing_made range limit destination o time x b plain.cause plain.reach made)
+
 -- it was executed, whatever its time
 pub computed_executed : (s : Setup) (time : Option ℕ) (range : RamRange) (word : ℕ) (i : Insn) (o : Outcome) (destination : Option ℕ) (x a b : Arch) → x ≡ a → range ≡ ram_range s.params →
     known word i ≡ found_next s a → IsPlain i x.pc x.regs o → destination ≡ dest_of i → b ≡ finished destination o.value o.next x →
     Executed s time (length x.output + 1) a (known word i) (plain_with Nothing) b
 computed_executed s time range word i o destination x a b here in_range found plain register made =
     let limit : ℕ = length x.output + 1 in
-    executed_at s time limit range (known word i) x a b (plain_with Nothing) here in_range found
-    (told_same limit (resulting o.value o.next access.Nothing) (result_of range (known word i) time x) x (plain_with Nothing) (plain_result range word i time o x plain)
-    (told_plain limit o.value o.next Nothing x (plain_with Nothing) refl))
-    (evaluated_behind range limit word i (register_value x.regs (sources_of i).0) (register_value x.regs (sources_of i).1) time o destination x b plain.csr plain.mret plain.outcome register refl refl
-    (nothing_made range limit destination o time x b plain.cause plain.reach made))
-    (omega arith)
+    executed_at s time limit range (known word i) x a b (plain_with Nothing) here in_range found (computed_told limit time range word i o x plain)
+    (computed_behind limit time range word i o destination x b plain register made) (omega arith)
 
 -- and is taken back
 pub computed_back : (s : Setup) (time : Option ℕ) (limit number word : ℕ) (i : Insn) (o : Outcome) (destination : Option ℕ) (a b : Arch) (past : Past) →

@@ -14,7 +14,7 @@ use Rattle.rv_exec.specs.Eval.{eval_of, branched}
 use Rattle.rv_exec.specs.Branch.{branch_taken}
 use Rattle.fsim_base.specs.Number.{wrap_sum}
 use Rattle.machine_csr.specs.Csr.{reads_time_of}
-use Rattle.mono_model.specs.Found.{is_csr_insn, is_mret_insn}
+use Rattle.mono_model.specs.Found.{known, is_csr_insn, is_mret_insn, is_fence_i}
 use Rattle.func_model.specs.Steps.{AlignedBy, IsAlignedReach, is_load, is_store}
 
 aligned_zero : (n : ℕ) → (n == 0) ≡ true → n ≡ 0
@@ -112,7 +112,16 @@ unfolding reads_time_of
 store_no_time (insn.Csr kind rd rs1 csr) is = cc
 store_no_time i is = refl
 
--- nor does it write a register
+-- neither is a FENCE.I
+pub load_no_fence : (word : ℕ) (i : Insn) → is_load i ≡ true → is_fence_i (known word i) ≡ false
+load_no_fence word (insn.Fence rd rs1 upper fetch) is = cc
+load_no_fence word i is = refl
+
+pub store_no_fence : (word : ℕ) (i : Insn) → is_store i ≡ true → is_fence_i (known word i) ≡ false
+store_no_fence word (insn.Fence rd rs1 upper fetch) is = cc
+store_no_fence word i is = refl
+
+-- nor does a store write a register
 pub store_no_register : (i : Insn) → is_store i ≡ true → dest_of i ≡ None
 store_no_register (insn.Store kind rs1 rs2 imm) is = refl
 store_no_register i is = cc

@@ -8,6 +8,7 @@ pub mod Effects
 pub mod Evaluated
 pub mod Fetching
 pub mod Going
+pub mod GoingOn
 pub mod Leading
 pub mod Loads
 pub mod Made

@@ -288,6 +288,15 @@ pub record Steps {D : Type 0} (s : Setup) (made one : ℕ) (answer : Stepped) (n
   pub stepped : (a : Arch) → ContentsStandFor s a mid → answer ≡ stepped_by s.output a.output (note_of (result_at s (Some made) a) a)
   pub stands : (a : Arch) → ContentsStandFor s a mid → ContentsStandFor s (after_instruction s (found_next s a) (result_at s (Some made) a) made a) next
 
+-- contents that are the same
+pub stays : {D : Type 0} (s : Setup) (a : Arch) (old new : Contents D) → new ≡ old → ContentsStandFor s a old → ContentsStandFor s a new
+stays {D} s a old new same h =
+    let P : Contents D → Type 0 = λ side. ContentsStandFor {D = D} s a side in
+    subst P (sym same) h
+
+pub retires : {D : Type 0} {old new : Contents D} → new ≡ old → retired_in new ≡ retired_in old
+retires {D} same = ap (λ (side : Contents D). retired_in side) same
+
 pub starts : {D : Type 0} (s : Setup) (limit : ℕ) (side : Contents D) → 1 ≤ limit → s.cycles ≡ limit → ContentsStandFor s (start s) side → RunsAt s (alone s 0) 0 0 side
 unfolding alone alone_start
 starts s limit side some is h = record { stands = h; steps = refl; taken = refl; end = ap (λ (b : Bool). if b then end.Limit else end.Running) (sym off) }

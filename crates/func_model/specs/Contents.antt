@@ -1,5 +1,5 @@
 -- What the contents of a functional side stand for.
-use Rattle.std.specs.Prelude.{◌≡◌, ℕ, List, if◌then◌else◌, Some}
+use Rattle.std.specs.Prelude.{◌≡◌, ◌≤◌, ◌+◌, ℕ, List, if◌then◌else◌, Some}
 use Rattle.elf_image.specs.Load.{is_executable}
 use Rattle.mono_model.specs.declared.setup.Setup.{Setup}
 use Rattle.mono_model.specs.Setup.{ram_range}
@@ -9,10 +9,12 @@ use Rattle.mono_model.specs.Found.{Found}
 use Rattle.mono_model.specs.Result.{Result}
 use Rattle.mono_model.specs.Effect.{effect, note_of, is_fence_result}
 use Rattle.mono_model.specs.Alone.{with_fence}
+use Rattle.mono_model.specs.Sequence.{found_next, result_at}
 use Rattle.func_model.specs.declared.contents.Contents.{Contents}
 use Rattle.phys_mem.specs.Ram.{exec_of, range_of}
 use Rattle.func_model.specs.Hart.{arch_of}
-use Rattle.func_model.specs.Steps.{is_full}
+use Rattle.func_model.specs.declared.performed.Stepped.TheVariants.{On}
+use Rattle.func_model.specs.Steps.{is_full, stepped_by}
 
 -- this state, in a run of this setup
 pub record ContentsStandFor {D : Type 0} (s : Setup) (a : Arch) (side : Contents D) : Type 0 where
@@ -37,3 +39,9 @@ after_instruction s found r time a =
 -- the state in which a step's instruction is executed: a pending timer interrupt is taken first
 abbrev pub before : ℕ → Arch → Arch
 before time a = if timer_pending a.csrs time (compare_of a.devices) then interrupted a else a
+
+-- the next instruction is executed, and the run goes on, whatever its time
+pub record GoesOn {D : Type 0} (old new : Contents D) : Type 0 where
+  pub stepped : (s : Setup) (time : ℕ) (a : Arch) → ContentsStandFor s a old → On ≡ stepped_by s.output a.output (note_of (result_at s (Some time) a) a)
+  pub stands : (s : Setup) (time : ℕ) (a : Arch) → ContentsStandFor s a old → ContentsStandFor s (after_instruction s (found_next s a) (result_at s (Some time) a) time a) new
+  pub bound : retired_in new ≤ retired_in old + 1

@@ -1,5 +1,5 @@
 -- The run without a machine file, step by step, and how far back a bounded history of it leads.
-use Rattle.std.specs.Prelude.{◌≡◌, ℕ, ◌+◌, ◌-◌, ◌==◌, max, if◌then◌else◌, Bool, is_some, Option, Some, None}
+use Rattle.std.specs.Prelude.{◌≡◌, ℕ, ◌+◌, ◌-◌, ◌==◌, max, if◌then◌else◌, Bool, false, is_some, Option, Some, None}
 use Rattle.fsim_base.specs.declared.access.RamRange.{RamRange}
 use Rattle.fsim_base.specs.declared.instruction.Halt.{Halt}
 use Rattle.mono_model.specs.declared.final_state.End.{End}
@@ -72,6 +72,10 @@ pub record IsMade (s : Setup) (number : ℕ) (a : Arch) (made : Made) : Type 0 w
   pub halt : made.halt ≡ halt_in (note_of (result_at s (Some number) (before number a)) (before number a))
   pub fence : made.is_fence ≡ is_fence_i (found_next s (before number a))
   pub back : step_undone (ram_range s.params) made.past (step_seq s number a) ≡ a
+
+-- what a step did that sends nothing, doesn't end the run, and lets fetch see nothing
+abbrev pub going_on : PastStep → Made
+going_on past = record { has_sent = false; halt = None; is_fence = false; past = past }
 
 -- how the run stands behind a step: the program ended it, or it was the last one
 abbrev pub end_by : Option Halt → Bool → End

@@ -1,6 +1,6 @@
 ghost use Rattle.std.specs.Prelude.{◌≡◌, ◌<◌, ◌≤◌, ◌+◌, ◌-◌, ◌^◌, Some, IfOk, is_none, length};
 ghost use Rattle.std.specs.Prelude.{ℕ, Option, IfSome, IfNone, ◌&&◌, map, true, is_some};
-ghost use Rattle.std.specs.Prelude.{if◌then◌else◌};
+ghost use Rattle.std.specs.Prelude.{if◌then◌else◌, None, false};
 ghost use Rattle.mono_model.specs.Result.{is_time_load, is_time_read};
 ghost use Rattle.func_model.specs.Hart.{found_in};
 ghost use Rattle.mono_model.specs.Arch.{compare_of};
@@ -106,11 +106,11 @@ impl<D: Device> Contents<D> {
     ghost use Rattle.mono_model.specs.Sequence.{found_next, result_at, entry_at, seq};
     ghost use Rattle.func_model.specs.Steps.{stepped_by};
     ghost use Rattle.func_model.specs.Contents.{ContentsStandFor, retired_in, output_in};
-    ghost use Rattle.func_model.specs.Contents.{after_instruction, before};
+    ghost use Rattle.func_model.specs.Contents.{after_instruction, before, GoesOn};
     ghost use Rattle.func_model.specs.Undo.{undone, IsRestorable};
     ghost use Rattle.undo_journal.specs.Journal.{IsPlain};
     ghost use Rattle.func_model.specs.History.{resumed, step_undone, step_seq};
-    ghost use Rattle.func_model.specs.History.{instruction_in, IsMade};
+    ghost use Rattle.func_model.specs.History.{instruction_in, IsMade, going_on};
     ghost use Rattle.func_model.specs.Hart.{FetchedFits, next_found, IsRegister};
     ghost use Rattle.func_model.specs.Telling.{named_by, entry_by, past_by};
 
@@ -133,6 +133,81 @@ impl<D: Device> Contents<D> {
             self.hart.sync();
         }
         done.stepped
+    }
+
+    /// Executes the next instruction, whatever its time, where it is kept and is none that ends the
+    /// run, traps, reaches a device or a control and status register, or lets fetch see memory; and
+    /// says whether it did. Nothing is done of any other.
+    #[inline(always)]
+    fn advance_plain(&mut self) -> bool
+        requires count { retired_in self.old < 2 ^ 64 - 1 }
+        ensures on { result ≡ true → GoesOn self.old self.new }
+        ensures unchanged { result ≡ false → self.new ≡ self.old }
+        ensures room { self.new.hart.room ≡ self.old.hart.room }
+    {
+        self.advance_computed() || self.advance_load() || self.advance_store()
+    }
+
+    /// Executes it where it changes at most a register and the next address.
+    #[inline(always)]
+    fn advance_computed(&mut self) -> bool
+        requires count { retired_in self.old < 2 ^ 64 - 1 }
+        ensures on { result ≡ true → GoesOn self.old self.new }
+        ensures unchanged { result ≡ false → self.new ≡ self.old }
+        ensures room { self.new.hart.room ≡ self.old.hart.room }
+    {
+        let Some(decoded) = self.hart.known() else {
+            return false;
+        };
+        if decoded.is_fence_i() {
+            return false;
+        }
+        let Some(outcome) = self.hart.computed(decoded) else {
+            return false;
+        };
+        let destination = decoded.destination;
+        self.hart.finish(destination, outcome.value, outcome.next);
+        true
+    }
+
+    /// The same where it is a load of RAM. It stays a call: beside it the loop of a run alone would
+    /// keep less in the host's registers.
+    #[inline(never)]
+    fn advance_load(&mut self) -> bool
+        requires count { retired_in self.old < 2 ^ 64 - 1 }
+        ensures on { result ≡ true → GoesOn self.old self.new }
+        ensures unchanged { result ≡ false → self.new ≡ self.old }
+        ensures room { self.new.hart.room ≡ self.old.hart.room }
+    {
+        let Some(decoded) = self.hart.known() else {
+            return false;
+        };
+        let Some(load) = self.hart.loaded(decoded) else {
+            return false;
+        };
+        let destination = decoded.destination;
+        self.hart.finish(destination, load.value, load.next);
+        true
+    }
+
+    /// The same where it is a store to RAM.
+    #[inline(never)]
+    fn advance_store(&mut self) -> bool
+        requires count { retired_in self.old < 2 ^ 64 - 1 }
+        ensures on { result ≡ true → GoesOn self.old self.new }
+        ensures unchanged { result ≡ false → self.new ≡ self.old }
+        ensures room { self.new.hart.room ≡ self.old.hart.room }
+    {
+        let Some(decoded) = self.hart.known() else {
+            return false;
+        };
+        let Some(store) = self.hart.storing(decoded) else {
+            return false;
+        };
+        let Some(_) = self.hart.store_ram(store) else {
+            return false;
+        };
+        true
     }
 
     /// Takes a pending timer interrupt, and counts it.
@@ -225,6 +300,11 @@ impl<D: Device> Contents<D> {
         let mut interrupts = 0;
         for made in 0..steps {
             interrupts += self.interrupt(made);
+            // The program as built makes a test behind each call of what may come to a device; most
+            // instructions need no such call.
+            if self.advance_plain() {
+                continue;
+            }
             match self.advance(made, limit) {
                 Stepped::On => {}
                 Stepped::Full => return self.report(End::OutputFull, made, interrupts),
@@ -351,6 +431,9 @@ impl<D: Device> Contents<D> {
             → undone (ram_range s.params) told.1 (seq s time a) ≡ a) }
         ensures number { IfSome result (λ told. told.1.number ≡ number) }
         ensures restorable { IfSome result (λ told. IsRestorable told.1) }
+        ensures silent { IfSome result (λ told. told.0.out ≡ None) }
+        ensures going { IfSome result (λ told. told.0.halt ≡ None) }
+        ensures out { IfSome result (λ told. told.1.out ≡ false) }
         ensures room { self.new.hart.room ≡ self.old.hart.room }
     {
         let decoded = self.hart.known()?;
@@ -535,6 +618,36 @@ impl<D: Device> Contents<D> {
                 interrupted,
             },
         }
+    }
+
+    /// Makes one step, as `make` does, where no timer interrupt is pending, and the instruction is
+    /// kept, changes at most a register and the next address, and is no FENCE.I: what takes the
+    /// step back. None, and nothing done, of any other step.
+    #[inline(always)]
+    pub fn make_computed(&mut self, number: u64) -> Option<PastStep>
+        requires count { retired_in self.old < 2 ^ 64 - 1 }
+        ensures none { IfNone result (self.new ≡ self.old) }
+        ensures stands { IfSome result (λ past. (s : Setup) (a : Arch)
+            → ContentsStandFor s a self.old → ContentsStandFor s (step_seq s number a) self.new) }
+        ensures made { IfSome result (λ past. (s : Setup) (a : Arch)
+            → ContentsStandFor s a self.old → IsMade s number a (going_on past)) }
+        ensures restorable { IfSome result (λ past. IsRestorable (instruction_in past)) }
+        ensures room { self.new.hart.room ≡ self.old.hart.room }
+    {
+        if self.hart.csrs.timer_pending(number, self.cmp) {
+            return None;
+        }
+        if self.hart.known()?.is_fence_i() {
+            return None;
+        }
+        let (_, past) = self.compute(number, 0)?;
+        Some(PastStep {
+            addr: past.addr,
+            sent: None,
+            reg: past.reg,
+            change: past.change,
+            interrupted: None,
+        })
     }
 
     /// Takes a step of a run alone back.

@@ -1,6 +1,6 @@
 ghost use Rattle.std.specs.Prelude.{◌≡◌};
 ghost use Rattle.rv_decode.specs.Class.{sources_of, dest_of, class_of};
-ghost use Rattle.mono_model.specs.Found.{destination_in, word_in, class_in, is_fence_i};
+ghost use Rattle.mono_model.specs.Found.{destination_in, word_in, class_in, is_fence_i, known};
 ghost use Rattle.mono_model.specs.Result.{is_time_csr};
 ghost use Rattle.func_model.specs.Hart.{found_in, FetchedFits};
 
@@ -36,6 +36,16 @@ impl Decoded {
             sources: insn.sources(),
             destination: insn.dest(),
             class: insn.class(),
+        }
+    }
+
+    /// Whether it is a FENCE.I.
+    pub fn is_fence_i(&self) -> bool
+        ensures fence { result ≡ is_fence_i (known self.now.word self.now.insn) }
+    {
+        match self.insn {
+            Insn::Fence { fetch, .. } => fetch,
+            _ => false,
         }
     }
 }
@@ -90,10 +100,7 @@ impl Fetched {
         ensures fence { result ≡ is_fence_i (found_in self) }
     {
         match self {
-            Fetched::Known(decoded) => match decoded.insn {
-                Insn::Fence { fetch, .. } => fetch,
-                _ => false,
-            },
+            Fetched::Known(decoded) => decoded.is_fence_i(),
             _ => false,
         }
     }

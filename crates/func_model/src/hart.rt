@@ -732,6 +732,7 @@ impl Hart {
     #[inline(always)]
     pub fn loaded(&self, decoded: &Decoded) -> Option<Loaded>
         requires fits { DecodedFits decoded.now }
+        ensures load { IfSome result (λ load. is_load decoded.now.insn ≡ true) }
         ensures told { IfSome result (λ load. (limit : ℕ) (time : Option ℕ) (d : Devices)
             → Told limit (result_of (range_of self.now.memory)
             (known decoded.now.word decoded.now.insn) time (arch_of self.now d))

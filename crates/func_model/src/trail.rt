@@ -1,5 +1,5 @@
 ghost use Rattle.std.specs.Prelude.{◌≡◌, ◌↔◌, ◌≤◌, ◌<◌, ◌+◌, ◌^◌, ℕ, Option, true, false, map};
-ghost use Rattle.std.specs.Prelude.{IfOk};
+ghost use Rattle.std.specs.Prelude.{IfOk, None};
 ghost use Rattle.mono_model.specs.Final.{has_ended};
 ghost use Rattle.func_model.specs.History.{end_by};
 
@@ -98,6 +98,42 @@ impl<D: Device> Trail<D> {
         if has_ended(self.end) {
             return Some(self.end);
         }
+        // The program as built makes a test behind each call of what may come to a device; most
+        // steps need no such call.
+        if self.step_computed() {
+            return None;
+        }
+        self.step_by_call()
+    }
+
+    /// Makes a step, as `step` does, where that takes no interrupt, changes at most a register and
+    /// the next address, and lets fetch see nothing; and says whether it did. Nothing is done of
+    /// any other.
+    #[inline(always)]
+    fn step_computed(&mut self) -> bool
+        requires standing { IsOnTrail self.old }
+        requires going { has_ended self.old.end ≡ false }
+        ensures told { result ≡ true → (s : RunSetup) → TrailStandsFor s self.old
+            → IsTold s self.old self.new None }
+        ensures unchanged { result ≡ false → self.new ≡ self.old }
+    {
+        let Some(past) = self.contents.make_computed(self.at) else {
+            return false;
+        };
+        self.at += 1;
+        self.end = end_behind(None, self.at == self.cycles);
+        self.note(past);
+        true
+    }
+
+    /// Makes a step, whatever it does. It stays a call: a computed step needs no frame of it.
+    #[inline(never)]
+    fn step_by_call(&mut self) -> Option<End>
+        requires standing { IsOnTrail self.old }
+        requires going { has_ended self.old.end ≡ false }
+        ensures told { (s : RunSetup) → TrailStandsFor s self.old
+            → IsTold s self.old self.new result }
+    {
         let made = self.contents.make(self.at);
         if made.has_sent && self.contents.output().len() > self.limit as usize {
             self.contents.unmake(made.past);

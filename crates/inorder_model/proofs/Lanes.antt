@@ -29,7 +29,7 @@ pub flushed : (s : Setup) (p : Phase) (memory : Option ℕ) (core : TimingCore) 
     LaneStandsFor s (flushing p memory).lane (lane_of core now)
 flushed s p memory core now stands is = record { core = stands; memory = is ∙ ap (λ (slots : List Slot). memory_behind slots memory) stands.slots }
 
--- caches change no number
+-- caches change no number and no slot
 pub cached_small : (caches : CachesState) (t : Timing) → IsSmall t → IsSmall (with_caches caches t)
 cached_small caches t small = record {
   cycle = small.cycle;
@@ -44,6 +44,7 @@ cached_small caches t small = record {
   mispredicted = small.mispredicted;
   retired = small.retired;
   output = small.output;
+  order = small.order;
 }
 
 -- the slot in Execute, as the state has it

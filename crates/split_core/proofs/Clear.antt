@@ -29,6 +29,11 @@ use Rattle.split_core.specs.AlongLaws.{event_reached_on}
 same_order : (a b : Order) → ◌≡◌ {A = Option Order} (Some a) (Some b) → a ≡ b
 same_order a b is = cc
 
+-- where none is told, nothing is obeyed
+pub none_obeyed : {D T : Type 0} (told : Option Order) (state : SplitState D T) → is_none told ≡ true → HasObeyed told state state
+none_obeyed None state is = record { others = refl; none = λ same. refl; stands = tt; obeyed = tt }
+none_obeyed (Some order) state is = cc
+
 module _ {D T : Type 0} (timed : Timed T) (laws : IsTimed timed) (state : SplitState D T) (clear : IsClear state) (time : T) (turn : Turn)
     (made : StepsOn timed state.time time turn) where
   -- a step that tells no order

@@ -103,7 +103,11 @@ impl<D: Device, T: Timing> SplitState<D, T> {
         ensures clear { IsClear self.new }
     {
         let turn = self.time.run();
-        self.obey_told(order_told(turn));
+        let told = order_told(turn);
+        if told.is_none() {
+            return turn;
+        }
+        self.obey_told(told);
         turn
     }
 
@@ -139,11 +143,16 @@ impl<D: Device, T: Timing> SplitState<D, T> {
             return Turn::Moved;
         }
         let turn = self.time.feed(entry);
-        self.obey_told(order_told(turn));
+        let told = order_told(turn);
+        if told.is_none() {
+            return turn;
+        }
+        self.obey_told(told);
         turn
     }
 
-    /// Obeys the order that was told, if one was.
+    /// Obeys the order that was told, if one was. The program as built makes a test behind each
+    /// call of what may come to a device: it is called only where one was told.
     #[inline(always)]
     fn obey_told(&mut self, told: Option<Order>)
         requires may { IfSome told (λ order. MayObey order self.old.func) }

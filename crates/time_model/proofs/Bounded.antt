@@ -1,6 +1,6 @@
--- Two bounds that each turn of the timing side keeps: no more instructions retire than are committed, and no miss is waited
--- for longer than the caches take.
-use Rattle.std.proofs.Common.{ℕ, zero, suc, ◌+◌, ◌≤◌, ◌&&◌, ◌==◌, not, nat_lt, false, Option, Some, None, List, [], ◌∷◌, ap, sym, subst, arith}
+-- What each turn of the timing side keeps: no more instructions retire than are committed, no miss is waited for longer than
+-- the caches take, and the slots stand in the order of their fetch.
+use Rattle.std.proofs.Common.{ℕ, zero, suc, ◌+◌, ◌≤◌, ◌&&◌, ◌==◌, not, nat_lt, false, Option, Some, None, List, [], ◌∷◌, refl, ap, sym, subst, arith}
 use Rattle.std.proofs.lemmas.Bool.{cond_both}
 use Rattle.rollback_cmds.specs.declared.order.Order.{Order}
 use Rattle.rollback_cmds.specs.declared.order.Order.TheVariants.{Interrupt, Time}
@@ -14,28 +14,32 @@ use Rattle.reorder_buffer.specs.declared.slot.Slot.{Slot}
 use Rattle.mono_model.specs.declared.setup.Setup.{Setup}
 use Rattle.mono_model.specs.Setup.{caches_params}
 use Rattle.mono_model.specs.Sound.{IsSetup}
+use Rattle.mono_model.specs.Issue.{none_used}
 use Rattle.mono_model.specs.Demand.{At, interrupting, committing, completing, issuing, trying, ending, stopping, halted, place, needed_entry}
 use Rattle.timing_side.specs.Timing.{Timing, timing_start, cut_to, quiet, ordering}
 use Rattle.timing_side.specs.Interrupt.{is_pending, take_interrupt, timing_interrupt}
 use Rattle.timing_side.specs.Commit.{leaving, commits, timing_commit}
 use Rattle.timing_side.specs.Complete.{completes, completed_by, timing_complete}
-use Rattle.timing_side.specs.Issue.{wants_time, replayed, issued, timing_issue}
-use Rattle.timing_side.specs.Fetch.{is_fetchable, cache_read, missed, appended, path_orders, predicted_next, Tried, tried, timing_try}
+use Rattle.timing_side.specs.Issue.{busy_divisions, wants_time, replayed, issued, timing_issue}
+use Rattle.timing_side.specs.Fetch.{is_fetchable, cache_read, new_slot, missed, appended, path_orders, predicted_next, Tried, tried, timing_try}
 use Rattle.timing_side.specs.Turn.{timing_turn, timing_end_of_cycle}
 use Rattle.timing_side.specs.Step.{TimingPlace, Stepped, timing_place_start, step_by, telling, timing_step}
 use Rattle.timing_laws.specs.Seen.{seen_at}
-use Rattle.timing_side.proofs.Commits.{GoesOn, leaving_case, every_commit}
+use Rattle.timing_side.proofs.Commits.{IsDone, GoesOn, leaving_case, every_commit}
+use Rattle.timing_core.specs.Small.{IsInOrder}
+use Rattle.timing_core.proofs.Ordered.{longer, behind_oldest, with_youngest, walk_kept, completes_kept}
 use Rattle.timing_laws.proofs.Stepping.{starts, place_step}
 
 pub record IsBounded (t : Timing) : Type 0 where
   pub retired : t.retired ≤ t.to_commit
   pub resume : t.resume ≤ t.cycle + 1000
+  pub order : IsInOrder 0 t.cycle t.slots
 
 pub interrupt_bounded : (t : Timing) → IsBounded t → IsBounded (timing_interrupt t).timing
 unfolding timing_interrupt cut_to
 interrupt_bounded t is =
     cond_both (is_pending t) (ordering (Interrupt t.to_commit) (take_interrupt t)) (quiet t) (λ p. IsBounded p.timing)
-    (λ e. record { retired = is.retired; resume = omega arith }) (λ e. is)
+    (λ e. record { retired = is.retired; resume = omega arith; order = omega arith }) (λ e. is)
 
 -- the slots that leave
 abbrev IsOn : ℕ → Timing → Type 0
@@ -45,12 +49,15 @@ one_bounded : (s : Setup) (t : Timing) (left : ℕ) → IsBounded t → GoesOn I
 unfolding cut_to
 one_bounded s t left is =
     leaving_case s t (GoesOn IsOn (λ c. IsBounded c.timing) left t) is (λ slot rest done. record {
-      if_faults = λ cause why. record { retired = omega (arith, is.retired); resume = omega arith };
-      if_full = λ none room. record { retired = is.retired; resume = is.resume };
-      if_ends = λ halt passes. record { retired = omega (arith, is.retired); resume = is.resume };
-      if_syncs = λ passes fence. record { retired = omega (arith, is.retired); resume = omega arith };
-      if_leaves = λ passes fence. record { retired = omega (arith, is.retired); resume = is.resume };
+      if_faults = λ cause why. record { retired = omega (arith, is.retired); resume = omega arith; order = omega arith };
+      if_full = λ none room. record { retired = is.retired; resume = is.resume; order = is.order };
+      if_ends = λ halt passes. record { retired = omega (arith, is.retired); resume = is.resume; order = behind slot rest done };
+      if_syncs = λ passes fence. record { retired = omega (arith, is.retired); resume = omega arith; order = omega arith };
+      if_leaves = λ passes fence. record { retired = omega (arith, is.retired); resume = is.resume; order = behind slot rest done };
     })
+  where
+    behind : (slot : Slot) (rest : List Slot) → IsDone t slot rest → IsInOrder 0 t.cycle rest
+    behind slot rest done = behind_oldest t.cycle t.slots slot rest done.slots is.order
 
 pub commits_bounded : (s : Setup) (most : ℕ) (t : Timing) → IsBounded t → IsBounded (commits s most 0 t).timing
 commits_bounded s most t is =
@@ -60,24 +67,28 @@ commit_bounded : (s : Setup) (t : Timing) → IsBounded t → IsBounded (timing_
 unfolding timing_commit
 commit_bounded s t is = commits_bounded s s.params.core_commit t is
 
-pub completed_bounded : (redirect : Option ℕ) (slots : List Slot) (t : Timing) → IsBounded t → IsBounded (completed_by redirect slots t)
+pub completed_bounded : (redirect : Option ℕ) (slots : List Slot) (t : Timing) → IsInOrder 0 t.cycle slots → IsBounded t → IsBounded (completed_by redirect slots t)
 unfolding cut_to
-completed_bounded None slots t is = record { retired = is.retired; resume = is.resume }
-completed_bounded (Some addr) slots t is = record { retired = is.retired; resume = omega arith }
+completed_bounded None slots t ordered is = record { retired = is.retired; resume = is.resume; order = ordered }
+completed_bounded (Some addr) slots t ordered is = record { retired = is.retired; resume = omega arith; order = ordered }
 
 complete_bounded : (t : Timing) → IsBounded t → IsBounded (timing_complete t).timing
 unfolding timing_complete
-complete_bounded t is = let c = completes t.cycle t.slots in completed_bounded c.redirect c.slots t is
+complete_bounded t is = let c = completes t.cycle t.slots in completed_bounded c.redirect c.slots t (completes_kept t.cycle 0 t.cycle t.slots is.order) is
 
 pub replayed_bounded : (t : Timing) → IsBounded t → IsBounded (replayed t)
 unfolding cut_to
-replayed_bounded t is = record { retired = is.retired; resume = omega arith }
+replayed_bounded t is = record { retired = is.retired; resume = omega arith; order = omega arith }
 
 issue_bounded : (s : Setup) (t : Timing) → IsBounded t → IsBounded (timing_issue s t).timing
 unfolding timing_issue
 issue_bounded s t is =
     cond_both (wants_time s t) (ordering (Time t.to_commit t.cycle) (replayed t)) (quiet (issued s t)) (λ p. IsBounded p.timing)
-    (λ e. replayed_bounded t is) (λ e. record { retired = is.retired; resume = is.resume })
+    (λ e. replayed_bounded t is) (λ e. record {
+      retired = is.retired;
+      resume = is.resume;
+      order = walk_kept s t.cycle (busy_divisions t.slots) 0 t.cycle t.slots [] none_used t.caches is.order;
+    })
 
 -- the cycles of a miss
 module _ (s : Setup) (facts : IsSetup s) where
@@ -112,8 +123,8 @@ module _ (s : Setup) (facts : IsSetup s) where
           cond_both {A = Tried} (nat_lt 0 d.cycles) (record { phase = quiet (missed d.cycles d.state t); goes_on = false })
           (record { phase = record { timing = appended s e d.state t; orders = path_orders s e t }; goes_on = predicted_next s e t == wrap_sum e.addr 4 })
           (λ f. IsBounded f.phase.timing)
-          (λ waits. record { retired = is.retired; resume = omega arith })
-          (λ none. record { retired = is.retired; resume = is.resume })
+          (λ waits. record { retired = is.retired; resume = omega arith; order = is.order })
+          (λ none. record { retired = is.retired; resume = is.resume; order = with_youngest 0 t.cycle t.slots (new_slot s e t) refl is.order })
 
   turn_bounded : (e : Entry) (at : At) (t : Timing) → IsBounded t → IsBounded (timing_turn s e at t).timing
   unfolding timing_turn timing_end_of_cycle
@@ -122,7 +133,11 @@ module _ (s : Setup) (facts : IsSetup s) where
   turn_bounded e completing t is = complete_bounded t is
   turn_bounded e issuing t is = issue_bounded s t is
   turn_bounded e (trying more) t is = try_bounded e t is
-  turn_bounded e ending t is = record { retired = is.retired; resume = omega (arith, is.resume) }
+  turn_bounded e ending t is = record {
+    retired = is.retired;
+    resume = omega (arith, is.resume);
+    order = longer 0 t.cycle (t.cycle + 1) t.slots (omega arith) is.order;
+  }
   turn_bounded e stopping t is = is
   turn_bounded e halted t is = is
 
@@ -138,7 +153,7 @@ module _ (s : Setup) (facts : IsSetup s) where
 
   start_bounded : IsBounded (seen_at s (place s 0)).timing
   unfolding place timing_place_start timing_start
-  start_bounded = subst (λ (p : TimingPlace). IsBounded p.timing) (sym (starts s)) (record { retired = omega arith; resume = omega arith })
+  start_bounded = subst (λ (p : TimingPlace). IsBounded p.timing) (sym (starts s)) (record { retired = omega arith; resume = omega arith; order = omega arith })
 
   pub seen_bounded : (k : ℕ) → IsBounded (seen_at s (place s k)).timing
   unfolding timing_step

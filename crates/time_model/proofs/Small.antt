@@ -47,6 +47,7 @@ within_small s k sound within =
       mispredicted = omega (arith, steps, counted.mispredicted);
       retired = omega (arith, done, shown.retired);
       output = omega (arith, r.output, output_within s k);
+      order = shown.order;
     }
 
 pub place_small : (s : Setup) (k : ℕ) → is_setup s ≡ true → IsSmall (seen s (place s k).run.demand)

@@ -18,8 +18,10 @@ use Rattle.timing_side.specs.Issue.{busy_divisions, may_begin, Turned, turn_of, 
 use Rattle.in_flight.specs.Flight.{older_at, may_start_at}
 use Rattle.timing_core.specs.declared.state.TimingCore.{TimingCore}
 use Rattle.timing_core.specs.CoreStandsFor.{CoreStandsFor}
+use Rattle.timing_core.specs.Small.{IsInOrder}
 use Rattle.timing_core.proofs.Sums.{risen}
 use Rattle.timing_core.proofs.Keeping.{keeps_slots, keeps_caches}
+use Rattle.timing_core.proofs.Ordered.{set_kept, fetched_behind, turned_fetched}
 use Rattle.timing_core.proofs.Walks.{turn_begins, turn_rests, same_slot, walk_from, walk_starts, walk_ends, walk_turns, passes_all, rests_all}
 
 -- other slots and caches, and all else as it was
@@ -89,20 +91,22 @@ end_cycle r middle n cycle latency added first second same small short few =
     risen r middle (cycle + latency) added second (risen middle n cycle latency first same (omega arith) (omega arith)) (omega arith) (omega arith)
 
 -- What the walk keeps when it has gone as far as a place: the slots are those of the core, with some caches, and from here
--- on it comes to what the whole walk comes to.
+-- on it comes to what the whole walk comes to. They stand in the order of their fetch, as they did.
 pub record HasWalked (s : Setup) (t : Timing) (busy : ℕ) (core : TimingCore) (place : ℕ) (used : Used) : Type 0 where
   pub caches : CachesState
   pub kept : CoreStandsFor s (record t { slots = core.flight.slots; caches = caches }) core
   pub whole : walk s t.cycle busy t.slots [] none_used t.caches ≡ walk_from s t.cycle busy core.flight.slots place used caches
+  pub order : IsInOrder 0 t.cycle core.flight.slots
 
 pub walks_from_start : (s : Setup) (t : Timing) (busy : ℕ) (core : TimingCore) (used : Used) → CoreStandsFor s t core → used ≡ none_used →
-    HasWalked s t busy core 0 used
-walks_from_start s t busy core used k none = record {
+    IsInOrder 0 t.cycle t.slots → HasWalked s t busy core 0 used
+walks_from_start s t busy core used k none ordered = record {
   caches = t.caches;
   kept = kept_with s t core k core.flight core.flight.slots core.caches t.caches refl refl k.caches;
   whole = walk_starts s t.cycle busy t.slots none_used t.caches
       ∙ ap (λ (slots : List Slot). walk_from s t.cycle busy slots 0 none_used t.caches) (sym k.slots)
       ∙ ap (λ (u : Used). walk_from s t.cycle busy core.flight.slots 0 u t.caches) (sym none);
+  order = subst (IsInOrder 0 t.cycle) (sym k.slots) ordered;
 }
 
 -- on to a slot that can start, past slots that can't
@@ -116,6 +120,7 @@ walks_to s t busy core from place used h before not =
       whole = h.whole
           ∙ passes_all s t.cycle busy (place - from) core.flight.slots from used h.caches (λ k above below. not k above (omega arith))
           ∙ ap (λ (n : ℕ). walk_from s t.cycle busy core.flight.slots n used h.caches) e;
+      order = h.order;
     }
 
 -- and a turn further
@@ -136,6 +141,8 @@ walks_on s t busy core new place used after slot h at turned units =
           ∙ ap (λ (slots : List Slot). walk_from s t.cycle busy slots (suc place) made.used made.caches) (sym turned.slots)
           ∙ ap (λ (u : Used). walk_from s t.cycle busy new.flight.slots (suc place) u made.caches) (sym units)
           ∙ ap (λ (n : ℕ). walk_from s t.cycle busy new.flight.slots n after made.caches) e;
+      order = subst (IsInOrder 0 t.cycle) (sym turned.slots) (set_kept 0 t.cycle core.flight.slots place slot made.turned at
+          (turned_fetched s t.cycle busy (older_at core.flight.slots place) slot used h.caches) h.order);
     }
 
 -- behind the last slot
@@ -146,26 +153,44 @@ walks_to_end s t core place used h over =
     let P : Walked → Type 0 = λ walked. CoreStandsFor s (record t { slots = walked.slots; caches = walked.caches }) core in
     subst P (sym w) h.kept
 
+-- or at one that has not passed the front: those behind it were fetched no earlier, so none of them begins
+pub walks_to_late : (s : Setup) (t : Timing) (core : TimingCore) (place latest : ℕ) (used : Used) (slot : Slot) →
+    HasWalked s t (busy_divisions t.slots) core place used → slice_get core.flight.slots place ≡ Some slot → latest < slot.fetched →
+    latest + core.params.core_front ≡ core.cycle → CoreStandsFor s (issued s t) core
+walks_to_late s t core place latest used slot h there late is =
+    let busy = busy_divisions t.slots in let slots = core.flight.slots in
+    let front : latest + s.params.core_front ≡ t.cycle = rw (h.kept.cycle, ap (λ (p : Params). p.core_front) h.kept.params) at is in
+    walks_to_end s t core (place + length slots) used (record {
+      caches = h.caches;
+      kept = h.kept;
+      whole = h.whole ∙ rests_all s t.cycle busy (length slots) slots place used h.caches (λ k other behind found.
+          omega (arith, front, late, fetched_behind 0 t.cycle slots place k slot other h.order there found behind));
+      order = h.order;
+    }) (omega arith)
+
 -- the front stays where it is
 pub still_past : (latest : ℕ) (core new : TimingCore) → new.params ≡ core.params → new.cycle ≡ core.cycle →
     latest + core.params.core_front ≡ core.cycle → latest + new.params.core_front ≡ new.cycle
 still_past latest core new params cycle is = ap (λ (p : Params). latest + p.core_front) params ∙ is ∙ sym cycle
 
 -- where nothing has passed the front, no slot begins
-pub none_begins : (s : Setup) (t : Timing) (core : TimingCore) → CoreStandsFor s t core → core.cycle < core.params.core_front → CoreStandsFor s (issued s t) core
-none_begins s t core k short =
+pub none_begins : (s : Setup) (t : Timing) (core : TimingCore) → CoreStandsFor s t core → IsInOrder 0 t.cycle t.slots → core.cycle < core.params.core_front →
+    CoreStandsFor s (issued s t) core
+none_begins s t core k ordered short =
     let busy = busy_divisions t.slots in
     let front : t.cycle < s.params.core_front = rw (k.cycle, ap (λ (p : Params). p.core_front) k.params) at short in
-    let start = walks_from_start s t busy core none_used k refl in
+    let start = walks_from_start s t busy core none_used k refl ordered in
     let w = start.whole
-    ∙ rests_all s t.cycle busy front (length core.flight.slots) core.flight.slots 0 none_used start.caches
+    ∙ rests_all s t.cycle busy (length core.flight.slots) core.flight.slots 0 none_used start.caches (λ n slot above there. omega (arith, front))
     ∙ walk_ends s t.cycle busy core.flight.slots (0 + length core.flight.slots) none_used start.caches (omega arith) in
     let P : Walked → Type 0 = λ walked. CoreStandsFor s (record t { slots = walked.slots; caches = walked.caches }) core in
     subst P (sym w) start.kept
 
 -- nor where there is none
-pub none_there : (s : Setup) (t : Timing) (core : TimingCore) → CoreStandsFor s t core → length core.flight.slots ≡ 0 → CoreStandsFor s (issued s t) core
-none_there s t core k none = walks_to_end s t core 0 none_used (walks_from_start s t (busy_divisions t.slots) core none_used k refl) (omega arith)
+pub none_there : (s : Setup) (t : Timing) (core : TimingCore) → CoreStandsFor s t core → IsInOrder 0 t.cycle t.slots → length core.flight.slots ≡ 0 →
+    CoreStandsFor s (issued s t) core
+none_there s t core k ordered none =
+    walks_to_end s t core 0 none_used (walks_from_start s t (busy_divisions t.slots) core none_used k refl ordered) (omega arith)
 
 -- where one can start there is a slot
 pub starts_there : (slots : List Slot) (place : ℕ) → may_start_at slots place ≡ true → (slot : Slot) × (place < length slots) × (slice_get slots place ≡ Some slot)

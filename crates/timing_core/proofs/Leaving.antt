@@ -20,6 +20,7 @@ use Rattle.timing_core.specs.declared.commit.Leaving.{Leaving}
 use Rattle.timing_core.specs.declared.commit.Committed.{Committed}
 use Rattle.timing_core.specs.Small.{IsBelow}
 use Rattle.timing_core.specs.Leaving.{kind_of, behind_of, ending_in, ended_by}
+use Rattle.timing_core.proofs.Ordered.{behind_oldest}
 
 -- an instruction is one branch at most
 pub branch_count_limit : (f : Flow) → branch_count f ≤ 1
@@ -137,6 +138,7 @@ below_more low high t more below = record {
   mispredicted = omega arith;
   retired = omega arith;
   output = omega arith;
+  order = below.order;
 }
 
 -- the numbers behind a slot that leaves
@@ -144,8 +146,9 @@ pub sent : (b : Bool) → (if b then 1 else 0) ≤ 1
 sent true = omega arith
 sent false = omega arith
 
-committed_below : (s : Setup) (slot : Slot) (rest : List Slot) (t : Timing) (limit : ℕ) → IsBelow limit t → IsBelow (limit + 1) (committed s slot rest t)
-committed_below s slot rest t limit below = record {
+committed_below : (s : Setup) (slot : Slot) (rest : List Slot) (t : Timing) (limit : ℕ) → t.slots ≡ slot ∷ rest → IsBelow limit t →
+    IsBelow (limit + 1) (committed s slot rest t)
+committed_below s slot rest t limit there below = record {
   cycle = omega arith;
   to_commit = omega arith;
   resume = omega arith;
@@ -158,6 +161,7 @@ committed_below s slot rest t limit below = record {
   mispredicted = omega arith;
   retired = omega arith;
   output = omega (arith, sent slot.sends);
+  order = behind_oldest t.cycle t.slots slot rest there below.order;
 }
 
 pub leaves_below : (s : Setup) (t : Timing) (left limit : ℕ) (kind : Leaving) → kind ≡ kind_of (leaving s t) → None ≡ ended_by kind left → IsBelow limit t →
@@ -168,7 +172,7 @@ leaves_below s t left limit kind is none below =
       if_full = λ cause room on. absurd (cc);
       if_ends = λ halt passes on. absurd (cc);
       if_syncs = λ passes fence on. absurd (cc);
-      if_leaves = λ passes fence on. committed_below s slot rest t limit below;
+      if_leaves = λ passes fence on. committed_below s slot rest t limit done.slots below;
     }) (none ∙ ap (λ (l : Leaving). ended_by l left) is)
 
 -- the phase as far as it has come

@@ -1,6 +1,7 @@
 pub mod Sums
 pub mod Keeping
 pub mod Phases
+pub mod Ordered
 pub mod Leaving
 pub mod Finishing
 pub mod Fetching

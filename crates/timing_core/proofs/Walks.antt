@@ -140,22 +140,25 @@ module _ (s : Setup) (cycle busy : ℕ) where
       ∙ ap (λ (k : ℕ). walk_from slots k used caches) e
 
   -- past places whose slots have not passed the front
-  rests_early : cycle < s.params.core_front → (slots : List Slot) (place : ℕ) (used : Used) (caches : CachesState) →
+  rests_early : (slots : List Slot) (place : ℕ) (used : Used) (caches : CachesState) →
+      ((slot : Slot) → slice_get slots place ≡ Some slot → cycle < slot.fetched + s.params.core_front) →
       walk_from slots place used caches ≡ walk_from slots (suc place) used caches
-  rests_early short slots place used caches = elim (slice_get_cases slots place).1 [
+  rests_early slots place used caches late = elim (slice_get_cases slots place).1 [
     | inl there ↦
         let slot = there.0 in let older = older_at slots place in
+        let after : cycle < slot.fetched + s.params.core_front = late slot there.2 in
         let behind : nat_le (slot.fetched + s.params.core_front) cycle ≡ false = grind arith in
         passes_rest slots place slot used caches there.2
         (early (is_waiting_state slot.state) _ (has_operands older slot) (class_allows slot.class slot.access older) (has_unit s.params (busy + used.div) used slot.class) behind)
     | inr over ↦ walk_ends slots place used caches over.0 ∙ sym (walk_ends slots (suc place) used caches (omega arith))
   ]
 
-  pub rests_all : cycle < s.params.core_front → (count : ℕ) (slots : List Slot) (place : ℕ) (used : Used) (caches : CachesState) →
+  pub rests_all : (count : ℕ) (slots : List Slot) (place : ℕ) (used : Used) (caches : CachesState) →
+      ((k : ℕ) (slot : Slot) → place ≤ k → slice_get slots k ≡ Some slot → cycle < slot.fetched + s.params.core_front) →
       walk_from slots place used caches ≡ walk_from slots (place + count) used caches
-  rests_all short zero slots place used caches = ap (λ (k : ℕ). walk_from slots k used caches) (sym (add-zero place))
-  rests_all short (suc count) slots place used caches =
+  rests_all zero slots place used caches late = ap (λ (k : ℕ). walk_from slots k used caches) (sym (add-zero place))
+  rests_all (suc count) slots place used caches late =
       let e : suc place + count ≡ place + suc count = omega arith in
-      rests_early short slots place used caches
-      ∙ rests_all short count slots (suc place) used caches
+      rests_early slots place used caches (λ slot there. late place slot (omega arith) there)
+      ∙ rests_all count slots (suc place) used caches (λ k slot above there. late k slot (omega arith) there)
       ∙ ap (λ (k : ℕ). walk_from slots k used caches) e

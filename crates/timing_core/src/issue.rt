@@ -217,7 +217,8 @@ impl TimingCore {
     }
 
     /// Slots begin, from the oldest to the youngest: of those that were fetched in cycle `latest` or
-    /// before, as no others have passed the front of the pipeline.
+    /// before, as no others have passed the front of the pipeline. Behind the first that was fetched
+    /// later, none was fetched earlier.
     #[inline(always)]
     fn issue_fetched(&mut self, latest: u64)
         requires latest { latest + self.old.params.core_front ≡ self.old.cycle }
@@ -230,6 +231,9 @@ impl TimingCore {
         let mut used = Used::none();
         let mut from = 0;
         while let Some(place) = self.flight.next(Sought::Ready, &mut ready, from) {
+            if self.flight.at(place).fetched > latest {
+                return;
+            }
             used = self.turn(place, latest, busy, used);
             from = place + 1;
         }

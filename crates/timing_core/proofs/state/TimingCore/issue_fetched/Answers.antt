@@ -2,7 +2,7 @@ use Rattle.std.proofs.Common.{ℕ, ◌+◌, ◌∙◌, ap, subst, length, arith}
 use Rattle.in_flight.proofs.Snapshots.{still}
 use Rattle.timing_side.specs.Issue.{busy_divisions}
 use Rattle.timing_core.specs.Units.{used_in}
-use Rattle.timing_core.proofs.Issuing.{HasWalked, walks_from_start, walks_to, walks_on, walks_to_end, starts_there, still_past}
+use Rattle.timing_core.proofs.Issuing.{HasWalked, walks_from_start, walks_to, walks_on, walks_to_end, walks_to_late, starts_there, still_past}
 use Rattle.timing_core.proofs.state.TimingCore.issue_fetched.Goals as goal
 
 pub loop-place-init : goal.loop-place-init
@@ -10,7 +10,7 @@ loop-place-init c = record {
   few = c.requires.few;
   latest = c.requires.latest;
   ready = c.snapshot-ready.ensures.all;
-  walked = λ s t k small. walks_from_start s t c.dividing-busy.result c.args.self.now (used_in c.none-used.result) k c.none-used.ensures.none;
+  walked = λ s t k small. walks_from_start s t c.dividing-busy.result c.args.self.now (used_in c.none-used.result) k c.none-used.ensures.none small.order;
 }
 
 pub overflow_add-from : goal.overflow_add-from
@@ -32,6 +32,22 @@ loop-place-preserved c = record {
       walks_on s t busy core c.turn-used.new.self place used (used_in c.turn-used.result) there.0 here there.2
       (c.turn-used.ensures.kept s now there.0 here.kept small.cycle there.2)
       (c.turn-used.ensures.used s now there.0 here.kept small.cycle there.2);
+}
+
+pub loop-place-smaller : goal.loop-place-smaller
+loop-place-smaller c =
+    let there = starts_there c.loop-place.self.flight.slots c.in-Some.place c.in-Some.ensures.found in
+    let within = there.1 in
+    omega (arith, within, c.in-Some.ensures.behind, c.turn-used.ensures.size)
+
+pub returns-then-at-latest : goal.returns-then-at-latest
+returns-then-at-latest c = record {
+  kept = λ s t k small.
+      let core = c.loop-place.self in let place = c.in-Some.place in let busy = c.dividing-busy.result in let used = used_in c.loop-place.used in
+      let here = walks_to s t busy core c.loop-place.from place used (c.loop-place.invariant.walked s t k small) c.in-Some.ensures.behind c.in-Some.ensures.first in
+      let counted = c.dividing-busy.ensures.count ∙ ap busy_divisions k.slots in
+      walks_to_late s t core place c.args.latest used c.at.result (subst (λ (n : ℕ). HasWalked s t n core place used) counted here)
+      c.at.ensures.slot (omega (arith, c.if-at-latest.true)) c.loop-place.invariant.latest;
 }
 
 pub returns : goal.returns
