@@ -1,5 +1,5 @@
 -- A turn of the walk, on what the timing side keeps.
-use Rattle.std.proofs.Common.{◌≡◌, ℕ, suc, ◌+◌, ◌-◌, ◌%◌, ◌<◌, ◌≤◌, ◌^◌, Bool, true, false, if◌then◌else◌, Some, List, [], length, inl, inr, refl, ap, sym, subst, ◌∙◌, arith}
+use Rattle.std.proofs.Common.{◌≡◌, ℕ, zero, suc, ◌+◌, ◌-◌, ◌%◌, ◌<◌, ◌≤◌, ◌^◌, ◌&&◌, nat_le, Bool, true, false, if◌then◌else◌, Some, List, [], ◌∷◌, length, inl, inr, refl, ap, sym, subst, ◌∙◌, arith}
 use Rattle.std.specs.Prelude.{slice_get, slice_set}
 use Rattle.std.proofs.lemmas.Option.{slice_get_cases}
 use Rattle.cache_timing.specs.declared.caches.Caches.{Caches}
@@ -13,9 +13,10 @@ use Rattle.mono_model.specs.declared.setup.Setup.{Setup}
 use Rattle.mono_model.specs.Setup.{caches_params}
 use Rattle.mono_model.specs.Issue.{Used, none_used, latency_of, cached}
 use Rattle.rollback_cmds.specs.declared.order.Order.TheVariants.{Time}
-use Rattle.timing_side.specs.Timing.{Timing, quiet, ordering}
-use Rattle.timing_side.specs.Issue.{busy_divisions, may_begin, Turned, turn_of, Walked, walk, wants_time, replayed, issued, timing_issue}
-use Rattle.in_flight.specs.Flight.{older_at, may_start_at}
+use Rattle.timing_side.specs.Slots.{is_waiting_state, waiting_count}
+use Rattle.timing_side.specs.Timing.{Timing, Phase, quiet, ordering}
+use Rattle.timing_side.specs.Issue.{busy_divisions, has_operands, may_begin, Turned, turn_of, Walked, walk, wants_time_first, wants_time, replayed, issued, timing_issue}
+use Rattle.in_flight.specs.Flight.{older_at, may_start, may_start_at}
 use Rattle.timing_core.specs.declared.state.TimingCore.{TimingCore}
 use Rattle.timing_core.specs.CoreStandsFor.{CoreStandsFor}
 use Rattle.timing_core.specs.Small.{IsInOrder}
@@ -186,12 +187,6 @@ none_begins s t core k ordered short =
     let P : Walked → Type 0 = λ walked. CoreStandsFor s (record t { slots = walked.slots; caches = walked.caches }) core in
     subst P (sym w) start.kept
 
--- nor where there is none
-pub none_there : (s : Setup) (t : Timing) (core : TimingCore) → CoreStandsFor s t core → IsInOrder 0 t.cycle t.slots → length core.flight.slots ≡ 0 →
-    CoreStandsFor s (issued s t) core
-none_there s t core k ordered none =
-    walks_to_end s t core 0 none_used (walks_from_start s t (busy_divisions t.slots) core none_used k refl ordered) (omega arith)
-
 -- where one can start there is a slot
 pub starts_there : (slots : List Slot) (place : ℕ) → may_start_at slots place ≡ true → (slot : Slot) × (place < length slots) × (slice_get slots place ≡ Some slot)
 starts_there slots place can = elim (slice_get_cases slots place).1 [
@@ -204,3 +199,43 @@ pub issues : (s : Setup) (t : Timing) (b : Bool) → wants_time s t ≡ b →
     timing_issue s t ≡ (if b then ordering (Time t.to_commit t.cycle) (replayed t) else quiet (issued s t))
 unfolding timing_issue
 issues s t b is = ap (λ (x : Bool). if x then ordering (Time t.to_commit t.cycle) (replayed t) else quiet (issued s t)) is
+
+-- where none waits, none begins
+counts_none : (b : Bool) (n : ℕ) → (if b then 1 else 0) + n ≡ 0 → (b ≡ false) × (n ≡ 0)
+counts_none true n e = absurd (omega (arith, e))
+counts_none false n e = (refl, omega (arith, e))
+
+rests_at : (slots : List Slot) (place : ℕ) (slot : Slot) → waiting_count slots ≡ 0 → slice_get slots place ≡ Some slot →
+    is_waiting_state slot.state ≡ false
+rests_at [] place slot none there = cc
+rests_at (first ∷ rest) zero slot none there =
+    let same : first ≡ slot = cc in
+    ap (λ (x : Slot). is_waiting_state x.state) (sym same) ∙ (counts_none (is_waiting_state first.state) (waiting_count rest) none).0
+rests_at (first ∷ rest) (suc place) slot none there =
+    rests_at rest place slot (counts_none (is_waiting_state first.state) (waiting_count rest) none).1 there
+
+none_starts : (slots : List Slot) (place : ℕ) → waiting_count slots ≡ 0 → may_start_at slots place ≡ false
+none_starts slots place none = elim (slice_get_cases slots place).1 [
+  | inl there ↦
+      ap (may_start (older_at slots place)) there.2
+      ∙ ap (λ (waits : Bool). waits && has_operands (older_at slots place) there.0) (rests_at slots place there.0 none there.2)
+  | inr over ↦ ap (may_start (older_at slots place)) over.1
+]
+
+none_wants : (p : Params) (cycle : ℕ) (slots : List Slot) → waiting_count slots ≡ 0 → wants_time_first p cycle slots ≡ false
+none_wants p cycle [] none = refl
+none_wants p cycle (slot ∷ rest) none =
+    ap (λ (waits : Bool). (waits && nat_le (slot.fetched + p.core_front) cycle) && slot.unserved)
+    (counts_none (is_waiting_state slot.state) (waiting_count rest) none).0
+
+pub none_issues : (s : Setup) (t : Timing) (core : TimingCore) → CoreStandsFor s t core → IsInOrder 0 t.cycle t.slots →
+    waiting_count core.flight.slots ≡ 0 → CoreStandsFor s (timing_issue s t).timing core × (timing_issue s t).orders ≡ []
+none_issues s t core k ordered none =
+    let busy = busy_divisions t.slots in
+    let slots = core.flight.slots in
+    let start = walks_from_start s t busy core none_used k refl ordered in
+    let end = walks_to s t busy core 0 (length slots) none_used start (omega arith) (λ place above below. none_starts slots place none) in
+    let off : wants_time s t ≡ false = none_wants s.params t.cycle t.slots (ap waiting_count (sym k.slots) ∙ none) in
+    let phase = issues s t false off in
+    (subst (λ (p : Phase). CoreStandsFor s p.timing core) (sym phase) (walks_to_end s t core (length slots) none_used end (omega arith)),
+      ap (λ (p : Phase). p.orders) phase)

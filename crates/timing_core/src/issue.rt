@@ -36,6 +36,10 @@ impl TimingCore {
         ensures orders { (s : Setup) (t : Timing) → CoreStandsFor s t self.old → IsSmall t
             → orders_in result ≡ (timing_issue s t).orders }
     {
+        // Where none waits, none begins, and none is sent back.
+        if self.flight.waiting() == 0 {
+            return Orders::none();
+        }
         if self.wants_time() {
             return self.replay();
         }
@@ -208,9 +212,7 @@ impl TimingCore {
         ensures kept { (s : Setup) (t : Timing) → CoreStandsFor s t self.old → IsSmall t
             → CoreStandsFor s (issued s t) self.new }
     {
-        if self.flight.len() == 0 {
-            return;
-        }
+        prove!(self.flight.len() <= 256);
         if let Some(latest) = self.latest_past_front() {
             self.issue_fetched(latest);
         }
