@@ -38,7 +38,7 @@ impl TimeState {
     ghost use Rattle.timing_core.specs.Small.{IsSmall};
     ghost use Rattle.time_model.specs.At.{at_in};
     ghost use Rattle.time_model.specs.Standing.{TimeSideStandsFor, IsStanding, wants_in};
-    ghost use Rattle.time_model.specs.Turns.{turn_told};
+    ghost use Rattle.time_model.specs.Turns.{turn_told, told_or, untold_by, is_ending};
     ghost use Rattle.time_model.specs.Running.{IsRun, Steps, IsStridden};
     ghost use Rattle.time_model.specs.Feeding.{holding};
     ghost use Rattle.time_model.specs.Turning.{MayTry, IsPhase, IsTurned, IsTold, over_in, held_by};
@@ -311,6 +311,22 @@ impl TimeState {
         self.telling.tell(orders)
     }
 
+    /// What [`Stepping::advance`] tells. It goes inline and is a function of its own, since the
+    /// place of a call's result is cleared where a function begins: in a stride that would be done
+    /// each time, and the call is rare.
+    #[inline(always)]
+    fn tell_owed(&mut self) -> Option<Order>
+        requires standing { IsStanding self.old }
+        requires holds { wants_in self.old ≡ false }
+        requires goes { over_in self.old ≡ false }
+        ensures made { Steps self.old self.new
+            (told_or result (untold_by (is_ending (at_in self.old.at)))) }
+        ensures standing { IsStanding self.new }
+    {
+        let order = self.advance()?;
+        Some(order)
+    }
+
     /// The end of a cycle, where that comes next, with its first order told; and else nothing.
     #[inline(always)]
     fn over_ending(&mut self, next: &mut At) -> Option<Order>
@@ -457,7 +473,7 @@ impl Stepping for TimeState {
     #[tactic(auto, unfolding(crate::specs::Standing::wants_in))]
     fn stride(&mut self) -> Option<Order> {
         if self.telling.owed.is_some() {
-            return self.advance();
+            return self.tell_owed();
         }
         let mut next = self.at;
         if let Some(order) = self.over_ending(&mut next) {

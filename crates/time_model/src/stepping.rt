@@ -77,6 +77,19 @@ pub trait Stepping: Drop {
         if self.is_told_out() {
             return Some(Turn::Halted);
         }
+        self.step_on()
+    }
+
+    /// The same, where an entry isn't needed or is held, and the run isn't over. It goes inline and
+    /// is a function of its own: the place of the call's result is cleared where a function begins.
+    #[inline(always)]
+    final fn step_on(&mut self) -> Option<Turn>
+        requires standing { stands self.old }
+        requires holds { waits self.old ≡ false }
+        requires goes { rests self.old ≡ false }
+        ensures made { steps self.old self.new (unwrap_or result (untold_by (ends self.old))) }
+        ensures standing { stands self.new }
+    {
         let order = self.advance()?;
         Some(Turn::Ordered(order))
     }

@@ -5,10 +5,10 @@ use Rattle.time_model.proofs.Running.{step_told, step_untold, silent_on, run_on}
 use Rattle.time_model.proofs.state.TimeStateStepping.stride.Goals as goal
 
 pub returns-then-is_some-clause-told : goal.returns-then-is_some-clause-told
-returns-then-is_some-clause-told c = step_told Steps c.args.self.now c.advance.new.self c.advance.result (is_ending (at_in c.args.self.now.at)) c.advance.ensures.made
+returns-then-is_some-clause-told c = step_told Steps c.args.self.now c.tell_owed.new.self c.tell_owed.result (is_ending (at_in c.args.self.now.at)) c.tell_owed.ensures.made
 
 pub returns-then-is_some-clause-untold : goal.returns-then-is_some-clause-untold
-returns-then-is_some-clause-untold c = step_untold Steps c.args.self.now c.advance.new.self c.advance.result (is_ending (at_in c.args.self.now.at)) c.advance.ensures.made
+returns-then-is_some-clause-untold c = step_untold Steps c.args.self.now c.tell_owed.new.self c.tell_owed.result (is_ending (at_in c.args.self.now.at)) c.tell_owed.ensures.made
 
 pub returns-in-Some-over_interrupting-clause-told : goal.returns-in-Some-over_interrupting-clause-told
 returns-in-Some-over_interrupting-clause-told c = run_on Steps c.in_default.ensures.strode.silent c.in-Some-over_interrupting.ensures.strode.ordered
