@@ -1,6 +1,6 @@
 -- What the cache stands for after a hit, and after a miss.
 use Rattle.std.proofs.Common.{◌≡◌, ◌≢◌, ℕ, zero, suc, ◌+◌, ◌-◌, ◌*◌, ◌%◌, ◌/◌, ◌^◌, ◌<◌, Bool, true, false, ◌||◌, ◌&&◌, List, take, arith, ap, refl, ◌∙◌, sym, subst}
-use Rattle.std.specs.Prelude.{Option, Some, None, IfSome, IsSomeAnd, slice_get}
+use Rattle.std.specs.Prelude.{Option, Some, None, IfSome, slice_get}
 use Rattle.cache_timing.specs.declared.params.CacheParams.{CacheParams}
 use Rattle.cache_timing.specs.declared.cache.Line.{Line}
 use Rattle.cache_timing.specs.declared.cache.Cache.{Cache}
@@ -10,7 +10,7 @@ use Rattle.cache_timing.specs.Ages.{IsOrder}
 use Rattle.cache_timing.specs.CacheStandsFor.{IsSet, IsFirst, CacheStandsFor, IsPut, Absent, line_at, age_at}
 use Rattle.cache_timing.proofs.Lists.{holds-absent}
 use Rattle.cache_timing.proofs.Touches.{line_of, fits_at, IsSet-hit, holds-hit, IsSet-miss, dropped-miss, absent-from_ways}
-use Rattle.cache_timing.proofs.Kept.{IsUpdate-put, CacheStandsFor-put, put_at-same}
+use Rattle.cache_timing.proofs.Kept.{IsUpdate-put, CacheStandsFor-put}
 
 -- what is shown at the cache's own sizes holds at those that it has
 pub at_sizes : (it : Cache) (p : CacheParams) (back : Bool) (sets : ℕ → List Line) (Q : CacheParams → Type 0) → CacheStandsFor it p back sets →
@@ -18,18 +18,10 @@ pub at_sizes : (it : Cache) (p : CacheParams) (back : Bool) (sets : ℕ → List
 at_sizes it p back sets Q keeps f =
     let K : CacheParams → Type 0 = λ q. CacheStandsFor it q back sets in subst Q keeps.sizes (f (subst K (sym keeps.sizes) keeps))
 
-first_of : (ways number : ℕ) (writes : Bool) (set : List Line) → 0 < ways →
-    IsSomeAnd (slice_get (take ways (fronted number writes set)) 0) (λ line. line.number ≡ number)
-first_of zero number writes set some = absurd (omega arith)
-first_of (suc ways) number writes set some = refl
-
 -- the line of an access is the first of its set then
-first_after : (p : CacheParams) (set way number : ℕ) (writes : Bool) (sets : ℕ → List Line) → way < p.ways → set ≡ number % p.sets →
-    IsFirst p (put_at set (take p.ways (fronted number writes (sets set))) sets) number
-first_after p set way number writes sets here place =
-    let Starts : List Line → Type 0 = λ lines. IsSomeAnd (slice_get lines 0) (λ line. line.number ≡ number) in
-    subst Starts (sym (put_at-same set (number % p.sets) (take p.ways (fronted number writes (sets set))) sets (sym place)))
-    (first_of p.ways number writes (sets set) (omega arith))
+first_after : (ways number : ℕ) (writes : Bool) (set : List Line) → 0 < ways → IsFirst (take ways (fronted number writes set)) number
+first_after zero number writes set some = absurd (omega arith)
+first_after (suc ways) number writes set some = refl
 
 hit_here : (old new : Cache) (back : Bool) (sets : ℕ → List Line) (way : ℕ) (held : Line) (writes : Bool) → CacheStandsFor old old.params back sets →
     IsPut old new (held.number % old.params.sets) way (line_of held.number (writes || held.dirty)) → held.number % old.params.sets < old.params.sets →
@@ -38,10 +30,10 @@ hit_here : (old new : Cache) (back : Bool) (sets : ℕ → List Line) (way : ℕ
 hit_here old new back sets way held writes keeps put within here there =
     let set : ℕ = held.number % old.params.sets in
     CacheStandsFor-put old new old.params back sets set way (line_of held.number (writes || held.dirty)) (take old.params.ways (fronted held.number writes (sets set)))
-    keeps put here
+    keeps put here within
     (IsSet-hit old.params (line_at old set) (line_at new set) (age_at old set) (age_at new set) way held writes (sets set)
     (IsUpdate-put old new set way (line_of held.number (writes || held.dirty)) put here within) (keeps.lists set within) there)
-    (first_after old.params set way held.number writes sets here refl)
+    (first_after old.params.ways held.number writes (sets set) (omega (arith, here)))
 
 touch_hit : (p : CacheParams) (number : ℕ) (writes : Bool) (sets : ℕ → List Line) → holds number (sets (number % p.sets)) ≡ true →
     (touched_line p number writes sets).touch ≡ touch.Hit
@@ -96,11 +88,11 @@ miss_here : (old new : Cache) (back : Bool) (sets : ℕ → List Line) (set way 
     CacheStandsFor new old.params back (put_at set (take old.params.ways (fronted line.number line.dirty (sets set))) sets)
 miss_here old new back sets set way line keeps miss put fits =
     let own : IsSet old.params (line_at old set) (age_at old set) (sets set) = keeps.lists set miss.within in
-    CacheStandsFor-put old new old.params back sets set way line (take old.params.ways (fronted line.number line.dirty (sets set))) keeps put miss.here
+    CacheStandsFor-put old new old.params back sets set way line (take old.params.ways (fronted line.number line.dirty (sets set))) keeps put miss.here miss.within
     (IsSet-miss old.params (line_at old set) (line_at new set) (age_at old set) (age_at new set) way line.number line.dirty (sets set)
     (IsUpdate-put old new set way line put miss.here miss.within) own (miss.oldest own.order)
     (absent-from_ways old.params (line_at old set) (age_at old set) line.number (sets set) own miss.missing) fits)
-    (first_after old.params set way line.number line.dirty sets miss.here miss.place)
+    (first_after old.params.ways line.number line.dirty (sets set) (omega (arith, miss.here)))
 
 pub CacheStandsFor-miss : (old new : Cache) (p : CacheParams) (back : Bool) (sets : ℕ → List Line) (set way : ℕ) (line : Line) → CacheStandsFor old p back sets →
     IsMiss old set way line.number → IsPut old new set way line → line.number * old.params.line < 2 ^ 32 →

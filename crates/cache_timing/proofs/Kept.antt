@@ -9,7 +9,7 @@ use Rattle.cache_timing.specs.declared.cache.Line.{Line}
 use Rattle.cache_timing.specs.declared.cache.Cache.{Cache}
 use Rattle.cache_timing.specs.Cache.{put_at}
 use Rattle.cache_timing.specs.Ages.{IsOrder, age_of}
-use Rattle.cache_timing.specs.CacheStandsFor.{IsSet, IsFirst, CacheStandsFor, IsPut, line_at, age_at}
+use Rattle.cache_timing.specs.CacheStandsFor.{IsSet, IsFirst, CacheStandsFor, IsPut, line_at, age_at, latest_at}
 use Rattle.cache_timing.proofs.Sets.{IsUpdate}
 
 -- ways of other sets, and other ways of this one, lie elsewhere
@@ -84,20 +84,36 @@ lists_after old new sets set way line lines put here own i before (inr e) =
     (IsSet-same old.params (line_at old i) (line_at new i) (age_at old i) (age_at new i) (sets i) before
     (λ w h. other_line old new set way i w line put here h (inl e)) (λ w h. ap (λ word. age_of word w) (put.others i e)))
 
+-- the latest line of the set that was used is the one that it was used for, and each other set has its old one
+latest_after : (old new : Cache) (sets : ℕ → List Line) (set way : ℕ) (line : Line) (lines : List Line) → IsPut old new set way line →
+    set < old.params.sets → IsFirst lines line.number → (i : ℕ) → IfSome (latest_at old i) (IsFirst (sets i)) → (i ≡ set) ⊎ (i ≢ set) →
+    IfSome (latest_at new i) (IsFirst (put_at set lines sets i))
+latest_after old new sets set way line lines put within first i before (inl e) =
+    let count : vec_len old.latest ≡ old.params.sets = old.every_latest in
+    let room : set < length old.latest.items = omega arith in
+    let own : latest_at new i ≡ Some line.number =
+    ap (latest_at new) e ∙ ap (λ items. slice_index_or items set None) put.latest
+    ∙ get_or-set_same old.latest.items set (Some line.number) None room in
+    let Of : List Line → Type 0 = λ list. IfSome (latest_at new i) (IsFirst list) in
+    let Latest : Option ℕ → Type 0 = λ o. IfSome o (IsFirst lines) in
+    subst Of (sym (put_at-same set i lines sets e)) (subst Latest (sym own) first)
+latest_after old new sets set way line lines put within first i before (inr e) =
+    let kept : latest_at new i ≡ latest_at old i =
+    ap (λ items. slice_index_or items i None) put.latest ∙ get_or-set_other old.latest.items set i (Some line.number) None e in
+    let Of : List Line → Type 0 = λ list. IfSome (latest_at new i) (IsFirst list) in
+    let Latest : Option ℕ → Type 0 = λ o. IfSome o (IsFirst (sets i)) in
+    subst Of (sym (put_at-other set i lines sets e)) (subst Latest (sym kept) before)
+
 pub CacheStandsFor-put : (old new : Cache) (p : CacheParams) (back : Bool) (sets : ℕ → List Line) (set way : ℕ) (line : Line) (lines : List Line) →
-    CacheStandsFor old p back sets → IsPut old new set way line → way < old.params.ways →
-    IsSet old.params (line_at new set) (age_at new set) lines → IsFirst old.params (put_at set lines sets) line.number →
-    CacheStandsFor new p back (put_at set lines sets)
-CacheStandsFor-put old new p back sets set way line lines keeps put here own first = record {
+    CacheStandsFor old p back sets → IsPut old new set way line → way < old.params.ways → set < old.params.sets →
+    IsSet old.params (line_at new set) (age_at new set) lines → IsFirst lines line.number → CacheStandsFor new p back (put_at set lines sets)
+CacheStandsFor-put old new p back sets set way line lines keeps put here within own first = record {
   sizes = put.sizes ∙ keeps.sizes;
   policy = put.policy ∙ keeps.policy;
-  lists = λ i within.
+  lists = λ i inside.
       let Before : CacheParams → Type 0 = λ q. IsSet q (line_at old i) (age_at old i) (sets i) in
       let After : CacheParams → Type 0 = λ q. IsSet q (line_at new i) (age_at new i) (put_at set lines sets i) in
       subst After keeps.sizes
-      (lists_after old new sets set way line lines put here own i (subst Before (sym keeps.sizes) (keeps.lists i within)) (cases_eq i set));
-  latest =
-      let First : CacheParams → Type 0 = λ q. IsFirst q (put_at set lines sets) line.number in
-      let Latest : Option ℕ → Type 0 = λ o. IfSome o (IsFirst p (put_at set lines sets)) in
-      subst Latest (sym put.latest) (subst First keeps.sizes first);
+      (lists_after old new sets set way line lines put here own i (subst Before (sym keeps.sizes) (keeps.lists i inside)) (cases_eq i set));
+  latest = λ i inside. latest_after old new sets set way line lines put within first i (keeps.latest i inside) (cases_eq i set);
 }

@@ -10,7 +10,7 @@ use Rattle.cache_timing.specs.declared.params.CacheParams.{CacheParams}
 use Rattle.cache_timing.specs.declared.cache.Line.{Line}
 use Rattle.cache_timing.specs.declared.cache.Cache.{Cache}
 use Rattle.cache_timing.specs.Ages.{age_of}
-use Rattle.cache_timing.specs.CacheStandsFor.{IsSet, IsFirst, CacheStandsFor, line_at, age_at}
+use Rattle.cache_timing.specs.CacheStandsFor.{IsSet, IsFirst, CacheStandsFor, line_at, age_at, latest_at}
 use Rattle.cache_timing.specs.Cache.{no_lines}
 
 -- whether each of so many ways has its own number as its age
@@ -46,6 +46,10 @@ IsSet-start p line age nothing own = record {
 empty_line : (it : Cache) (count : ℕ) → it.lines.items ≡ replicate count None → (set way : ℕ) → line_at it set way ≡ None
 empty_line it count e set way = grind (arith, e, common_steps)
 
+-- and no set has a latest line
+empty_latest : (it : Cache) (count : ℕ) → it.latest.items ≡ replicate count None → (set : ℕ) → latest_at it set ≡ None
+empty_latest it count e set = grind (arith, e, common_steps)
+
 start_age : (it : Cache) → it.ages.items ≡ replicate it.params.sets START → it.params.ways ≤ 16 → (set way : ℕ) → set < it.params.sets →
     way < it.params.ways → age_at it set way ≡ way
 start_age it e few set way within here =
@@ -53,12 +57,12 @@ start_age it e few set way within here =
     ∙ ap (λ word. age_of word way) (get_or-replicate it.params.sets set START 0 within) ∙ age_of-start way (omega arith)
 
 pub CacheStandsFor-start : (it : Cache) (count : ℕ) → it.lines.items ≡ replicate count None → it.ages.items ≡ replicate it.params.sets START →
-    it.params.ways ≤ 16 → it.latest ≡ None → CacheStandsFor it it.params it.back no_lines
-CacheStandsFor-start it count lines ages few nothing = record {
+    it.latest.items ≡ replicate it.params.sets None → it.params.ways ≤ 16 → CacheStandsFor it it.params it.back no_lines
+CacheStandsFor-start it count lines ages latest few = record {
   sizes = refl;
   policy = refl;
   lists = λ i within.
       IsSet-start it.params (line_at it i) (age_at it i) (λ way here. empty_line it count lines i way)
       (λ way here. start_age it ages few i way within here);
-  latest = subst (λ o. IfSome o (IsFirst it.params no_lines)) (sym nothing) tt;
+  latest = λ i within. subst (λ o. IfSome o (IsFirst (no_lines i))) (sym (empty_latest it it.params.sets latest i)) tt;
 }

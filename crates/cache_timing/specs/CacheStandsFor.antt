@@ -1,5 +1,5 @@
 -- What the lines and the ages that a cache keeps stand for.
-use Rattle.std.specs.Prelude.{◌≡◌, ◌≢◌, ℕ, ◌+◌, ◌*◌, ◌%◌, ◌<◌, ◌≤◌, ◌^◌, Bool, List, [], ◌∷◌, length, Option, None, IfSome, IsSomeAnd, slice_get, slice_index, slice_index_or, slice_set, Some, All}
+use Rattle.std.specs.Prelude.{◌≡◌, ◌≢◌, ℕ, ◌+◌, ◌*◌, ◌<◌, ◌≤◌, ◌^◌, Bool, List, [], ◌∷◌, length, Option, None, IfSome, IsSomeAnd, slice_get, slice_index, slice_index_or, slice_set, Some, All}
 use Rattle.cache_timing.specs.declared.params.CacheParams.{CacheParams}
 use Rattle.cache_timing.specs.declared.cache.Line.{Line}
 use Rattle.cache_timing.specs.declared.cache.Cache.{Cache}
@@ -30,22 +30,26 @@ line_at it set way = slice_index_or it.lines.items (set * it.params.ways + way) 
 abbrev pub age_at : Cache → ℕ → ℕ → ℕ
 age_at it set way = age_of (slice_index it.ages.items set) way
 
--- the line of this number is the first of its set's list: the one that was used last there
-abbrev pub IsFirst : CacheParams → (ℕ → List Line) → ℕ → Type 0
-IsFirst p sets number = IsSomeAnd (slice_get (sets (number % p.sets)) 0) (λ line. line.number ≡ number)
+-- the number of the line that was used last in a set
+abbrev pub latest_at : Cache → ℕ → Option ℕ
+latest_at it set = slice_index_or it.latest.items set None
 
--- the cache has these sizes and this policy, its sets stand for these lists, and the line that was accessed last is a first one
+-- the first line of the list has this number: it is the one that was used last
+abbrev pub IsFirst : List Line → ℕ → Type 0
+IsFirst set number = IsSomeAnd (slice_get set 0) (λ line. line.number ≡ number)
+
+-- the cache has these sizes and this policy, its sets stand for these lists, and the latest line of each set is the first of its list
 pub record CacheStandsFor (it : Cache) (p : CacheParams) (back : Bool) (sets : ℕ → List Line) : Type 0 where
   pub sizes : it.params ≡ p
   pub policy : it.back ≡ back
   pub lists : (i : ℕ) → i < p.sets → IsSet p (line_at it i) (age_at it i) (sets i)
-  pub latest : IfSome it.latest (IsFirst p sets)
+  pub latest : (i : ℕ) → i < p.sets → IfSome (latest_at it i) (IsFirst (sets i))
 
--- one way of one set was used for a line, which is now the latest, and nothing else changed
+-- one way of one set was used for a line, which is now the set's latest, and nothing else changed
 pub record IsPut (old new : Cache) (set way : ℕ) (line : Line) : Type 0 where
   pub sizes : new.params ≡ old.params
   pub policy : new.back ≡ old.back
   pub lines : new.lines.items ≡ slice_set old.lines.items (set * old.params.ways + way) (Some line)
-  pub latest : new.latest ≡ Some line.number
+  pub latest : new.latest.items ≡ slice_set old.latest.items set (Some line.number)
   pub ages : (w : ℕ) → w < old.params.ways → age_at new set w ≡ age_after (age_at old set) way w
   pub others : (i : ℕ) → i ≢ set → slice_index new.ages.items i ≡ slice_index old.ages.items i

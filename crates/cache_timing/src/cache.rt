@@ -56,13 +56,14 @@ pub struct Cache {
     lines: Vec<Option<Line>>,
     /// The ages of each set's ways.
     ages: Vec<u64>,
-    /// The number of the line that was accessed last: most fetches are of it again.
-    latest: Option<u32>,
+    /// The number of the line used last in each set: most accesses are of it again.
+    latest: Vec<Option<u32>>,
     ghost in_range: { IsInRange params },
     ghost line_power: { params.line ≡ 2 ^ line_bits },
     ghost line_bits_most: { line_bits ≤ 8 },
     ghost every_line: { vec_len lines ≡ params.sets * params.ways },
     ghost every_set: { vec_len ages ≡ params.sets },
+    ghost every_latest: { vec_len latest ≡ params.sets },
 }
 
 /// Ways that hold nothing.
@@ -79,11 +80,19 @@ fn start_ages(alloc: Global, count: u32) -> Result<Vec<u64>, NoMemory>
     vec![in alloc; START; count as usize].map_err(|_| NoMemory)
 }
 
+/// The latest lines of sets of which no way was used.
+fn no_latest(alloc: Global, count: u32) -> Result<Vec<Option<u32>>, NoMemory>
+    ensures { IfOk result (λ latest. latest.items ≡ replicate count None) }
+{
+    vec![in alloc; None; count as usize].map_err(|_| NoMemory)
+}
+
 impl Cache {
     ghost use Rattle.std.specs.Prelude.{ℕ, List, ◌-◌, ◌%◌, ◌≢◌, Bool, ◌&&◌, IfSome, IfNone, Some};
-    ghost use Rattle.std.specs.Prelude.{IsTrue, false};
+    ghost use Rattle.std.specs.Prelude.{IsTrue, false, ◌==◌, ◌↔◌};
     ghost use Rattle.cache_timing.specs.Cache.{no_lines, touched, touched_line, written_back};
-    ghost use Rattle.cache_timing.specs.CacheStandsFor.{CacheStandsFor, IsPut, line_at, age_at};
+    ghost use Rattle.cache_timing.specs.CacheStandsFor.{CacheStandsFor, IsPut};
+    ghost use Rattle.cache_timing.specs.CacheStandsFor.{line_at, age_at, latest_at};
 
     /// A cache that holds nothing. It takes its memory here and none later.
     pub fn new(alloc: Global, p: CacheParams, back: bool) -> Result<Cache, NoMemory>
@@ -92,13 +101,14 @@ impl Cache {
     {
         let lines = empty_ways(alloc, p.sets * p.ways)?;
         let ages = start_ages(alloc, p.sets)?;
+        let latest = no_latest(alloc, p.sets)?;
         Ok(Cache {
             params: p,
             back,
             line_bits: exponent(p.line),
             lines,
             ages,
-            latest: None,
+            latest,
         })
     }
 
@@ -160,7 +170,7 @@ impl Cache {
         self.lines[(set * ways + way) as usize] = Some(line);
         let ages = self.ages[set as usize];
         self.ages[set as usize] = after_use(ages, ways, way);
-        self.latest = Some(line.number);
+        self.latest[set as usize] = Some(line.number);
     }
 
     /// The first address of what a way holds, where that is dirty.
@@ -244,8 +254,26 @@ impl Cache {
         }
     }
 
-    /// Whether an address lies in the line that was accessed last. Reading there is a hit that
+    /// Whether there is no cache.
+    #[inline(always)]
+    pub(crate) fn is_absent(&self) -> bool
+        ensures { result ≡ (self.now.params.ways == 0) }
+    {
+        self.params.ways == 0
+    }
+
+    /// Whether the line of this number is the one used last in its set.
+    #[inline(always)]
+    fn is_latest_line(&self, number: u32) -> bool
+        ensures { IsTrue result ↔
+            latest_at self.now (number % self.now.params.sets) ≡ Some number }
+    {
+        self.latest[place_in(self.params.sets, number) as usize] == Some(number)
+    }
+
+    /// Whether an address lies in the line used last in its set. Reading there is a hit that
     /// leaves the cache as it is, so it needs no search.
+    #[inline(always)]
     pub(crate) fn is_latest(&self, addr: u32) -> bool
         ensures hit { IsTrue result → (p : CacheParams) (back : Bool) (sets : ℕ → List Line)
             → CacheStandsFor self.now p back sets →
@@ -254,10 +282,11 @@ impl Cache {
             → CacheStandsFor self.now p back sets →
             CacheStandsFor self.now p back (touched p back sets addr false).sets }
     {
-        self.latest == Some(addr >> self.line_bits)
+        self.is_latest_line(addr >> self.line_bits)
     }
 
-    /// An access to an address. `Touch::None` comes exactly where the cache has no ways.
+    /// An access to an address. `Touch::None` comes exactly where the cache has no ways. An access
+    /// of its set's latest line that doesn't make it dirty needs no search.
     pub fn access(&mut self, addr: u32, write: bool) -> Touch
         ensures touch { (p : CacheParams) (back : Bool) (sets : ℕ → List Line)
             → CacheStandsFor self.old p back sets →
@@ -266,9 +295,14 @@ impl Cache {
             → CacheStandsFor self.old p back sets →
             CacheStandsFor self.new p back (touched p back sets addr write).sets }
     {
-        if self.params.ways == 0 {
+        if self.is_absent() {
             return Touch::None;
         }
-        self.access_line(addr >> self.line_bits, self.makes_dirty(write))
+        let number = addr >> self.line_bits;
+        let writes = self.makes_dirty(write);
+        if !writes && self.is_latest_line(number) {
+            return Touch::Hit;
+        }
+        self.access_line(number, writes)
     }
 }

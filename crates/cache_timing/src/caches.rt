@@ -126,7 +126,10 @@ impl Caches {
         }
     }
 
-    /// The fetch of an instruction. The result is the cycles that it adds.
+    /// The fetch of an instruction. The result is the cycles that it adds. It goes inline: most
+    /// fetches are of the line used last in their set, and a machine without the cache makes no
+    /// call.
+    #[inline(always)]
     #[tactic(auto, unfolding(crate::specs::Caches::fetched))]
     pub fn fetch(&mut self, addr: u32) -> u32
         ensures cycles { (p : AllCaches) (s : CachesState) → CachesStandFor self.old p s →
@@ -138,11 +141,27 @@ impl Caches {
             self.counts.count_icache(Touch::Hit);
             return 0;
         }
+        if self.icache.is_absent() {
+            return 0;
+        }
+        self.fetch_by_search(addr)
+    }
+
+    /// The same, with the search through a set. It stays a call: few fetches come to it.
+    #[inline(never)]
+    #[tactic(auto, unfolding(crate::specs::Caches::fetched))]
+    fn fetch_by_search(&mut self, addr: u32) -> u32
+        ensures cycles { (p : AllCaches) (s : CachesState) → CachesStandFor self.old p s →
+            result ≡ (fetched p s addr).cycles }
+        ensures state { (p : AllCaches) (s : CachesState) → CachesStandFor self.old p s →
+            CachesStandFor self.new p (fetched p s addr).state }
+    {
         let touch = self.touch_icache(addr);
         self.follow(self.params.icache.miss, addr, touch)
     }
 
-    /// A load from RAM. The result is the cycles that it adds.
+    /// A load from RAM. The result is the cycles that it adds. It goes inline, as a fetch does.
+    #[inline(always)]
     #[tactic(auto, unfolding(crate::specs::Caches::loaded))]
     pub fn load(&mut self, addr: u32) -> u32
         ensures cycles { (p : AllCaches) (s : CachesState) → CachesStandFor self.old p s →
@@ -154,16 +173,34 @@ impl Caches {
             self.counts.count_dcache(Touch::Hit);
             return 0;
         }
+        if self.dcache.is_absent() {
+            return 0;
+        }
+        self.load_by_search(addr)
+    }
+
+    /// The same, with the search through a set.
+    #[inline(never)]
+    #[tactic(auto, unfolding(crate::specs::Caches::loaded))]
+    fn load_by_search(&mut self, addr: u32) -> u32
+        ensures cycles { (p : AllCaches) (s : CachesState) → CachesStandFor self.old p s →
+            result ≡ (loaded p s addr).cycles }
+        ensures state { (p : AllCaches) (s : CachesState) → CachesStandFor self.old p s →
+            CachesStandFor self.new p (loaded p s addr).state }
+    {
         let touch = self.touch_dcache(addr, false);
         self.follow(self.params.dcache.miss, addr, touch)
     }
 
-    /// A store to RAM, which adds no cycles.
+    /// A store to RAM, which adds no cycles. Without the data cache nothing is done.
     #[tactic(auto, unfolding(crate::specs::Caches::stored))]
     pub fn store(&mut self, addr: u32)
         ensures state { (p : AllCaches) (s : CachesState) → CachesStandFor self.old p s →
             CachesStandFor self.new p (stored p s addr) }
     {
+        if self.dcache.is_absent() {
+            return;
+        }
         let touch = self.touch_dcache(addr, true);
         self.follow(self.params.dcache.miss, addr, touch);
     }
