@@ -2,7 +2,7 @@
 use Rattle.std.proofs.Common.{◌≡◌, ℕ, ◌||◌, Bool, true, false, if◌then◌else◌, Option, Some, None, List, [], ◌∷◌, ◌++◌, reverse, ap, refl, sym, ◌∙◌}
 use Rattle.reservation_stations.specs.declared.row.Row.{Row}
 use Rattle.reservation_stations.specs.Readiness.{is_done, is_register}
-use Rattle.reservation_stations.specs.AreTables.{Each, stations_at, producer, unfinished, awaited}
+use Rattle.reservation_stations.specs.AreTables.{Each, stations_at, unfinished, awaited}
 use Rattle.reservation_stations.proofs.Indices.{reverse_behind}
 
 -- an index, unless it is one of these
@@ -10,17 +10,15 @@ abbrev pub dropped : (ℕ → Bool) → Option ℕ → Option ℕ
 dropped lost None = None
 dropped lost (Some index) = if lost index then None else Some index
 
-module _ (at at' : ℕ → Row) (lost gone : ℕ → Bool) where
-  -- the lost ones are done, and the gone ones leave; none of those that stay is gone
+module _ (at at' : ℕ → Row) (lost : ℕ → Bool) where
+  -- the lost ones are done
   pub record Changes (index : ℕ) : Type 0 where
     pub destination : (at' index).destination ≡ (at index).destination
     pub done : is_done (at' index).mark ≡ (is_done (at index).mark || lost index)
-    pub stays : gone index ≡ false
 
   -- what the older ones are behind the change
   pub record Carries (older older' : List ℕ) : Type 0 where
     pub unfinished : (register : ℕ) → unfinished (stations_at at' older') register ≡ dropped lost (unfinished (stations_at at older) register)
-    pub producer : (register : ℕ) → producer (stations_at at' older') register ≡ dropped gone (producer (stations_at at older) register)
 
   unfinished_cons : (index : ℕ) (is done lost_here : Bool) (mine theirs : Option ℕ) → lost index ≡ lost_here → theirs ≡ dropped lost mine →
       (if is then (if (done || lost_here) then None else Some index) else theirs) ≡
@@ -29,20 +27,12 @@ module _ (at at' : ℕ → Row) (lost gone : ℕ → Bool) where
   unfinished_cons index true false lost_here mine theirs is_lost carried = ap (λ b. if b then None else Some index) (sym is_lost)
   unfinished_cons index false done lost_here mine theirs is_lost carried = carried
 
-  producer_cons : (index : ℕ) (is : Bool) (mine theirs : Option ℕ) → gone index ≡ false → theirs ≡ dropped gone mine →
-      (if is then Some index else theirs) ≡ dropped gone (if is then Some index else mine)
-  producer_cons index true mine theirs stays carried = ap (λ b. if b then None else Some index) (sym stays)
-  producer_cons index false mine theirs stays carried = carried
-
   pub Carries-cons : (index : ℕ) (older older' : List ℕ) → Changes index → Carries older older' → Carries (index ∷ older) (index ∷ older')
   Carries-cons index older older' here carried = record {
     unfinished = λ register.
         ap (λ destination. if is_register register destination then (if is_done (at' index).mark then None else Some index) else unfinished (stations_at at' older') register) here.destination
         ∙ ap (λ done. if is_register register (at index).destination then (if done then None else Some index) else unfinished (stations_at at' older') register) here.done
         ∙ unfinished_cons index (is_register register (at index).destination) (is_done (at index).mark) (lost index) (unfinished (stations_at at older) register) (unfinished (stations_at at' older') register) refl (carried.unfinished register);
-    producer = λ register.
-        ap (λ destination. if is_register register destination then Some index else producer (stations_at at' older') register) here.destination
-        ∙ producer_cons index (is_register register (at index).destination) (producer (stations_at at older) register) (producer (stations_at at' older') register) here.stays (carried.producer register);
   }
 
   pub awaited_carried : (older older' : List ℕ) (source : Option ℕ) → Carries older older' →

@@ -5,16 +5,19 @@ use Rattle.std.specs.List.{AllByRecursion, IsDistinct, list_any}
 use Rattle.std.proofs.lemmas.Bool.{cases_eq, ne_eqb}
 use Rattle.std.proofs.lemmas.List.{length-set, map_push}
 use Rattle.std.proofs.lemmas.Map.Steps.{length-le_from_distinct_below}
+use Rattle.reservation_stations.specs.declared.station.Mark.{Mark}
+use Rattle.reservation_stations.specs.declared.station.Mark.TheVariants.{Waiting, Issued, Done, Faulted}
 use Rattle.reservation_stations.specs.declared.station.Station.{Station}
 use Rattle.reservation_stations.specs.declared.row.Row.{Row}
-use Rattle.reservation_stations.specs.Readiness.{Window, is_waiting, is_register, station_of, waiting_count}
-use Rattle.reservation_stations.specs.AreTables.{AreTables, Each, AreDistinct, row_at, stations_at, station_in, producer}
+use Rattle.reservation_stations.specs.Readiness.{Window, is_waiting, is_done, is_register, station_of, waiting_count}
+use Rattle.reservation_stations.specs.AreTables.{AreTables, Each, AreDistinct, row_at, stations_at, station_in, unfinished}
 use Rattle.reservation_stations.specs.Changes.{with_producer}
 use Rattle.reservation_stations.proofs.Indices.{Each-map, Each-push, AreDistinct-push, station_of-free}
 use Rattle.reservation_stations.proofs.Marking.{row_at-set, Stays, stations_at-same}
+use Rattle.reservation_stations.proofs.Producers.{get_or-with_producer, length-with_producer}
 use Rattle.reservation_stations.proofs.Kept.{seen}
 use Rattle.reservation_stations.proofs.Reading.{Each-reverse}
-use Rattle.reservation_stations.proofs.Leaving.{get_or-with_producer, length-with_producer, waiting_count-push, reverse-push}
+use Rattle.reservation_stations.proofs.Leaving.{waiting_count-push, reverse-push}
 
 -- indices below a number, no two of them equal, are at most that many
 apart : (index : ℕ) (indices : List ℕ) → Each (λ other. other ≢ index) indices → AllByRecursion (λ other. (index == other) ≡ false) indices
@@ -48,6 +51,13 @@ one_at_most false = omega arith
 pub waiting_few : (at : ℕ → Row) (indices : List ℕ) → waiting_count (stations_at at indices) ≤ length indices
 waiting_few at [] = omega arith
 waiting_few at (index ∷ indices) = omega (arith, one_at_most (is_waiting (at index).mark), waiting_few at indices)
+
+-- one that waits isn't done
+not_done : (mark : Mark) → is_waiting mark ≡ true → is_done mark ≡ false
+not_done Waiting waits = refl
+not_done Issued waits = refl
+not_done Done waits = absurd cc
+not_done Faulted waits = refl
 
 module _ (capacity : ℕ) (indices : List ℕ) (old : List Row) (producers : List (Option ℕ)) (waiting : ℕ) (keeps : AreTables capacity indices old producers waiting) (index : ℕ) (within : index < capacity) (fresh : Each (λ other. other ≢ index) indices) (row : Row) where
   inside : index < length old
@@ -95,9 +105,10 @@ module _ (capacity : ℕ) (indices : List ℕ) (old : List Row) (producers : Lis
         every_register = length-with_producer row.destination (Some index) producers ∙ keeps.every_register;
         each_producer = λ register below.
             get_or-with_producer row.destination (Some index) producers register (omega (arith, keeps.every_register))
-            ∙ ap (λ o. if is_register register row.destination then Some index else o) (keeps.each_producer register below ∙ ap (λ xs. producer xs register) (sym older_stay))
-            ∙ ap (λ (e : Row). if is_register register e.destination then Some index else producer (stations_at at' (reverse indices)) register) (sym mine)
-            ∙ ap (λ xs. producer (stations_at at' xs) register) (sym (reverse-push indices index));
+            ∙ ap (λ o. if is_register register row.destination then Some index else o) (keeps.each_producer register below ∙ ap (λ xs. unfinished xs register) (sym older_stay))
+            ∙ ap (λ b. if is_register register row.destination then (if b then None else Some index) else unfinished (stations_at at' (reverse indices)) register) (sym (not_done row.mark waits))
+            ∙ ap (λ (e : Row). if is_register register e.destination then (if is_done e.mark then None else Some index) else unfinished (stations_at at' (reverse indices)) register) (sym mine)
+            ∙ ap (λ xs. unfinished (stations_at at' xs) register) (sym (reverse-push indices index));
         count = omega (arith, counted, same, one_more);
       }
 

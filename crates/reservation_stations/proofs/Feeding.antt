@@ -8,14 +8,15 @@ use Rattle.reservation_stations.specs.declared.station.Mark.{Mark}
 use Rattle.reservation_stations.specs.declared.station.Station.{Station}
 use Rattle.reservation_stations.specs.declared.row.Row.{Row}
 use Rattle.reservation_stations.specs.Readiness.{is_done}
-use Rattle.reservation_stations.specs.AreTables.{AreTables, Each, row_at, stations_at, station_in, producer_of, unless_done, awaited}
-use Rattle.reservation_stations.specs.Places.{is_index, place_of, place_in}
+use Rattle.reservation_stations.specs.AreTables.{AreTables, Each, row_at, stations_at, station_in, awaited}
+use Rattle.reservation_stations.specs.Places.{place_of, place_in}
 use Rattle.reservation_stations.specs.AreSets.{Missing, nothing, missing, missing_at, awaits, fed, put}
 use Rattle.reservation_stations.proofs.Indices.{reverse-cons, Each-take}
 use Rattle.reservation_stations.proofs.Carried.{dropped, Changes, Carries, Carries-behind, awaited_carried}
 use Rattle.reservation_stations.proofs.Marking.{Marks}
+use Rattle.reservation_stations.proofs.Producers.{not_awaited}
 use Rattle.reservation_stations.proofs.Kept.{none, dropped_none, one, dropped_one, Carries-none}
-use Rattle.reservation_stations.proofs.Reading.{older_than-at, awaited-producer}
+use Rattle.reservation_stations.proofs.Reading.{older_than-at}
 use Rattle.reservation_stations.proofs.Leaving.{each_behind, Carries-oldest}
 use Rattle.reservation_stations.proofs.Missing.{put_here, put_elsewhere}
 use Rattle.reservation_stations.proofs.Standing.{same_turn, first_turn, last_turn, own_turn, past}
@@ -37,26 +38,26 @@ losing_none missed = λ i. record { first = dropped_none missed.first i; second 
 pub losing_one : (index : ℕ) (missed : Missing) → losing (one index) missed ≡ fed index missed
 losing_one index missed = λ i. record { first = dropped_one index missed.first i; second = dropped_one index missed.second i }
 
-module _ (at at' : ℕ → Row) (lost gone : ℕ → Bool) (first : (s : ℕ) → (at' s).first ≡ (at s).first) (second : (s : ℕ) → (at' s).second ≡ (at s).second) where
-  missing_carried : (older older' : List ℕ) (o : Option ℕ) → Carries at at' lost gone older older' →
+module _ (at at' : ℕ → Row) (lost : ℕ → Bool) (first : (s : ℕ) → (at' s).first ≡ (at s).first) (second : (s : ℕ) → (at' s).second ≡ (at s).second) where
+  missing_carried : (older older' : List ℕ) (o : Option ℕ) → Carries at at' lost older older' →
       missing (stations_at at' older') (station_if at' o) ≡ losing lost (missing (stations_at at older) (station_if at o))
   missing_carried older older' None carried = refl
   missing_carried older older' (Some s) carried =
       λ i. record {
-        first = (ap (awaited (stations_at at' older')) (first s) ∙ awaited_carried at at' lost gone older older' (at s).first carried) i;
-        second = (ap (awaited (stations_at at' older')) (second s) ∙ awaited_carried at at' lost gone older older' (at s).second carried) i;
+        first = (ap (awaited (stations_at at' older')) (first s) ∙ awaited_carried at at' lost older older' (at s).first carried) i;
+        second = (ap (awaited (stations_at at' older')) (second s) ∙ awaited_carried at at' lost older older' (at s).second carried) i;
       }
 
 -- one gets another mark
 module _ (at at' : ℕ → Row) (index : ℕ) (next : Mark) (marks : (other : ℕ) → Marks at at' index next other) (indices : List ℕ) where
-  pub missing_marked : (lost : ℕ → Bool) → Each (Changes at at' lost none) indices → (p : ℕ) →
+  pub missing_marked : (lost : ℕ → Bool) → Each (Changes at at' lost) indices → (p : ℕ) →
       missing_at (stations_at at' indices) p ≡ losing lost (missing_at (stations_at at indices) p)
   missing_marked lost each p =
-      let behind : Carries at at' lost none (reverse (take p indices)) (reverse (take p indices)) =
-      subst (λ xs. Carries at at' lost none xs xs) (append-nil (reverse (take p indices)))
-      (Carries-behind at at' lost none (take p indices) [] [] (Each-take (Changes at at' lost none) indices p each) (Carries-none at at' lost none)) in
+      let behind : Carries at at' lost (reverse (take p indices)) (reverse (take p indices)) =
+      subst (λ xs. Carries at at' lost xs xs) (append-nil (reverse (take p indices)))
+      (Carries-behind at at' lost (take p indices) [] [] (Each-take (Changes at at' lost) indices p each) (Carries-none at at' lost)) in
       at_there at' indices p
-      ∙ missing_carried at at' lost none (λ s. (marks s).first) (λ s. (marks s).second) (reverse (take p indices)) (reverse (take p indices)) (slice_get indices p) behind
+      ∙ missing_carried at at' lost (λ s. (marks s).first) (λ s. (marks s).second) (reverse (take p indices)) (reverse (take p indices)) (slice_get indices p) behind
       ∙ ap (losing lost) (sym (at_there at indices p))
 
   module _ (of : Option Station → Bool) (by : Mark → Bool) (is_by : (station : Station) → of (Some station) ≡ by station.mark) where
@@ -96,25 +97,11 @@ first_misses None = refl
 first_misses (Some register) = refl
 
 -- none awaits one that is done
-still_other : (index other : ℕ) (rows : List Row) (b : Bool) → is_done (row_at rows other).mark ≡ b → is_done (row_at rows index).mark ≡ true →
-    is_index index (if b then None else Some other) ≡ false
-still_other index other rows true is done = refl
-still_other index other rows false is done = ne_eqb index other (λ same. let e : true ≡ false = sym done ∙ ap (λ s. is_done (row_at rows s).mark) same ∙ is in cc)
-
-still_not : (index : ℕ) (rows : List Row) (o : Option ℕ) → is_done (row_at rows index).mark ≡ true → is_index index (unless_done rows o) ≡ false
-still_not index rows None done = refl
-still_not index rows (Some other) done = still_other index other rows (is_done (row_at rows other).mark) refl done
-
-not_awaited : (index : ℕ) (rows : List Row) (older : List ℕ) (source : Option ℕ) → is_done (row_at rows index).mark ≡ true →
-    is_index index (awaited (stations_at (row_at rows) older) source) ≡ false
-not_awaited index rows older source done =
-    ap (is_index index) (awaited-producer rows older source) ∙ still_not index rows (producer_of (stations_at (row_at rows) older) source) done
-
 not_missed : (index : ℕ) (rows : List Row) (older : List ℕ) (o : Option ℕ) → is_done (row_at rows index).mark ≡ true →
     awaits index (missing (stations_at (row_at rows) older) (station_if (row_at rows) o)) ≡ false
 not_missed index rows older None done = refl
 not_missed index rows older (Some s) done =
-    λ i. not_awaited index rows older (row_at rows s).first done i || not_awaited index rows older (row_at rows s).second done i
+    λ i. not_awaited index (row_at rows) older (row_at rows s).first done i || not_awaited index (row_at rows) older (row_at rows s).second done i
 
 pub none_awaits : (index : ℕ) (rows : List Row) (indices : List ℕ) → is_done (row_at rows index).mark ≡ true → (p : ℕ) →
     awaits index (missing_at (stations_at (row_at rows) indices) p) ≡ false
@@ -126,12 +113,12 @@ module _ {capacity : ℕ} (index : ℕ) (rest : List ℕ) (rows : List Row) {pro
   behind_at p =
       let at = row_at rows in
       let lost = one index in
-      let behind : Carries at at lost lost (reverse (take p rest) ++ index ∷ []) (reverse (take p rest)) =
-      subst (Carries at at lost lost (reverse (take p rest) ++ index ∷ [])) (append-nil (reverse (take p rest)))
-      (Carries-behind at at lost lost (take p rest) (index ∷ []) [] (Each-take (Changes at at lost lost) rest p (each_behind capacity index rest rows producers waiting waiting keeps)) (Carries-oldest capacity index rest rows producers waiting waiting keeps)) in
+      let behind : Carries at at lost (reverse (take p rest) ++ index ∷ []) (reverse (take p rest)) =
+      subst (Carries at at lost (reverse (take p rest) ++ index ∷ [])) (append-nil (reverse (take p rest)))
+      (Carries-behind at at lost (take p rest) (index ∷ []) [] (Each-take (Changes at at lost) rest p (each_behind capacity index rest rows producers waiting waiting keeps)) (Carries-oldest capacity index rest rows producers waiting waiting keeps)) in
       ap (fed index) (at_there at (index ∷ rest) (suc p) ∙ ap (λ xs. missing (stations_at at xs) (station_if at (slice_get rest p))) (reverse-cons index (take p rest)))
       ∙ sym (losing_one index (missing (stations_at at (reverse (take p rest) ++ index ∷ [])) (station_if at (slice_get rest p))))
-      ∙ sym (missing_carried at at lost lost (λ s. refl) (λ s. refl) (reverse (take p rest) ++ index ∷ []) (reverse (take p rest)) (slice_get rest p) behind)
+      ∙ sym (missing_carried at at lost (λ s. refl) (λ s. refl) (reverse (take p rest) ++ index ∷ []) (reverse (take p rest)) (slice_get rest p) behind)
       ∙ sym (at_there at rest p)
 
   pub missing_retired : (retired : ℕ) → retired < 256 → length rest < 256 → (t : ℕ) → t < 256 →

@@ -4,13 +4,14 @@ use Rattle.std.specs.Int.{from_bool}
 use Rattle.reservation_stations.proofs.Entering.{waiting_few}
 use Rattle.std.proofs.lemmas.List.{take-map}
 use Rattle.reservation_stations.specs.declared.row.Row.{Row}
-use Rattle.reservation_stations.specs.Readiness.{Window, is_waiting, is_register, waiting_count}
-use Rattle.reservation_stations.specs.AreTables.{AreTables, AreProducers, Each, row_at, stations_at, station_in, producer}
+use Rattle.reservation_stations.specs.Readiness.{Window, is_waiting, is_done, is_register, waiting_count}
+use Rattle.reservation_stations.specs.AreTables.{AreTables, AreProducers, Each, row_at, stations_at, station_in, unfinished}
 use Rattle.reservation_stations.specs.Changes.{with_producer}
 use Rattle.reservation_stations.specs.Turns.{indices_from}
 use Rattle.reservation_stations.proofs.Indices.{Each-take, AreDistinct-take}
+use Rattle.reservation_stations.proofs.Producers.{get_or-with_producer}
 use Rattle.reservation_stations.proofs.Kept.{seen}
-use Rattle.reservation_stations.proofs.Leaving.{get_or-with_producer, waiting_count-push, reverse-push}
+use Rattle.reservation_stations.proofs.Leaving.{waiting_count-push, reverse-push}
 use Rattle.reservation_stations.proofs.Turns.{indices_more, length-indices}
 
 -- one more of those that stay
@@ -21,14 +22,14 @@ module _ (at_turn : List ℕ) (turn place : ℕ) (rows : List Row) (index : ℕ)
       ap (indices_from at_turn turn) e ∙ indices_more at_turn turn place ∙ ap (λ s. indices_from at_turn turn place ++ s ∷ []) (sym read)
 
   pub producers_more : (producers table : List (Option ℕ)) → length producers ≡ 256 → AreProducers producers (stations_at (row_at rows) (reverse (indices_from at_turn turn place))) →
-      table ≡ with_producer row.destination (Some index) producers → AreProducers table (stations_at (row_at rows) (reverse (indices_from at_turn turn (place + 1))))
+      table ≡ with_producer row.destination (if is_done row.mark then None else Some index) producers → AreProducers table (stations_at (row_at rows) (reverse (indices_from at_turn turn (place + 1))))
   producers_more producers table every were set register within =
       let older = stations_at (row_at rows) (reverse (indices_from at_turn turn place)) in
       ap (λ xs. get_or xs register None) set
-      ∙ get_or-with_producer row.destination (Some index) producers register (omega (arith, every, within))
-      ∙ ap (λ o. if is_register register row.destination then Some index else o) (were register within)
-      ∙ ap (λ (e : Row). if is_register register e.destination then Some index else producer older register) is
-      ∙ ap (λ xs. producer (stations_at (row_at rows) xs) register) (sym (ap reverse one_more ∙ reverse-push (indices_from at_turn turn place) index))
+      ∙ get_or-with_producer row.destination (if is_done row.mark then None else Some index) producers register (omega (arith, every, within))
+      ∙ ap (λ o. if is_register register row.destination then (if is_done row.mark then None else Some index) else o) (were register within)
+      ∙ ap (λ (e : Row). if is_register register e.destination then (if is_done e.mark then None else Some index) else unfinished older register) is
+      ∙ ap (λ xs. unfinished (stations_at (row_at rows) xs) register) (sym (ap reverse one_more ∙ reverse-push (indices_from at_turn turn place) index))
 
   pub waiting_more : (waiting : ℕ) → waiting ≡ waiting_count (stations_at (row_at rows) (indices_from at_turn turn place)) →
       waiting + (if is_waiting row.mark then 1 else 0) ≡ waiting_count (stations_at (row_at rows) (indices_from at_turn turn (place + 1)))

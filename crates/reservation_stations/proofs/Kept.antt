@@ -6,11 +6,12 @@ use Rattle.std.proofs.lemmas.List.{length-set, append-nil, get_or_read}
 use Rattle.reservation_stations.specs.declared.station.Mark.{Mark}
 use Rattle.reservation_stations.specs.declared.row.Row.{Row}
 use Rattle.reservation_stations.specs.Readiness.{Window, is_waiting, is_done, station_of, mark_of, marked, waiting_count}
-use Rattle.reservation_stations.specs.AreTables.{AreTables, Each, row_at, free_row, stations_at, producer}
-use Rattle.reservation_stations.specs.Changes.{without}
+use Rattle.reservation_stations.specs.AreTables.{AreTables, Each, row_at, free_row, stations_at}
+use Rattle.reservation_stations.specs.Changes.{without, with_producer, producer_at}
 use Rattle.reservation_stations.proofs.Indices.{Each-map}
 use Rattle.reservation_stations.proofs.Carried.{dropped, Changes, Carries, Carries-behind}
 use Rattle.reservation_stations.proofs.Marking.{row_at-set, with_mark_of, mark_of-held, Marks, stations_at-marked, waiting_count-same, waiting_count-one_less}
+use Rattle.reservation_stations.proofs.Producers.{length-with_producer, get_or-dropped}
 
 abbrev pub none : ℕ → Bool
 none index = false
@@ -31,27 +32,27 @@ or_false true = refl
 or_false false = refl
 
 -- nothing stands before the oldest
-module _ (at at' : ℕ → Row) (lost gone : ℕ → Bool) where
-  pub Carries-none : Carries at at' lost gone [] []
-  Carries-none = record { unfinished = λ register. refl; producer = λ register. refl }
+module _ (at at' : ℕ → Row) (lost : ℕ → Bool) where
+  pub Carries-none : Carries at at' lost [] []
+  Carries-none = record { unfinished = λ register. refl }
 
--- where the list of indices stays, and no station leaves
-module _ (capacity : ℕ) (indices : List ℕ) (old new : List Row) (producers : List (Option ℕ)) (waiting waiting' : ℕ) (lost : ℕ → Bool) where
-  pub AreTables-changed : AreTables capacity indices old producers waiting → length new ≡ length old → Each (Changes (row_at old) (row_at new) lost none) indices →
-      waiting' ≡ waiting_count (stations_at (row_at new) indices) → AreTables capacity indices new producers waiting'
-  AreTables-changed keeps same each count =
+-- where the list of indices stays: the lost ones are producers no more
+module _ (capacity : ℕ) (indices : List ℕ) (old new : List Row) (producers table : List (Option ℕ)) (waiting waiting' : ℕ) (lost : ℕ → Bool) where
+  AreTables-changed : AreTables capacity indices old producers waiting → length new ≡ length old → Each (Changes (row_at old) (row_at new) lost) indices →
+      length table ≡ length producers → ((register : ℕ) → register < 256 → get_or table register None ≡ dropped lost (get_or producers register None)) →
+      waiting' ≡ waiting_count (stations_at (row_at new) indices) → AreTables capacity indices new table waiting'
+  AreTables-changed keeps same each long are count =
       let at = row_at old in
       let at' = row_at new in
-      let behind : Carries at at' lost none (reverse indices) (reverse indices) =
-      subst (λ xs. Carries at at' lost none xs xs) (append-nil (reverse indices)) (Carries-behind at at' lost none indices [] [] each (Carries-none at at' lost none)) in
+      let behind : Carries at at' lost (reverse indices) (reverse indices) =
+      subst (λ xs. Carries at at' lost xs xs) (append-nil (reverse indices)) (Carries-behind at at' lost indices [] [] each (Carries-none at at' lost)) in
       record {
         limit = keeps.limit;
         within = keeps.within;
         distinct = keeps.distinct;
         every_index = same ∙ keeps.every_index;
-        every_register = keeps.every_register;
-        each_producer = λ register within.
-            keeps.each_producer register within ∙ sym (behind.producer register ∙ dropped_none (producer (stations_at at (reverse indices)) register));
+        every_register = long ∙ keeps.every_register;
+        each_producer = λ register within. are register within ∙ ap (dropped lost) (keeps.each_producer register within) ∙ sym (behind.unfinished register);
         count = count;
       }
 
@@ -98,11 +99,10 @@ module _ (rows : List Row) (index : ℕ) (mark : Mark) (row : Row) (within : ind
   ]
 
   pub Changes-written : (lost : ℕ → Bool) → ((other : ℕ) → other ≢ index → lost other ≡ false) → is_done mark ≡ (is_done (row_at rows index).mark || lost index) →
-      (other : ℕ) → Changes (row_at rows) (row_at written) lost none other
+      (other : ℕ) → Changes (row_at rows) (row_at written) lost other
   Changes-written lost others here other = record {
     destination = (Marks-written other).destination;
     done = lost_by lost others here other;
-    stays = refl;
   }
 
 -- what contracts see of the tables
@@ -137,16 +137,22 @@ module _ {capacity : ℕ} {indices : List ℕ} {rows : List Row} {producers : Li
 
     -- those that are done now and weren't are lost to those that await their values
     pub each_changed : (lost : ℕ → Bool) → ((other : ℕ) → other ≢ index → lost other ≡ false) → is_done next ≡ (is_done mark || lost index) →
-        Each (Changes (row_at rows) (row_at new_rows) lost none) indices
+        Each (Changes (row_at rows) (row_at new_rows) lost) indices
     each_changed lost others alike =
         let here = held_with index mark before in
-        Each-map (λ s. s < capacity) (Changes (row_at rows) (row_at new_rows) lost none)
+        Each-map (λ s. s < capacity) (Changes (row_at rows) (row_at new_rows) lost)
         (λ other h. Changes-written rows index next row here.0 is lost others (alike ∙ ap (λ m. is_done m || lost index) (sym here.1)) other) indices keeps.within
 
-    keeps_written : (lost : ℕ → Bool) → ((other : ℕ) → other ≢ index → lost other ≡ false) → is_done next ≡ (is_done mark || lost index) →
-        (waiting' : ℕ) → waiting' ≡ waiting_count (stations_at (row_at new_rows) indices) → AreTables capacity indices new_rows producers waiting'
-    keeps_written lost others alike waiting' count =
-        AreTables-changed capacity indices rows new_rows producers waiting waiting' lost keeps (length-set rows index (record row { mark = next })) (each_changed lost others alike) count
+    keeps_written : (table : List (Option ℕ)) (lost : ℕ → Bool) → ((other : ℕ) → other ≢ index → lost other ≡ false) → is_done next ≡ (is_done mark || lost index) →
+        length table ≡ length producers → ((register : ℕ) → register < 256 → get_or table register None ≡ dropped lost (get_or producers register None)) →
+        (waiting' : ℕ) → waiting' ≡ waiting_count (stations_at (row_at new_rows) indices) → AreTables capacity indices new_rows table waiting'
+    keeps_written table lost others alike long are waiting' count =
+        AreTables-changed capacity indices rows new_rows producers table waiting waiting' lost keeps (length-set rows index (record row { mark = next })) (each_changed lost others alike) long are count
+
+    -- where none is lost, the producers stay
+    keeps_producers : is_done next ≡ is_done mark → (waiting' : ℕ) → waiting' ≡ waiting_count (stations_at (row_at new_rows) indices) → AreTables capacity indices new_rows producers waiting'
+    keeps_producers done waiting' count =
+        keeps_written producers none (λ other differ. refl) (done ∙ or_false (is_done mark)) refl (λ register within. sym (dropped_none (get_or producers register None))) waiting' count
 
     alike_by : (other : ℕ) → is_waiting next ≡ is_waiting mark → is_waiting (row_at new_rows other).mark ≡ is_waiting (row_at rows other).mark
     alike_by other alike =
@@ -164,9 +170,20 @@ module _ {capacity : ℕ} {indices : List ℕ} {rows : List Row} {producers : Li
         keeps.count ∙ sym (waiting_count-same (row_at rows) (row_at new_rows) indices
         (Each-map (λ s. s < capacity) (λ other. is_waiting (row_at new_rows other).mark ≡ is_waiting (row_at rows other).mark) (λ other h. alike_by other alike) indices keeps.within))
 
-    pub AreTables-marked : (lost : ℕ → Bool) → ((other : ℕ) → other ≢ index → lost other ≡ false) → is_done next ≡ (is_done mark || lost index) →
-        is_waiting next ≡ is_waiting mark → AreTables capacity indices new_rows producers waiting
-    AreTables-marked lost others done alike = keeps_written lost others done waiting (waits_alike alike)
+    pub AreTables-marked : is_done next ≡ is_done mark → is_waiting next ≡ is_waiting mark → AreTables capacity indices new_rows producers waiting
+    AreTables-marked done alike = keeps_producers done waiting (waits_alike alike)
+
+    -- one that is done now is no producer
+    pub AreTables-told : (table : List (Option ℕ)) →
+        table ≡ with_producer (row_at rows index).destination (without index (producer_at producers (row_at rows index).destination)) producers →
+        is_done next ≡ (is_done mark || one index index) → is_waiting next ≡ is_waiting mark → AreTables capacity indices new_rows table waiting
+    AreTables-told table set done alike =
+        let mine = (row_at rows index).destination in
+        let dropped_of = get_or-dropped (row_at rows) (reverse indices) producers keeps.every_register keeps.each_producer index in
+        keeps_written table (one index) (λ other differ. ne_eqb other index differ) done
+        (ap length set ∙ length-with_producer mine (without index (producer_at producers mine)) producers)
+        (λ register within. ap (λ xs. get_or xs register None) set ∙ dropped_of register within ∙ sym (dropped_one index (get_or producers register None)))
+        waiting (waits_alike alike)
 
     -- one fewer waits
     one_fewer : is_waiting next ≡ false → is_waiting mark ≡ true → waiting_count (stations_at (row_at new_rows) indices) + 1 ≡ waiting
@@ -180,5 +197,4 @@ module _ {capacity : ℕ} {indices : List ℕ} {rows : List Row} {producers : Li
     some_wait not_now then_so = omega (arith, one_fewer not_now then_so)
 
     pub AreTables-fewer : is_done next ≡ is_done mark → is_waiting next ≡ false → is_waiting mark ≡ true → AreTables capacity indices new_rows producers (waiting - 1)
-    AreTables-fewer done not_now then_so =
-        keeps_written none (λ other differ. refl) (done ∙ or_false (is_done mark)) (waiting - 1) (omega (arith, one_fewer not_now then_so))
+    AreTables-fewer done not_now then_so = keeps_producers done (waiting - 1) (omega (arith, one_fewer not_now then_so))

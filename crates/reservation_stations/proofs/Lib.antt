@@ -6,6 +6,7 @@ pub mod Turns
 pub mod Indices
 pub mod Carried
 pub mod Marking
+pub mod Producers
 pub mod Kept
 pub mod Reading
 pub mod Leaving

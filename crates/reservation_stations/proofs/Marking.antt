@@ -10,7 +10,7 @@ use Rattle.reservation_stations.specs.Readiness.{is_waiting, station_of, mark_of
 use Rattle.reservation_stations.specs.AreTables.{Each, AreDistinct, row_at, free_row, stations_at, station_in}
 use Rattle.reservation_stations.proofs.Indices.{station_of-held}
 
-abbrev one_if : Bool → ℕ
+abbrev pub one_if : Bool → ℕ
 one_if b = if b then 1 else 0
 
 -- what one row written leaves at each index

@@ -64,7 +64,7 @@ awaits-fed_same index missed = λ i. is_index-without_same index missed.first i 
 pub awaits-fed_other : (index k : ℕ) (missed : Missing) → k ≢ index → awaits k (fed index missed) ≡ awaits k missed
 awaits-fed_other index k missed differ = λ i. is_index-without_other index k missed.first differ i || is_index-without_other index k missed.second differ i
 
-without-same : (index : ℕ) (a : Option ℕ) → is_index index a ≡ false → without index a ≡ a
+pub without-same : (index : ℕ) (a : Option ℕ) → is_index index a ≡ false → without index a ≡ a
 without-same index None none = refl
 without-same index (Some a) none = rw (ne_eqb a index (λ same. both_ways (index == a) none (eq-eqb index a (sym same)))) refl
 

@@ -4,7 +4,6 @@ use Rattle.std.specs.Prelude.{slice_get, slice_set, option_map, nat_lt}
 use Rattle.std.proofs.lemmas.Option.{slice_get_past, slice_get-map}
 use Rattle.std.proofs.lemmas.List.{length-set, length-map}
 use Rattle.reservation_stations.specs.declared.station.Mark.{Mark}
-use Rattle.reservation_stations.specs.declared.station.Mark.TheVariants.{Waiting, Issued, Done, Faulted}
 use Rattle.reservation_stations.specs.declared.station.Station.{Station}
 use Rattle.reservation_stations.specs.declared.row.Row.{Row}
 use Rattle.reservation_stations.specs.declared.sets.Sets.{Sets}
@@ -16,6 +15,7 @@ use Rattle.reservation_stations.specs.Places.{place_of, AreTurned}
 use Rattle.reservation_stations.specs.AreSets.{AreSets, AreSetsOf, Missing, nothing, missing, missing_at, waits, waits_at, fed, put}
 use Rattle.reservation_stations.proofs.Marking.{Marks}
 use Rattle.reservation_stations.proofs.Kept.{seen, held_with, each_changed, is, Marks-written}
+use Rattle.reservation_stations.proofs.Leaving.{waits_not, executes_not}
 use Rattle.reservation_stations.proofs.Places.{marked_in}
 use Rattle.reservation_stations.proofs.Missing.{put_same, fed-same}
 use Rattle.reservation_stations.proofs.Standing.{AreSets-as, entered_at, nothing_yet, kept_at, retired_at, own_turn}
@@ -107,19 +107,6 @@ AreSets-kept stations retired kept live those are =
     ∙ sym (kept_at (λ older o. executes o) false (λ older. refl) stations kept (place_of retired t)))
     (λ t within. ap (λ b. if b then missing_at stations (place_of retired t) else nothing) (those t within)
     ∙ sym (kept_at missing nothing (λ older. refl) stations kept (place_of retired t)))
-
--- one that is done neither waits nor executes
-pub waits_not : (mark : Mark) → is_done mark ≡ true → is_waiting mark ≡ false
-waits_not Waiting done = absurd cc
-waits_not Issued done = refl
-waits_not Done done = refl
-waits_not Faulted done = refl
-
-executes_not : (mark : Mark) → is_done mark ≡ true → is_issued mark ≡ false
-executes_not Waiting done = refl
-executes_not Issued done = absurd cc
-executes_not Done done = refl
-executes_not Faulted done = refl
 
 -- the oldest leaves
 module _ {capacity : ℕ} (index : ℕ) (rest : List ℕ) (rows : List Row) {producers : List (Option ℕ)} {waiting : ℕ} (keeps : AreTables capacity (index ∷ rest) rows producers waiting) (retired : ℕ) (small : retired < 256) (few : length rest < 256) where

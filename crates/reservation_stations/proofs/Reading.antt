@@ -1,52 +1,15 @@
--- What is read of the tables: producers, and what is awaited of them.
-use Rattle.std.proofs.Common.{◌≡◌, ◌≢◌, ℕ, zero, suc, ◌<◌, ◌||◌, ◌&&◌, Bool, true, false, if◌then◌else◌, Option, Some, None, IfSome, is_none, is_some, not, List, [], ◌∷◌, length, take, get_or, reverse, refl, ap, sym, ◌∙◌, arith, subst}
+-- What is read of the tables: what is awaited, and the indices.
+use Rattle.std.proofs.Common.{◌≡◌, ◌≢◌, ℕ, zero, suc, ◌<◌, ◌||◌, ◌&&◌, Bool, true, false, if◌then◌else◌, Option, Some, None, is_none, is_some, not, List, [], ◌∷◌, length, take, get_or, reverse, refl, ap, sym, ◌∙◌, arith, subst}
 use Rattle.std.specs.Prelude.{All, AllPairs}
+use Rattle.std.specs.Option.{ForSome}
 use Rattle.std.proofs.lemmas.List.{take-map, length-map}
-use Rattle.std.proofs.lemmas.Option.{same_Some}
 use Rattle.reservation_stations.specs.declared.station.Station.{Station}
 use Rattle.reservation_stations.specs.declared.row.Row.{Row}
 use Rattle.reservation_stations.specs.Readiness.{Window, is_done, is_register, has_written_value, has_operand, has_operands, older_than}
-use Rattle.reservation_stations.specs.AreTables.{AreTables, Each, AreDistinct, row_at, stations_at, station_in, producer, producer_of, unfinished, awaited, unless_done, AreHeld}
-use Rattle.reservation_stations.proofs.Indices.{Each-map, Each-push, reverse-cons, reverse-map}
+use Rattle.reservation_stations.specs.AreTables.{AreTables, Each, AreDistinct, row_at, stations_at, station_in, unfinished, awaited}
+use Rattle.reservation_stations.proofs.Indices.{Each-push, reverse-cons, reverse-map}
+use Rattle.reservation_stations.proofs.Producers.{awaited-held}
 use Rattle.reservation_stations.proofs.Kept.{seen}
-
--- what holds of each index holds of a producer
-either_index : (P : ℕ → Type 0) (index : ℕ) (b : Bool) (o : Option ℕ) → P index → IfSome o P → IfSome (if b then Some index else o) P
-either_index P index true o here rest = here
-either_index P index false o here rest = rest
-
-pub producer-held : (at : ℕ → Row) (P : ℕ → Type 0) (indices : List ℕ) (register : ℕ) → Each P indices → IfSome (producer (stations_at at indices) register) P
-producer-held at P [] register each = tt
-producer-held at P (index ∷ indices) register each =
-    either_index P index (is_register register (at index).destination) (producer (stations_at at indices) register) each.0 (producer-held at P indices register each.1)
-
--- a producer writes its register
-writes_by : (at : ℕ → Row) (register index other : ℕ) (b : Bool) (rest : Option ℕ) → is_register register (at other).destination ≡ b →
-    (if b then Some other else rest) ≡ Some index → (rest ≡ Some index → is_register register (at index).destination ≡ true) →
-    is_register register (at index).destination ≡ true
-writes_by at register index other true rest writes found behind = subst (λ s. is_register register (at s).destination ≡ true) (same_Some other index found) writes
-writes_by at register index other false rest writes found behind = behind found
-
-pub producer-writes : (at : ℕ → Row) (indices : List ℕ) (register index : ℕ) → producer (stations_at at indices) register ≡ Some index →
-    is_register register (at index).destination ≡ true
-producer-writes at [] register index is = absurd cc
-producer-writes at (other ∷ indices) register index is =
-    writes_by at register index other (is_register register (at other).destination) (producer (stations_at at indices) register) refl is (producer-writes at indices register index)
-
--- it is awaited where it isn't done
-still_by : (rows : List Row) (index : ℕ) (b : Bool) (mine theirs : Option ℕ) → theirs ≡ unless_done rows mine →
-    (if b then (if is_done (row_at rows index).mark then None else Some index) else theirs) ≡ unless_done rows (if b then Some index else mine)
-still_by rows index true mine theirs is = refl
-still_by rows index false mine theirs is = is
-
-pub unfinished-producer : (rows : List Row) (indices : List ℕ) (register : ℕ) → unfinished (stations_at (row_at rows) indices) register ≡ unless_done rows (producer (stations_at (row_at rows) indices) register)
-unfinished-producer rows [] register = refl
-unfinished-producer rows (index ∷ indices) register =
-    still_by rows index (is_register register (row_at rows index).destination) (producer (stations_at (row_at rows) indices) register) (unfinished (stations_at (row_at rows) indices) register) (unfinished-producer rows indices register)
-
-pub awaited-producer : (rows : List Row) (indices : List ℕ) (source : Option ℕ) → awaited (stations_at (row_at rows) indices) source ≡ unless_done rows (producer_of (stations_at (row_at rows) indices) source)
-awaited-producer rows indices None = refl
-awaited-producer rows indices (Some register) = unfinished-producer rows indices register
 
 -- a register has a value exactly where nothing is awaited for it
 value_by : (b done : Bool) (index : ℕ) (value : Bool) (awaited_one : Option ℕ) → value ≡ is_none awaited_one →
@@ -110,16 +73,12 @@ module _ {capacity : ℕ} {indices : List ℕ} {rows : List Row} {producers : Li
   pub length_seen : length w.stations ≡ length indices
   length_seen = ap (λ (v : Window). length v.stations) (sym is_seen) ∙ length-map indices (λ s. station_in s (row_at rows s))
 
-  -- what is awaited of a producer
-  pub awaited_seen : (source : Option ℕ) → unless_done rows (producer_of (stations_at (row_at rows) (reverse indices)) source) ≡ awaited (reverse w.stations) source
-  awaited_seen source = sym (awaited-producer rows (reverse indices) source) ∙ ap (λ xs. awaited xs source) (sym reverse_seen)
+  -- what is awaited of the stations that stand there
+  pub awaited_seen : (source : Option ℕ) → awaited (stations_at (row_at rows) (reverse indices)) source ≡ awaited (reverse w.stations) source
+  awaited_seen source = ap (λ xs. awaited xs source) (sym reverse_seen)
 
-  pub all_held : AreHeld producers (length rows)
-  all_held register within =
-      let P : ℕ → Type 0 = λ index. index < length rows in
-      subst (λ o. IfSome o P) (sym (keeps.each_producer register within))
-      (producer-held (row_at rows) P (reverse indices) register
-      (Each-reverse P indices (Each-map (λ s. s < capacity) P (λ s below. omega (arith, below, keeps.every_index)) indices keeps.within)))
+  pub all_awaited : (source : Option ℕ) → ForSome (awaited (stations_at (row_at rows) (reverse indices)) source) (λ index. index < capacity)
+  all_awaited source = awaited-held (row_at rows) (λ index. index < capacity) (reverse indices) source (Each-reverse (λ index. index < capacity) indices keeps.within)
 
   -- indices in the list
   pub all_within : All (λ station. station.index < w.capacity) w.stations

@@ -1,6 +1,6 @@
 -- What the tables of the stations stand for: the indices from the oldest to the youngest, a row for each index, and for
--- each register the index of its producer.
-use Rattle.std.specs.Prelude.{◌≡◌, ◌≢◌, ℕ, ◌<◌, ◌≤◌, if◌then◌else◌, Option, Some, None, IfSome, List, [], ◌∷◌, length, map, reverse, get_or}
+-- each register the index of its producer, until that is done.
+use Rattle.std.specs.Prelude.{◌≡◌, ◌≢◌, ℕ, ◌<◌, ◌≤◌, if◌then◌else◌, Option, Some, None, List, [], ◌∷◌, length, map, reverse, get_or}
 use Rattle.reservation_stations.specs.declared.station.Mark.TheVariants.{Done}
 use Rattle.reservation_stations.specs.declared.station.Station.{Station}
 use Rattle.reservation_stations.specs.declared.row.Row.{Row}
@@ -29,17 +29,8 @@ station_in index row =
 abbrev pub stations_at : (ℕ → Row) → List ℕ → List Station
 stations_at at indices = map (λ index. station_in index (at index)) indices
 
--- the index of a register's producer, the youngest of some older stations that writes it. They stand youngest first.
-abbrev pub producer : List Station → ℕ → Option ℕ
-producer [] register = None
-producer (station ∷ older) register =
-    if is_register register station.destination then Some station.index else producer older register
-
-abbrev pub producer_of : List Station → Option ℕ → Option ℕ
-producer_of older None = None
-producer_of older (Some register) = producer older register
-
--- the index that a register's value is awaited from: its producer's, where that isn't done
+-- the index that a register's value is awaited from: that of the youngest of some older stations that writes it, where it
+-- isn't done. They stand youngest first.
 abbrev pub unfinished : List Station → ℕ → Option ℕ
 unfinished [] register = None
 unfinished (station ∷ older) register =
@@ -51,18 +42,9 @@ abbrev pub awaited : List Station → Option ℕ → Option ℕ
 awaited older None = None
 awaited older (Some register) = unfinished older register
 
--- the same of a producer, by its row
-abbrev pub unless_done : List Row → Option ℕ → Option ℕ
-unless_done rows None = None
-unless_done rows (Some index) = if is_done (row_at rows index).mark then None else Some index
-
--- the producers of some stations, the youngest first
+-- the producers of some stations, the youngest first: for each register the index that its value is awaited from
 abbrev pub AreProducers : List (Option ℕ) → List Station → Type 0
-AreProducers producers older = (register : ℕ) → register < 256 → get_or producers register None ≡ producer older register
-
--- each register's producer, where it has one, has a row
-abbrev pub AreHeld : List (Option ℕ) → ℕ → Type 0
-AreHeld producers capacity = (register : ℕ) → register < 256 → IfSome (get_or producers register None) (λ index. index < capacity)
+AreProducers producers older = (register : ℕ) → register < 256 → get_or producers register None ≡ unfinished older register
 
 -- what holds of each of some indices
 abbrev pub Each : (ℕ → Type 0) → List ℕ → Type 0

@@ -102,9 +102,8 @@ impl Sets {
         self.dependents[index as usize] = TurnSet::none();
     }
 
-    /// The station of an index, which has this turn, leaves as the oldest. It stays a call: one that
-    /// is done leaves without it.
-    #[inline(never)]
+    /// The station of an index, which has this turn, leaves as the oldest.
+    #[inline(always)]
     pub fn retire(&mut self, index: u32, turn: u8)
         requires inside { index < vec_len self.old.dependents }
         ensures retired { (capacity : ℕ) (idles executes : ℕ → Bool) (missed : ℕ → Missing)

@@ -24,7 +24,7 @@ pub struct Stations {
     count: u32,
     /// What each index keeps of the station that holds it.
     rows: Vec<Row>,
-    /// The index of each register's producer, where it has one.
+    /// The index of each register's producer, where it has one that isn't done.
     producers: Vec<Option<u32>>,
     /// How many wait.
     waiting: u32,
@@ -125,8 +125,8 @@ impl Stations {
           stations = self.old.stations ++ entered index sources.0 sources.1 destination ∷ [];
         } }
     {
-        let first = awaited(&self.producers, &self.rows, sources.0);
-        let second = awaited(&self.producers, &self.rows, sources.1);
+        let first = awaited(&self.producers, sources.0);
+        let second = awaited(&self.producers, sources.1);
         let turn = self.retired.wrapping_add(self.count as u8);
         self.sets.enter(turn, first, second);
         self.rows[index as usize] = Row {
@@ -166,7 +166,9 @@ impl Stations {
         if faulted {
             self.rows[index as usize].mark = Mark::Faulted;
         } else {
+            let destination = self.rows[index as usize].destination;
             self.rows[index as usize].mark = Mark::Done;
+            drop_producer(&mut self.producers, destination, index);
             self.sets.tell(index);
         }
     }
@@ -178,16 +180,30 @@ impl Stations {
         requires oldest { oldest_index self.old.stations ≡ Some index }
         ensures retired { self.new ≡ record self.old { stations = drop 1 self.old.stations } }
     {
+        let mark = self.rows[index as usize].mark;
+        // One that is done is no producer and in none of the sets, and none awaits its value.
+        if mark.is_done() {
+            self.count -= 1;
+            self.retired = self.retired.wrapping_add(1);
+        } else {
+            self.retire_unfinished(index);
+        }
+    }
+
+    /// Removes the oldest station, and what the tables and sets have of it, whatever its mark. It
+    /// stays a call: one that is done leaves without it.
+    #[inline(never)]
+    fn retire_unfinished(&mut self, index: u32)
+        requires oldest { oldest_index self.old.stations ≡ Some index }
+        ensures retired { self.new ≡ record self.old { stations = drop 1 self.old.stations } }
+    {
         let Row {
             destination,
             mark,
             ..
         } = self.rows[index as usize];
-        // One that is done is in none of the sets, and none awaits its value.
-        if !mark.is_done() {
-            self.sets.retire(index, self.retired);
-            self.waiting = uncounted(self.waiting, mark);
-        }
+        self.sets.retire(index, self.retired);
+        self.waiting = uncounted(self.waiting, mark);
         drop_producer(&mut self.producers, destination, index);
         self.count -= 1;
         self.retired = self.retired.wrapping_add(1);

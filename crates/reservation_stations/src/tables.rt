@@ -1,32 +1,24 @@
 //! What is read of the rows and by turns, and the table of producers.
 ghost use Rattle.std.specs.Prelude.{◌≡◌, ◌<◌, ◌≤◌, ◌+◌, vec_len, if◌then◌else◌};
-ghost use Rattle.std.specs.Prelude.{IfSome, List, reverse};
+ghost use Rattle.std.specs.Prelude.{List, reverse};
 ghost use Rattle.reservation_stations.specs.declared.station.Station.{Station};
 ghost use Rattle.reservation_stations.specs.Readiness.{is_waiting, waiting_count};
 ghost use Rattle.reservation_stations.specs.Changes.{without, with_producer, producer_at};
-ghost use Rattle.reservation_stations.specs.AreTables.{AreHeld, AreProducers, Each};
-ghost use Rattle.reservation_stations.specs.AreTables.{producer_of, unless_done, stations_at};
-ghost use Rattle.reservation_stations.specs.AreTables.{row_at};
+ghost use Rattle.reservation_stations.specs.AreTables.{AreProducers, Each, awaited};
+ghost use Rattle.reservation_stations.specs.AreTables.{stations_at, row_at};
 ghost use Rattle.reservation_stations.specs.Turns.{indices_from};
 
 use crate::row::Row;
 use crate::station::Mark;
 
 /// The index of the station that has yet to give the value of a source, if one has.
-pub fn awaited(producers: &Vec<Option<u32>>, rows: &Vec<Row>, source: Option<u8>) -> Option<u32>
+pub fn awaited(producers: &Vec<Option<u32>>, source: Option<u8>) -> Option<u32>
     requires every_register { vec_len producers.now ≡ 256 }
-    requires held { AreHeld producers.now.items (vec_len rows.now) }
     ensures awaited { (older : List Station) → AreProducers producers.now.items older
-        → result ≡ unless_done rows.now.items (producer_of older source) }
-    ensures within { IfSome result (λ index. index < vec_len rows.now) }
+        → result ≡ awaited older source }
 {
     let register = source?;
-    let index = producers[register as usize]?;
-    if rows[index as usize].mark.is_done() {
-        None
-    } else {
-        Some(index)
-    }
+    producers[register as usize]
 }
 
 /// Makes an index the producer of a register, if one is given, or none.
@@ -83,7 +75,8 @@ pub fn rename(
             mark,
             ..
         } = rows[index as usize];
-        set_producer(producers, destination, Some(index));
+        let producer = if mark.is_done() { None } else { Some(index) };
+        set_producer(producers, destination, producer);
         waiting += u32::from(mark.is_waiting());
     }
     waiting

@@ -1,10 +1,12 @@
-use Rattle.std.proofs.Common.{◌≡◌, ◌∙◌, ◌+◌, ◌%◌, ◌<◌, length, Some, ap, sym, arith, subst}
+use Rattle.std.proofs.Common.{◌≡◌, ◌∙◌, ◌+◌, ◌%◌, ◌<◌, length, if◌then◌else◌, Some, None, ap, sym, arith, subst}
 use Rattle.std.specs.Prelude.{vec_len}
 use Rattle.std.proofs.lemmas.List.{get_or_read}
-use Rattle.reservation_stations.specs.Readiness.{is_waiting}
+use Rattle.reservation_stations.specs.Readiness.{is_waiting, is_done}
 use Rattle.reservation_stations.specs.AreTables.{row_at, free_row}
-use Rattle.reservation_stations.proofs.Leaving.{length-with_producer}
+use Rattle.reservation_stations.specs.Changes.{with_producer}
+use Rattle.reservation_stations.proofs.Producers.{length-with_producer}
 use Rattle.reservation_stations.proofs.Keeping.{producers_more, waiting_more, waiting_within, counted_one, counted_within, Each-turn}
+use Rattle.reservation_stations.proofs.tables.rename.Goals.{then-is_done, else-is_done}
 use Rattle.reservation_stations.proofs.tables.rename.Goals as goal
 
 pub index-requires-in-loop-place : goal.index-requires-in-loop-place
@@ -47,17 +49,26 @@ loop-place-preserved c =
     (Each-turn (λ s. s < vec_len c.args.rows.now) turns c.args.from c.args.count place c.loop-place-test.true c.requires.within)
     in
     let is : row ≡ row_at rows index = get_or_read rows index row (omega (arith, below, c.args.rows.now.ok)) c.index-in-loop-place.ensures free_row in
+    let value : c.if-is_done.producer ≡ (if is_done row.mark then None else Some index) =
+    elim c.if-is_done.branch [
+      | then-is_done w ↦ w.producer-is ∙ ap (λ b. if b then None else Some index) (sym w.if-is_done.true ∙ c.is_done.ensures)
+      | else-is_done w ↦ w.producer-is ∙ ap (λ b. if b then None else Some index) (sym w.if-is_done.false ∙ c.is_done.ensures)
+    ]
+    in
+    let set : new.items ≡ with_producer row.destination (if is_done row.mark then None else Some index) old.items =
+    c.set_producer.ensures.set ∙ ap (λ o. with_producer row.destination o old.items) value
+    in
     record {
       every_register = omega (
         arith,
         c.loop-place.invariant.every_register,
         old.ok,
         new.ok,
-        ap length c.set_producer.ensures.set,
-        length-with_producer row.destination (Some index) old.items,
+        ap length set,
+        length-with_producer row.destination (if is_done row.mark then None else Some index) old.items,
       );
       renamed = producers_more turns c.args.from place rows index read row is old.items new.items
-          (omega (arith, c.loop-place.invariant.every_register, old.ok)) c.loop-place.invariant.renamed c.set_producer.ensures.set;
+          (omega (arith, c.loop-place.invariant.every_register, old.ok)) c.loop-place.invariant.renamed set;
       waiting = ap (λ n. c.loop-place.waiting + n) c.from-waiting.ensures
           ∙ counted_one c.loop-place.waiting (is_waiting row.mark) c.is_waiting.result c.is_waiting.ensures
           ∙ waiting_more turns c.args.from place rows index read row is c.loop-place.waiting c.loop-place.invariant.waiting;

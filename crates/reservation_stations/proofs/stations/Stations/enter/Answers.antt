@@ -1,32 +1,35 @@
-use Rattle.std.proofs.Common.{◌≡◌, ◌∙◌, ◌+◌, ◌%◌, ◌<◌, [], ◌∷◌, ◌++◌, ℕ, Some, true, length, reverse, arith, refl, ap, sym, subst}
+use Rattle.std.proofs.Common.{◌≡◌, ◌∙◌, ◌+◌, ◌%◌, ◌<◌, [], ◌∷◌, ◌++◌, ℕ, Option, Some, true, length, reverse, arith, refl, ap, sym, subst}
 use Rattle.std.specs.Prelude.{vec_len, slice_set}
+use Rattle.std.specs.Option.{ForSome}
 use Rattle.std.proofs.lemmas.List.{length-set}
 use Rattle.reservation_stations.specs.declared.row.Row.{Row}
 use Rattle.reservation_stations.specs.declared.station.Mark.TheVariants.{Waiting}
 use Rattle.reservation_stations.specs.Readiness.{Window, executes_at}
-use Rattle.reservation_stations.specs.AreTables.{AreHeld, station_in, row_at, stations_at}
+use Rattle.reservation_stations.specs.AreTables.{station_in, row_at, stations_at, awaited}
 use Rattle.reservation_stations.specs.Turns.{indices_from}
 use Rattle.reservation_stations.specs.Places.{place_of}
 use Rattle.reservation_stations.specs.AreSets.{AreSets, AreSetsOf, Missing, nothing, missing, missing_at, waits_at, put}
 use Rattle.reservation_stations.proofs.Kept.{seen}
 use Rattle.reservation_stations.proofs.Entering.{room, is_fresh, waiting_fits, AreTables-entered, seen-entered, own_tables, own_seen}
 use Rattle.reservation_stations.proofs.Turns.{length-indices, indices_entered}
-use Rattle.reservation_stations.proofs.Reading.{all_held, awaited_seen, length_seen}
+use Rattle.reservation_stations.proofs.Reading.{all_awaited, awaited_seen, length_seen}
 use Rattle.reservation_stations.proofs.Places.{turned_entered}
 use Rattle.reservation_stations.proofs.Among.{seen_sets}
 use Rattle.reservation_stations.proofs.Standing.{nothing_yet, place_there}
 use Rattle.reservation_stations.proofs.OfStations.{AreSets-entered}
 use Rattle.reservation_stations.proofs.stations.Stations.enter.Goals as goal
 
-pub awaited-first-requires-clause-held : goal.awaited-first-requires-clause-held
-awaited-first-requires-clause-held c =
-    let long : length c.self.inside.rows.items ≡ vec_len c.self.inside.rows = omega (arith, c.self.inside.rows.ok) in
-    subst (AreHeld c.self.inside.producers.items) long (all_held c.self.invariant.0 c.self.view_is)
-
-pub awaited-second-requires-clause-held : goal.awaited-second-requires-clause-held
-awaited-second-requires-clause-held c =
-    let long : length c.self.inside.rows.items ≡ vec_len c.self.inside.rows = omega (arith, c.self.inside.rows.ok) in
-    subst (AreHeld c.self.inside.producers.items) long (all_held c.self.invariant.0 c.self.view_is)
+pub enter-requires : goal.enter-requires
+enter-requires c =
+    let older = stations_at (row_at c.self.inside.rows.items) (reverse (indices_from c.self.inside.at_turn.items c.self.inside.retired c.self.inside.count)) in
+    let long : length c.self.inside.rows.items ≡ vec_len c.self.inside.sets.dependents = omega (arith, c.self.inside.sets.dependents.ok, c.self.invariant.2.every_index) in
+    let held : (source : Option ℕ) → ForSome (awaited older source) (λ index. index < vec_len c.self.inside.sets.dependents) =
+    λ source. subst (λ n. ForSome (awaited older source) (λ index. index < n)) long (all_awaited c.self.invariant.0 c.self.view_is source)
+    in
+    record {
+      inside = subst (λ (o : Option ℕ). ForSome o (λ index. index < vec_len c.self.inside.sets.dependents)) (sym (c.awaited-first.ensures.awaited older c.self.invariant.0.each_producer)) (held c.args.sources.0);
+      inside_second = subst (λ (o : Option ℕ). ForSome o (λ index. index < vec_len c.self.inside.sets.dependents)) (sym (c.awaited-second.ensures.awaited older c.self.invariant.0.each_producer)) (held c.args.sources.1);
+    }
 
 pub overflow_cast-turn : goal.overflow_cast-turn
 overflow_cast-turn c =

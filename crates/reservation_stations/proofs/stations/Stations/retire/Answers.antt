@@ -1,45 +1,24 @@
-use Rattle.std.proofs.Common.{◌≡◌, ◌∙◌, ℕ, ◌+◌, ◌-◌, ◌%◌, ◌<◌, true, if◌then◌else◌, List, length, drop, ap, sym, subst, arith}
+use Rattle.std.proofs.Common.{◌≡◌, ◌∙◌, ℕ, ◌+◌, ◌-◌, ◌%◌, ◌<◌, true, List, length, drop, ap, sym, subst, arith}
 use Rattle.reservation_stations.specs.declared.row.Row.{Row}
-use Rattle.reservation_stations.specs.declared.stations.Stations.TheInside.{Inside}
-use Rattle.reservation_stations.specs.Readiness.{is_done, is_waiting}
+use Rattle.reservation_stations.specs.Readiness.{is_done}
 use Rattle.reservation_stations.specs.AreTables.{row_at, stations_at}
-use Rattle.reservation_stations.specs.Changes.{without, with_producer, producer_at}
 use Rattle.reservation_stations.specs.Turns.{indices_from}
 use Rattle.reservation_stations.specs.Places.{AreTurned}
 use Rattle.reservation_stations.specs.AreSets.{AreSetsOf}
 use Rattle.reservation_stations.proofs.Kept.{seen}
-use Rattle.reservation_stations.proofs.Leaving.{is_first, first_keeps, retire_some, retire_within, retire_counted, retired_row, AreTables-retired, seen-retired}
+use Rattle.reservation_stations.proofs.Leaving.{is_first, first_keeps, retire_some, retire_within, retired_row, AreTables-retired_done, seen-retired}
 use Rattle.reservation_stations.proofs.Entering.{all_few}
 use Rattle.reservation_stations.proofs.Turns.{length-indices, indices_retired}
 use Rattle.reservation_stations.proofs.Places.{turned_retired}
-use Rattle.reservation_stations.proofs.OfStations.{AreSets-retired, AreSets-untold, waits_not}
-use Rattle.reservation_stations.proofs.stations.Stations.retire.Goals.{then-not-is_done, else-not-is_done}
+use Rattle.reservation_stations.proofs.OfStations.{AreSets-untold}
 use Rattle.reservation_stations.proofs.stations.Stations.retire.Goals as goal
 
 pub index-requires : goal.index-requires
 index-requires c = omega (arith, c.self.inside.rows.ok, retire_within c.self.invariant.0 c.self.view_is c.args.index c.requires.oldest)
 
-pub retire-requires : goal.retire-requires
-retire-requires c = record {
-  inside = omega (
-    arith,
-    retire_within c.self.invariant.0 c.self.view_is c.args.index c.requires.oldest,
-    c.self.inside.sets.dependents.ok,
-    c.self.invariant.2.every_index,
-  );
-}
-
-pub uncounted-self-inside-requires : goal.uncounted-self-inside-requires
-uncounted-self-inside-requires c = record {
-  counted = retire_counted c.self.invariant.0 c.self.view_is c.args.index c.requires.oldest c.index.result.now c.index.ensures;
-}
-
 pub overflow_sub-self : goal.overflow_sub-self
 overflow_sub-self c =
-    let some : 0 < c.self.inside.count =
     omega (arith, retire_some c.self.invariant.0 c.self.view_is c.args.index c.requires.oldest, length-indices c.self.inside.at_turn.items c.self.inside.retired c.self.inside.count)
-    in
-    elim c.if-not-is_done.branch [ then-not-is_done w ↦ rw w.self-inside-is some | else-not-is_done w ↦ rw w.self-inside-is some ]
 
 pub invariant_of-self : goal.invariant_of-self
 invariant_of-self c =
@@ -59,36 +38,21 @@ invariant_of-self c =
     let old = subst (λ (xs : List ℕ). AreSetsOf (length rows) retired (stations_at (row_at rows) xs) c.self.inside.sets) first c.self.invariant.2 in
     let is_row = retired_row c.self.invariant.0 c.self.view_is index c.requires.oldest row c.index.ensures in
     let turned = turned_retired retired index rest rows (subst (λ (xs : List ℕ). AreTurned retired xs rows) first c.self.invariant.1) (omega arith) in
-    let dropped : (s : Inside) → c.if-not-is_done.self-inside ≡ s →
-    c.drop_producer.new.producers.items ≡ with_producer row.destination (without index (producer_at s.producers.items row.destination)) s.producers.items =
-    λ s is. subst (λ (s : Inside). c.drop_producer.new.producers.items ≡ with_producer row.destination (without index (producer_at s.producers.items row.destination)) s.producers.items) is c.drop_producer.ensures.dropped
-    in
-    elim c.if-not-is_done.branch [
-      | then-not-is_done w ↦ rw (w.self-inside-is, now) (
-        AreTables-retired c.self.invariant.0 c.self.view_is index c.requires.oldest row c.index.ensures c.drop_producer.new.producers.items
-            w.uncounted-self-inside.result (dropped _ w.self-inside-is) w.uncounted-self-inside.ensures.left,
-        turned,
-        AreSets-retired index rest rows keeps retired (omega arith) few (w.retire.ensures.retired (length rows) _ _ _ old),
-        c.self.invariant.3,
-      )
-      | else-not-is_done w ↦
-          let done : is_done row.mark ≡ true = sym c.is_done.ensures ∙ w.if-not-is_done.false in
-          let left : c.self.inside.waiting + (if is_waiting row.mark then 1 else 0) ≡ c.self.inside.waiting = rw (waits_not row.mark done) (omega arith) in
-          rw (w.self-inside-is, now) (
-            AreTables-retired c.self.invariant.0 c.self.view_is index c.requires.oldest row c.index.ensures c.drop_producer.new.producers.items
-                c.self.inside.waiting (dropped _ w.self-inside-is) left,
-            turned,
-            AreSets-untold index rest rows keeps retired (omega arith) few (ap (λ (e : Row). is_done e.mark) (sym is_row) ∙ done) old,
-            c.self.invariant.3,
-          )
-    ]
+    let done : is_done row.mark ≡ true = sym c.is_done.ensures ∙ c.if-is_done.true in
+    rw now (
+      AreTables-retired_done c.self.invariant.0 c.self.view_is index c.requires.oldest row c.index.ensures done,
+      turned,
+      AreSets-untold index rest rows keeps retired (omega arith) few (ap (λ (e : Row). is_done e.mark) (sym is_row) ∙ done) old,
+      c.self.invariant.3,
+    )
 
-pub returns : goal.returns
-returns c =
+pub returns-then-is_done : goal.returns-then-is_done
+returns-then-is_done c =
     let items = c.self.inside.at_turn.items in
     let retired = c.self.inside.retired in
     let count = c.self.inside.count in
     let rows = c.self.inside.rows.items in
     let some : 0 < count = omega (arith, retire_some c.self.invariant.0 c.self.view_is c.args.index c.requires.oldest, length-indices items retired count) in
-    let gone = ap (λ xs. seen (length rows) xs rows) (indices_retired items retired count some) ∙ seen-retired c.self.invariant.0 c.self.view_is c.args.index c.requires.oldest in
-    elim c.if-not-is_done.branch [ then-not-is_done w ↦ record { retired = rw w.self-inside-is gone } | else-not-is_done w ↦ record { retired = rw w.self-inside-is gone } ]
+    record {
+      retired = ap (λ xs. seen (length rows) xs rows) (indices_retired items retired count some) ∙ seen-retired c.self.invariant.0 c.self.view_is c.args.index c.requires.oldest;
+    }

@@ -1,4 +1,4 @@
-use Rattle.std.proofs.Common.{◌≡◌, ◌≢◌, ℕ, ap, sym, arith, refl, length, false, eq-eqb}
+use Rattle.std.proofs.Common.{◌≡◌, ◌≢◌, ◌∙◌, ℕ, Option, List, ap, sym, arith, refl, length, false, eq-eqb}
 use Rattle.std.specs.Prelude.{slice_set}
 use Rattle.std.proofs.lemmas.Bool.{ne_eqb}
 use Rattle.std.proofs.lemmas.List.{get_or_read, length-set}
@@ -6,11 +6,12 @@ use Rattle.reservation_stations.specs.declared.row.Row.{Row}
 use Rattle.reservation_stations.specs.declared.station.Mark.TheVariants.{Issued, Done, Faulted}
 use Rattle.reservation_stations.specs.Readiness.{is_waiting}
 use Rattle.reservation_stations.specs.AreTables.{row_at, free_row, stations_at}
+use Rattle.reservation_stations.specs.Changes.{without, with_producer, producer_at}
 use Rattle.reservation_stations.specs.Places.{place_of}
 use Rattle.reservation_stations.specs.AreSets.{missing_at, waits, waits_at}
 use Rattle.reservation_stations.specs.Turns.{indices_from}
 use Rattle.reservation_stations.proofs.Entering.{own_tables, own_seen}
-use Rattle.reservation_stations.proofs.Kept.{none, one, held_with, AreTables-marked, seen-written}
+use Rattle.reservation_stations.proofs.Kept.{none, one, held_with, AreTables-marked, AreTables-told, seen-written}
 use Rattle.reservation_stations.proofs.Places.{turned_marked}
 use Rattle.reservation_stations.proofs.Missing.{put_same}
 use Rattle.reservation_stations.proofs.Feeding.{losing_none, losing_one}
@@ -22,6 +23,10 @@ index-requires c = omega (arith, c.self.inside.rows.ok, (held_with c.self.invari
 
 pub index_mut-requires : goal.index_mut-requires
 index_mut-requires c = omega (arith, c.self.inside.rows.ok, (held_with c.self.invariant.0 c.self.view_is c.args.index Issued c.requires.issued).0)
+
+pub index-requires-else-faulted : goal.index-requires-else-faulted
+index-requires-else-faulted c =
+    omega (arith, c.self.inside.rows.ok, (held_with c.self.invariant.0 c.self.view_is c.args.index Issued c.requires.issued).0)
 
 pub index_mut-requires-else-faulted : goal.index_mut-requires-else-faulted
 index_mut-requires-else-faulted c =
@@ -38,7 +43,7 @@ invariant_of-self c =
     let read : row ≡ row_at rows index = get_or_read rows index row held.0 c.index_mut.ensures.value free_row in
     let first : c.index.result.now ≡ row_at rows index = get_or_read rows index c.index.result.now held.0 c.index.ensures free_row in
     let own : (row_at rows index).turn ≡ c.index.result.now.turn = ap (λ (e : Row). e.turn) (sym first) in (
-      own_tables (AreTables-marked c.self.invariant.0 c.self.view_is index Issued Faulted c.requires.issued row c.index_mut.ensures.value none (λ other differ. refl) refl refl),
+      own_tables (AreTables-marked c.self.invariant.0 c.self.view_is index Issued Faulted c.requires.issued row c.index_mut.ensures.value refl refl),
       turned_marked retired indices rows index (record row { mark = Faulted }) c.self.invariant.1 held.0 (ap (λ (e : Row). e.turn) read),
       AreSets-marked c.self.invariant.0 c.self.view_is index Issued Faulted c.requires.issued row c.index_mut.ensures.value retired (omega arith) c.self.invariant.1
           c.index.result.now.turn (omega arith) own none (λ other differ. refl) refl
@@ -72,9 +77,12 @@ invariant_of-self-else-faulted c =
     let read : row ≡ row_at rows index = get_or_read rows index row held.0 c.index_mut-else-faulted.ensures.value free_row in
     let first : c.index.result.now ≡ row_at rows index = get_or_read rows index c.index.result.now held.0 c.index.ensures free_row in
     let own : (row_at rows index).turn ≡ c.index.result.now.turn = ap (λ (e : Row). e.turn) (sym first) in
+    let its : c.index-else-faulted.result.now ≡ row_at rows index = get_or_read rows index c.index-else-faulted.result.now held.0 c.index-else-faulted.ensures free_row in
+    let table : Row → List (Option ℕ) = λ e. with_producer e.destination (without index (producer_at c.self.inside.producers.items e.destination)) c.self.inside.producers.items in
+    let dropped : c.drop_producer.new.producers.items ≡ table (row_at rows index) = c.drop_producer.ensures.dropped ∙ ap table its in
     let others : (other : ℕ) → other ≢ index → one index other ≡ false = λ other differ. ne_eqb other index differ in (
-      own_tables (AreTables-marked c.self.invariant.0 c.self.view_is index Issued Done c.requires.issued row c.index_mut-else-faulted.ensures.value
-          (one index) others (sym (eq-eqb index index refl)) refl),
+      own_tables (AreTables-told c.self.invariant.0 c.self.view_is index Issued Done c.requires.issued row c.index_mut-else-faulted.ensures.value
+          c.drop_producer.new.producers.items dropped (sym (eq-eqb index index refl)) refl),
       turned_marked retired indices rows index (record row { mark = Done }) c.self.invariant.1 held.0 (ap (λ (e : Row). e.turn) read),
       AreSets-marked c.self.invariant.0 c.self.view_is index Issued Done c.requires.issued row c.index_mut-else-faulted.ensures.value retired (omega arith) c.self.invariant.1
           c.index.result.now.turn (omega arith) own (one index) others (sym (eq-eqb index index refl))
