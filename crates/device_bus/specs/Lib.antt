@@ -1,4 +1,5 @@
 pub mod Range
 pub mod Device
+pub mod AnyDevice
 pub mod Undo
 pub mod Bus

@@ -16,13 +16,7 @@ use std::alloc::Global;
 use std::marker::Model;
 
 /// Whether there are three devices: console, timer, finisher, in this order.
-pub fn in_order(devices: &[Box<dyn Device + Send>]) -> bool
-    ensures order { IsTrue result ↔ (map (λ b. kind b) devices.now ≡ device_order) }
-{
-    are_in_order(devices)
-}
-
-fn are_in_order<D: Device>(devices: &[D]) -> bool
+pub fn in_order<D: Device>(devices: &[D]) -> bool
     ensures order { IsTrue result ↔ (map D.kind devices.now ≡ device_order) }
 {
     match devices {
@@ -46,14 +40,7 @@ const SETS_LIMIT: usize = 64;
 
 /// Whether there are from 1 to 64 sets of three devices, each console, timer, finisher, in this
 /// order.
-pub fn sets_in_order(devices: &[Box<dyn Device + Send>]) -> bool
-    ensures order { IsTrue result
-        ↔ AreSets (length devices.now / 3) (map (λ b. kind b) devices.now) }
-{
-    are_sets_in_order(devices)
-}
-
-fn are_sets_in_order<D: Device>(devices: &[D]) -> bool
+pub fn sets_in_order<D: Device>(devices: &[D]) -> bool
     ensures order { IsTrue result ↔ AreSets (length devices.now / 3) (map D.kind devices.now) }
 {
     let sets = devices.len() / 3;

@@ -1,6 +1,7 @@
 //! The console, the timer and the finisher behind one trait, and the bus that owns the three.
 #![tactic(auto)]
 
+mod any_device;
 mod bus;
 mod console;
 mod device;
@@ -11,6 +12,7 @@ mod place;
 mod timer;
 mod undo;
 
+pub use any_device::AnyDevice;
 pub use bus::{Bus, in_order, sets_in_order};
 pub use console::Console;
 pub use device::{Device, INPUT_LIMIT};

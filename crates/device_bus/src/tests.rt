@@ -1,6 +1,7 @@
 ghost use Rattle.std.specs.Prelude.{◌≡◌, map};
 ghost use Rattle.device_bus.specs.Bus.{device_order};
 
+use crate::any_device::AnyDevice;
 use crate::bus::{Bus, in_order, sets_in_order};
 use crate::console::Console;
 use crate::device::Device;
@@ -215,6 +216,20 @@ fn bus_of_boxes(rt: HostRuntime) -> Result<(), Fail> {
     devices.push(Box::new(alloc, Timer::new())?)?;
     assert!(rt; !in_order(&devices));
     devices.push(Box::new(alloc, Finisher::new())?)?;
+    assert!(rt; in_order(&devices));
+    drive(&rt, alloc, devices);
+    Ok(())
+}
+
+#[test]
+fn bus_of_one_type(rt: HostRuntime) -> Result<(), Fail> {
+    let alloc = rt.alloc();
+    let mut devices = Vec::new(alloc);
+    devices.push(AnyDevice::Console(Console::new(alloc).ok().ok_or("no memory")?))?;
+    devices.push(AnyDevice::Finisher(Finisher::new()))?;
+    devices.push(AnyDevice::Timer(Timer::new()))?;
+    assert!(rt; !in_order(&devices));
+    devices.swap(1, 2);
     assert!(rt; in_order(&devices));
     drive(&rt, alloc, devices);
     Ok(())

@@ -24,17 +24,16 @@ use std::thread::Threads;
 /// It writes output and report of what the words ask for, or the line of its answer. The words
 /// leave out the program's name. Where what the files hold is told, and no fault was counted, words
 /// and files have one answer, but for want of memory.
-pub fn fast_main<R: Threads + Wait + Sync, F: Files, K: Sink, G: Gate + Sync>(
+pub fn fast_main<R: Threads + Wait + Sync, F: Files, K: Sink, G: Gate + Sync, D: Device + Send>(
     rt: &R,
     alloc: Global,
     words: &[&str],
     files: &mut F,
     sink: &mut K,
-    devices: Vec<Box<dyn Device + Send>>,
+    devices: Vec<D>,
     gate: &G,
 ) -> Status
-    requires sets { AreSets (vec_len devices / 3)
-        (map (λ device. kind device) devices.items) }
+    requires sets { AreSets (vec_len devices / 3) (map D.kind devices.items) }
     ensures told { F.told files.new ≡ F.told files.old }
     ensures files { F.faults files.old ≤ F.faults files.new }
     ensures sink { K.faults sink.old ≤ K.faults sink.new }
@@ -52,17 +51,16 @@ pub fn fast_main<R: Threads + Wait + Sync, F: Files, K: Sink, G: Gate + Sync>(
 
 /// The answer to the words: that to their line, or the usage.
 #[tactic(auto, using(crate::proofs::Answers::closing_answers))]
-fn answer_or_usage<R: Threads + Wait + Sync, F: Files, K: Sink, G: Gate + Sync>(
+fn answer_or_usage<R: Threads + Wait + Sync, F: Files, K: Sink, G: Gate + Sync, D: Device + Send>(
     rt: &R,
     alloc: Global,
     words: &[&str],
     files: &mut F,
     sink: &mut K,
-    devices: Vec<Box<dyn Device + Send>>,
+    devices: Vec<D>,
     gate: &G,
 ) -> Status
-    requires sets { AreSets (vec_len devices / 3)
-        (map (λ device. kind device) devices.items) }
+    requires sets { AreSets (vec_len devices / 3) (map D.kind devices.items) }
     ensures told { F.told files.new ≡ F.told files.old }
     ensures files { F.faults files.old ≤ F.faults files.new }
     ensures sink { K.faults sink.old ≤ K.faults sink.new }
@@ -95,34 +93,7 @@ fn is_still(line: &Line) -> bool
 
 /// The answer to a line that is played on one thread, with the files, the sink and sets of
 /// devices, as [`fast_main`] gives it once the words were read.
-pub fn fast_still<F: Files, K: Sink>(
-    alloc: Global,
-    line: &Line,
-    files: &mut F,
-    sink: &mut K,
-    devices: Vec<Box<dyn Device + Send>>,
-) -> Status
-    requires still { is_still line.now ≡ true }
-    requires ranges { IsInRange line.now }
-    requires sets { AreSets (vec_len devices / 3)
-        (map (λ device. kind device) devices.items) }
-    ensures told { F.told files.new ≡ F.told files.old }
-    ensures files { F.faults files.old ≤ F.faults files.new }
-    ensures sink { K.faults sink.old ≤ K.faults sink.new }
-    ensures answer { IsAnswer (Some line.now) (vec_len devices / 3)
-        (reading_of F.told F.faults files.old files.new)
-        (writing_of K.written K.faults sink.old sink.new) result }
-    ensures settled { IsSettled (Some line.now) (vec_len devices / 3)
-        (reading_of F.told F.faults files.old files.new) result }
-    ensures complete { IsComplete (Some line.now) (vec_len devices / 3)
-        (reading_of F.told F.faults files.old files.new)
-        (writing_of K.written K.faults sink.old sink.new) result }
-{
-    answer(alloc, line, files, sink, devices)
-}
-
-/// The answer to a line, played on one thread.
-fn answer<F: Files, K: Sink, D: Device>(
+pub fn fast_still<F: Files, K: Sink, D: Device>(
     alloc: Global,
     line: &Line,
     files: &mut F,
@@ -136,6 +107,11 @@ fn answer<F: Files, K: Sink, D: Device>(
     ensures files { F.faults files.old ≤ F.faults files.new }
     ensures sink { K.faults sink.old ≤ K.faults sink.new }
     ensures answer { IsAnswer (Some line.now) (vec_len devices / 3)
+        (reading_of F.told F.faults files.old files.new)
+        (writing_of K.written K.faults sink.old sink.new) result }
+    ensures settled { IsSettled (Some line.now) (vec_len devices / 3)
+        (reading_of F.told F.faults files.old files.new) result }
+    ensures complete { IsComplete (Some line.now) (vec_len devices / 3)
         (reading_of F.told F.faults files.old files.new)
         (writing_of K.written K.faults sink.old sink.new) result }
 {

@@ -8,7 +8,7 @@ ghost use Rattle.fast_run.specs.Answer.{IsAnswer};
 ghost use Rattle.fast_run.specs.Program.{IsNoText, line_in, status_of_error};
 
 use crate::answer::fast_main;
-use device_bus::{Console, Device, Finisher, Timer, sets_in_order};
+use device_bus::{AnyDevice, Console, Finisher, Timer, sets_in_order};
 use fast_jobs::{Refusal, tell_want_of_memory};
 use fsim_ports::{Files, HostFiles, HostSink, QuietGate, Sink};
 use report_text::Status;
@@ -131,14 +131,14 @@ pub fn answer_words<R: Threads + Wait + Sync, F: Files, K: Sink>(
         (writing_of K.written K.faults sink.old sink.new)) }
     ensures untouched { OnErr result ((files.new ≡ files.old) × (sink.new ≡ sink.old)) }
 {
-    let mut devices: Vec<Box<dyn Device + Send>> = Vec::new(alloc);
+    let mut devices = Vec::new(alloc);
     for _ in 0..SETS {
         let Ok(console) = Console::new(alloc) else {
             return Err(AllocError);
         };
-        devices.push(Box::new(alloc, console)?)?;
-        devices.push(Box::new(alloc, Timer::new())?)?;
-        devices.push(Box::new(alloc, Finisher::new())?)?;
+        devices.push(AnyDevice::Console(console))?;
+        devices.push(AnyDevice::Timer(Timer::new()))?;
+        devices.push(AnyDevice::Finisher(Finisher::new()))?;
     }
     // They are in order. The test tells the condition of the call below.
     if devices.len() != 3 * SETS || !sets_in_order(devices.as_slice()) {
