@@ -1,6 +1,6 @@
 -- Steps of the timing side with nothing under way, the order of the last one obeyed at once, as where it goes through the
 -- hand and an empty list.
-use Rattle.std.proofs.Common.{◌≡◌, ◌<◌, true, is_none, IfSome, if◌then◌else◌, Option, Some, None, List, [], ◌∷◌, ◌++◌, length, drop, slice_get, refl, ap, sym, ◌∙◌, subst, arith}
+use Rattle.std.proofs.Common.{◌≡◌, ◌<◌, ◌⊎◌, ⊎_elim, true, is_none, if◌then◌else◌, Option, Some, None, List, [], ◌∷◌, ◌++◌, length, drop, slice_get, refl, ap, sym, ◌∙◌, subst, arith}
 use Rattle.std.proofs.lemmas.Bool.{cond_both}
 use Rattle.circular_buffer.specs.Buffer.{Buffer, buffer}
 use Rattle.rollback_cmds.specs.declared.order.Order.{Order}
@@ -15,7 +15,7 @@ use Rattle.time_model.specs.declared.turn.Turn.{Turn}
 use Rattle.time_model.specs.declared.turn.Turn.TheVariants.{Moved, Ordered, Want, CycleEnd, Halted}
 use Rattle.time_model.specs.Running.{is_silent, IsSilent, start, more, IsRun}
 use Rattle.time_model.specs.Turns.{order_told}
-use Rattle.split_core.specs.Plays.{Plays, IsClear, HasObeyed}
+use Rattle.split_core.specs.Plays.{Plays, IsClear}
 use Rattle.split_core.specs.declared.state.SplitState.{SplitState}
 use Rattle.split_core.specs.Along.{At, event_on, IsReachedOn}
 use Rattle.split_core.specs.Timed.{Timed, IsTimed, StepsOn}
@@ -25,14 +25,6 @@ use Rattle.split_core.proofs.OnDemand.{plays_none, plays_on, plays_standing}
 use Rattle.split_core.proofs.Obeying.{can_obey, order_obeyed}
 use Rattle.split_core.proofs.Ticking.{stepped}
 use Rattle.split_core.specs.AlongLaws.{event_reached_on}
-
-same_order : (a b : Order) → ◌≡◌ {A = Option Order} (Some a) (Some b) → a ≡ b
-same_order a b is = cc
-
--- where none is told, nothing is obeyed
-pub none_obeyed : {D T : Type 0} (told : Option Order) (state : SplitState D T) → is_none told ≡ true → HasObeyed told state state
-none_obeyed None state is = record { others = refl; none = λ same. refl; stands = tt; obeyed = tt }
-none_obeyed (Some order) state is = cc
 
 module _ {D T : Type 0} (timed : Timed T) (laws : IsTimed timed) (state : SplitState D T) (clear : IsClear state) (time : T) (turn : Turn)
     (made : StepsOn timed state.time time turn) where
@@ -105,12 +97,13 @@ module _ {D T : Type 0} (timed : Timed T) (laws : IsTimed timed) (state : SplitS
           stands = subst H (sym clear.hand) (subst C (sym clear.computed) (subst B way_back obeyed));
         }
 
-told_ordered : (turn : Turn) (order : Order) → order_told turn ≡ Some order → turn ≡ Ordered order
-told_ordered Moved order told = cc
-told_ordered (Ordered other) order told = ap Ordered (same_order other order told)
-told_ordered Want order told = cc
-told_ordered CycleEnd order told = cc
-told_ordered Halted order told = cc
+-- turns by whose names no order is told
+pub untold : (turn : Turn) → (turn ≡ Moved) ⊎ (turn ≡ CycleEnd) → order_told turn ≡ None
+untold turn is = ⊎_elim (λ moved. ap order_told moved) (λ ended. ap order_told ended) is
+
+pub untold_or_over : (turn : Turn) → (turn ≡ Moved) ⊎ ((turn ≡ CycleEnd) ⊎ (turn ≡ Halted)) → order_told turn ≡ None
+untold_or_over turn is =
+    ⊎_elim (λ moved. ap order_told moved) (λ rest. ⊎_elim (λ ended. ap order_told ended) (λ over. ap order_told over) rest) is
 
 silent_tells : (turn : Turn) → is_silent turn ≡ true → order_told turn ≡ None
 silent_tells Moved silent = refl
@@ -119,54 +112,37 @@ silent_tells Want silent = refl
 silent_tells CycleEnd silent = refl
 silent_tells Halted silent = refl
 
-clear_at : {D T : Type 0} (state : SplitState D T) → IsClear state → (time : T) → IsClear (record state { time = time })
-clear_at state clear time = record { computed = clear.computed; hand = clear.hand; entries = clear.entries; orders = clear.orders }
+-- whatever becomes of the sides, nothing is under way
+pub clear_at : {D T : Type 0} (state : SplitState D T) → IsClear state → (func : Walk D) (time : T) → IsClear (record state { func = func; time = time })
+clear_at state clear func time = record { computed = clear.computed; hand = clear.hand; entries = clear.entries; orders = clear.orders }
 
 -- silent steps, one after the other
 silent_run : {D T : Type 0} (timed : Timed T) (laws : IsTimed timed) (state : SplitState D T) → IsClear state → (time : T) → IsSilent (StepsOn timed) state.time time → Plays timed state (record state { time = time })
 silent_run timed laws state clear _ start = plays_none timed laws state
 silent_run timed laws state clear _ (more mid new turn rest step silent) =
     plays_on timed laws state (record state { time = mid }) (record state { time = new }) (silent_run timed laws state clear mid rest)
-    (silent_played timed laws (record state { time = mid }) (clear_at state clear mid) new turn step (silent_tells turn silent))
+    (silent_played timed laws (record state { time = mid }) (clear_at state clear state.func mid) new turn step (silent_tells turn silent))
 
 module _ {D T : Type 0} (timed : Timed T) (laws : IsTimed timed) (state : SplitState D T) (clear : IsClear state) (time : T) (turn : Turn) (is : IsRun (StepsOn timed) state.time time turn) where
   abbrev mid : SplitState D T
   mid = record state { time = is.behind }
 
   mid_clear : IsClear mid
-  mid_clear = clear_at state clear is.behind
+  mid_clear = clear_at state clear state.func is.behind
 
   comes : Plays timed state mid
   comes = silent_run timed laws state clear is.behind is.silent
 
-  run_silent : order_told turn ≡ None → Plays timed state (record state { time = time })
+  -- it tells no order
+  pub run_silent : order_told turn ≡ None → Plays timed state (record state { time = time })
   run_silent none = plays_on timed laws state mid (record state { time = time }) comes (silent_played timed laws mid mid_clear time turn is.last none)
 
+  -- it tells one
   module _ (order : Order) (told : turn ≡ Ordered order) where
-    run_may : IsStandingOn timed state → MayObey order state.func
+    pub run_may : IsStandingOn timed state → MayObey order state.func
     run_may st = step_may timed laws mid mid_clear time turn is.last order told (plays_standing timed laws state mid st comes)
 
-    run_obeyed : (func : Walk D) → ((s : Setup) (os : List Order) → WalkStandsFor s os state.func → WalkStandsFor s (order ∷ os) func) →
+    pub run_obeyed : (func : Walk D) → ((s : Setup) (os : List Order) → WalkStandsFor s os state.func → WalkStandsFor s (order ∷ os) func) →
         IsObeyed order state.func func → Plays timed state (record state { func = func; time = time })
     run_obeyed func stands moved =
         plays_on timed laws state mid (record state { func = func; time = time }) comes (told_played timed laws mid mid_clear time turn is.last order told func stands moved)
-
-  -- the order that the run tells, whichever it is
-  pub told_may : (told : Option Order) → told ≡ order_told turn → IsStandingOn timed state → IfSome told (λ order. MayObey order state.func)
-  told_may None tells st = tt
-  told_may (Some order) tells st = run_may order (told_ordered turn order (sym tells)) st
-
-  told_plays : (told : Option Order) → told ≡ order_told turn → (func : Walk D) → (told ≡ None → func ≡ state.func) →
-      IfSome told (λ order. (s : Setup) (os : List Order) → WalkStandsFor s os state.func → WalkStandsFor s (order ∷ os) func) →
-      IfSome told (λ order. IsObeyed order state.func func) → Plays timed state (record state { func = func; time = time })
-  told_plays None tells func none stands obeyed =
-      subst (λ (f : Walk D). Plays timed state (record state { func = f; time = time })) (sym (none refl)) (run_silent (sym tells))
-  told_plays (Some order) tells func none stands obeyed = run_obeyed order (told_ordered turn order (sym tells)) func stands obeyed
-
-  pub obeyed_plays : (told : Option Order) → told ≡ order_told turn → (new : SplitState D T) → HasObeyed told (record state { time = time }) new → Plays timed state new
-  obeyed_plays told tells new is =
-      subst (λ (end : SplitState D T). Plays timed state end) (sym is.others) (told_plays told tells new.func is.none is.stands is.obeyed)
-
-  pub obeyed_clear : (told : Option Order) (new : SplitState D T) → HasObeyed told (record state { time = time }) new → IsClear new
-  obeyed_clear told new is = subst (λ (end : SplitState D T). IsClear end) (sym is.others)
-      (record { computed = clear.computed; hand = clear.hand; entries = clear.entries; orders = clear.orders })

@@ -1,9 +1,7 @@
 -- Some events were played, whichever they are.
-use Rattle.std.specs.Prelude.{◌≡◌, IfSome, Option, None, List, [], ◌∷◌}
-use Rattle.rollback_cmds.specs.declared.order.Order.{Order}
+use Rattle.std.specs.Prelude.{◌≡◌, None, List, []}
 use Rattle.mono_model.specs.declared.setup.Setup.{Setup}
 use Rattle.mono_model.specs.Split.{Event}
-use Rattle.func_model.specs.Walk.{WalkStandsFor, IsObeyed}
 use Rattle.split_core.specs.Along.{At, played_on, IsReachedOn}
 use Rattle.split_core.specs.Timed.{Timed}
 use Rattle.split_core.specs.declared.state.SplitState.{SplitState}
@@ -19,13 +17,6 @@ abbrev pub Plays : {D T : Type 0} → Timed T → SplitState D T → SplitState 
 Plays timed old new =
     (s : Setup) (x : At) → timed.allows s → IsReachedOn s (timed.run s) x → StandsOn timed s x old
     → IsPlayed timed s x new
-
--- the order that was told is obeyed, if one was, and nothing else changed
-pub record HasObeyed {D T : Type 0} (told : Option Order) (old new : SplitState D T) : Type 0 where
-  pub others : new ≡ record old { func = new.func }
-  pub none : told ≡ None → new.func ≡ old.func
-  pub stands : IfSome told (λ order. (s : Setup) (os : List Order) → WalkStandsFor s os old.func → WalkStandsFor s (order ∷ os) new.func)
-  pub obeyed : IfSome told (λ order. IsObeyed order old.func new.func)
 
 -- nothing is under way between the sides
 pub record IsClear {D T : Type 0} (state : SplitState D T) : Type 0 where

@@ -1,12 +1,10 @@
-ghost use Rattle.std.specs.Prelude.{◌≡◌, [], IfSome};
-ghost use Rattle.side_laws.specs.Along.{MayObey};
-ghost use Rattle.split_core.specs.Plays.{Plays, IsClear, HasObeyed};
+ghost use Rattle.std.specs.Prelude.{◌≡◌};
+ghost use Rattle.split_core.specs.Plays.{Plays, IsClear};
 ghost use Rattle.split_core.specs.Standing.{IsStandingOn};
 
-use crate::state::{SplitState, order_told};
+use crate::state::SplitState;
 use crate::timing::Timing;
 use device_bus::Device;
-use rollback_cmds::Order;
 use time_model::Turn;
 use trace_entry::Entry;
 
@@ -78,7 +76,9 @@ impl<D: Device, T: Timing> SplitState<D, T> {
         }
     }
 
-    /// Plays on with nothing under way, until the run is over.
+    /// Plays on with nothing under way, until the run is over. The program as built makes a test
+    /// behind each call of what may come to a device: so an order is obeyed right here, and by no
+    /// call where none was told.
     fn play_clear(&mut self)
         requires standing { IsStandingOn T.timed self.old }
         requires clear { IsClear self.old }
@@ -86,33 +86,20 @@ impl<D: Device, T: Timing> SplitState<D, T> {
     {
         let mut entry = Entry::BLANK;
         for _ in 0..self.steps {
-            match self.play_turn() {
+            match self.time.run() {
                 Turn::Halted => return,
                 Turn::Want => self.hand_over_wanted(&mut entry),
-                Turn::Moved | Turn::CycleEnd | Turn::Ordered(_) => {}
+                Turn::Ordered(order) => self.func.obey(order),
+                Turn::Moved | Turn::CycleEnd => {}
             }
         }
     }
 
-    /// With nothing under way the timing side makes steps. The order that they tell is obeyed at
-    /// once. The result is what the last one did.
-    fn play_turn(&mut self) -> Turn
-        requires standing { IsStandingOn T.timed self.old }
-        requires clear { IsClear self.old }
-        ensures plays { Plays T.timed self.old self.new }
-        ensures clear { IsClear self.new }
-    {
-        let turn = self.time.run();
-        let told = order_told(turn);
-        if told.is_none() {
-            return turn;
-        }
-        self.obey_told(told);
-        turn
-    }
-
-    /// Hands over one entry after the other, each written over the one before it, as long as the
-    /// timing side wants the next one.
+    /// Hands the timing side one entry after the other as it is computed, each written over the one
+    /// before it, as long as it wants the next one: as where they go through the list of entries,
+    /// with none before them. An order that the steps with an entry tell is obeyed at once. Behind
+    /// a turn that wants an entry neither of the two tests fails: they are there for the conditions
+    /// of the calls.
     fn hand_over_wanted(&mut self, entry: &mut Entry)
         requires standing { IsStandingOn T.timed self.old }
         requires clear { IsClear self.old }
@@ -120,46 +107,20 @@ impl<D: Device, T: Timing> SplitState<D, T> {
         ensures clear { IsClear self.new }
     {
         for _ in 0..self.steps {
-            if self.hand_over(entry) != Turn::Want {
+            if !self.time.wants() {
                 return;
             }
-        }
-    }
-
-    /// Hands the timing side the next entry as it is computed, if it wants one: as where it goes
-    /// through the list of entries, with none before it. The order that the steps with it tell is
-    /// obeyed at once. Behind a turn that wants an entry neither early answer is given: the tests
-    /// are there for the conditions of the calls. The entry is written over the one before it.
-    fn hand_over(&mut self, entry: &mut Entry) -> Turn
-        requires standing { IsStandingOn T.timed self.old }
-        requires clear { IsClear self.old }
-        ensures plays { Plays T.timed self.old self.new }
-        ensures clear { IsClear self.new }
-    {
-        if !self.time.wants() {
-            return Turn::Moved;
-        }
-        if !self.func.produce_into(entry) {
-            return Turn::Moved;
-        }
-        let turn = self.time.feed(entry);
-        let told = order_told(turn);
-        if told.is_none() {
-            return turn;
-        }
-        self.obey_told(told);
-        turn
-    }
-
-    /// Obeys the order that was told, if one was. The program as built makes a test behind each
-    /// call of what may come to a device: it is called only where one was told.
-    #[inline(always)]
-    fn obey_told(&mut self, told: Option<Order>)
-        requires may { IfSome told (λ order. MayObey order self.old.func) }
-        ensures obeyed { HasObeyed told self.old self.new }
-    {
-        if let Some(order) = told {
-            self.func.obey(order);
+            if !self.func.produce_into(entry) {
+                return;
+            }
+            match self.time.feed(entry) {
+                Turn::Want => {}
+                Turn::Ordered(order) => {
+                    self.func.obey(order);
+                    return;
+                }
+                Turn::Moved | Turn::CycleEnd | Turn::Halted => return,
+            }
         }
     }
 }

@@ -268,7 +268,7 @@ impl<D: Device, T: Timing> SplitState<D, T> {
 }
 
 /// The order that a turn tells, if it tells one.
-pub fn order_told(turn: Turn) -> Option<Order>
+fn order_told(turn: Turn) -> Option<Order>
     ensures told { result ≡ order_told turn }
 {
     match turn {

@@ -1,20 +1,78 @@
+use Rattle.std.proofs.Common.{sym, ◌∙◌, ap}
+use Rattle.func_model.specs.Walk.{entry_if}
+use Rattle.side_laws.specs.Along.{MayObey}
+use Rattle.time_model.specs.Turns.{order_told}
+use Rattle.split_core.specs.Plays.{Plays}
 use Rattle.split_core.proofs.OnDemand.{demand_start, demand_more}
+use Rattle.split_core.proofs.Standing.{position_small, epoch_small}
+use Rattle.split_core.proofs.Handing.{Made}
+use Rattle.split_core.proofs.Clear.{clear_at, untold_or_over}
+use Rattle.split_core.proofs.Feeding.{fed_right, fed_silent, fed_may, fed_obeyed}
 use Rattle.split_core.proofs.state.SplitState.hand_over_wanted.Goals as goal
 
 pub loop-init : goal.loop-init
 loop-init g c = record { far = demand_start g.T.Timing.timed g.met.T.Timing.laws c.args.self.now c.requires.standing; clear = c.requires.clear }
 
-pub hand_over-requires : goal.hand_over-requires
-hand_over-requires g c = record { standing = c.loop.invariant.far.standing; clear = c.loop.invariant.clear }
+pub produce_into-requires-clause-position : goal.produce_into-requires-clause-position
+produce_into-requires-clause-position g c = position_small g.T.Timing.timed g.met.T.Timing.laws c.loop.self c.loop.invariant.far.standing
 
-pub returns-then-ne : goal.returns-then-ne
-returns-then-ne g c = record {
-  plays = (demand_more g.T.Timing.timed g.met.T.Timing.laws c.args.self.now c.loop.self c.hand_over.new.self c.loop.invariant.far c.hand_over.ensures.plays).plays;
-  clear = c.hand_over.ensures.clear;
-}
+pub produce_into-requires-clause-epoch : goal.produce_into-requires-clause-epoch
+produce_into-requires-clause-epoch g c = epoch_small g.T.Timing.timed g.met.T.Timing.laws c.loop.self c.loop.invariant.far.standing
+
+pub feed-requires-clause-right : goal.feed-requires-clause-right
+feed-requires-clause-right g c =
+    let made : Made c.loop.self.func c.produce_into.new.self (entry_if c.produce_into.result c.produce_into.new.to) =
+    record { produced = c.produce_into.ensures.produced; moved = c.produce_into.ensures.moved; none = c.produce_into.ensures.none; same = c.produce_into.ensures.same } in
+    fed_right g.T.Timing.timed g.met.T.Timing.laws c.loop.self c.loop.invariant.clear c.produce_into.new.self c.produce_into.new.to c.produce_into.result c.if-not-produce_into.false made
+    (λ s k stands. sym c.if-not-wants.false ∙ c.wants.ensures.needs s k stands) c.loop.invariant.far.standing
+
+pub obey-requires : goal.obey-requires
+obey-requires g c =
+    let made : Made c.loop.self.func c.produce_into.new.self (entry_if c.produce_into.result c.produce_into.new.to) =
+    record { produced = c.produce_into.ensures.produced; moved = c.produce_into.ensures.moved; none = c.produce_into.ensures.none; same = c.produce_into.ensures.same } in
+    let may : MayObey c.in-Ordered.order c.produce_into.new.self =
+    fed_may g.T.Timing.timed g.met.T.Timing.laws c.loop.self c.loop.invariant.clear c.produce_into.new.self c.produce_into.new.to c.produce_into.result c.if-not-produce_into.false made
+    (λ s k stands. sym c.if-not-wants.false ∙ c.wants.ensures.needs s k stands)
+    c.feed.new.self c.feed.result c.feed.ensures.fed c.in-Ordered.order c.in-Ordered.is c.loop.invariant.far.standing in
+    record {
+      reach = may.reach;
+      from = may.from;
+      room = may.room;
+      number = may.number;
+      position = may.position;
+      epoch = may.epoch;
+      within = may.within;
+    }
+
+pub returns-in-Ordered : goal.returns-in-Ordered
+returns-in-Ordered g c =
+    let made : Made c.loop.self.func c.produce_into.new.self (entry_if c.produce_into.result c.produce_into.new.to) =
+    record { produced = c.produce_into.ensures.produced; moved = c.produce_into.ensures.moved; none = c.produce_into.ensures.none; same = c.produce_into.ensures.same } in
+    let plays : Plays g.T.Timing.timed c.loop.self (record c.loop.self { func = c.obey.new.self; time = c.feed.new.self }) =
+    fed_obeyed g.T.Timing.timed g.met.T.Timing.laws c.loop.self c.loop.invariant.clear c.produce_into.new.self c.produce_into.new.to c.produce_into.result c.if-not-produce_into.false made
+    (λ s k stands. sym c.if-not-wants.false ∙ c.wants.ensures.needs s k stands)
+    c.feed.new.self c.feed.result c.feed.ensures.fed c.in-Ordered.order c.in-Ordered.is c.obey.new.self c.obey.ensures.stands c.obey.ensures.moved in
+    let more = demand_more g.T.Timing.timed g.met.T.Timing.laws c.args.self.now c.loop.self (record c.loop.self { func = c.obey.new.self; time = c.feed.new.self }) c.loop.invariant.far plays in
+    record { plays = more.plays; clear = clear_at c.loop.self c.loop.invariant.clear c.obey.new.self c.feed.new.self }
+
+pub returns-in-Moved : goal.returns-in-Moved
+returns-in-Moved g c =
+    let made : Made c.loop.self.func c.produce_into.new.self (entry_if c.produce_into.result c.produce_into.new.to) =
+    record { produced = c.produce_into.ensures.produced; moved = c.produce_into.ensures.moved; none = c.produce_into.ensures.none; same = c.produce_into.ensures.same } in
+    let plays : Plays g.T.Timing.timed c.loop.self (record c.loop.self { func = c.produce_into.new.self; time = c.feed.new.self }) =
+    fed_silent g.T.Timing.timed g.met.T.Timing.laws c.loop.self c.loop.invariant.clear c.produce_into.new.self c.produce_into.new.to c.produce_into.result c.if-not-produce_into.false made
+    (λ s k stands. sym c.if-not-wants.false ∙ c.wants.ensures.needs s k stands)
+    c.feed.new.self c.feed.result c.feed.ensures.fed (untold_or_over c.feed.result c.in-Moved.is) in
+    let more = demand_more g.T.Timing.timed g.met.T.Timing.laws c.args.self.now c.loop.self (record c.loop.self { func = c.produce_into.new.self; time = c.feed.new.self }) c.loop.invariant.far plays in
+    record { plays = more.plays; clear = clear_at c.loop.self c.loop.invariant.clear c.produce_into.new.self c.feed.new.self }
 
 pub loop-preserved : goal.loop-preserved
-loop-preserved g c = record {
-  far = demand_more g.T.Timing.timed g.met.T.Timing.laws c.args.self.now c.loop.self c.hand_over.new.self c.loop.invariant.far c.hand_over.ensures.plays;
-  clear = c.hand_over.ensures.clear;
-}
+loop-preserved g c =
+    let made : Made c.loop.self.func c.produce_into.new.self (entry_if c.produce_into.result c.produce_into.new.to) =
+    record { produced = c.produce_into.ensures.produced; moved = c.produce_into.ensures.moved; none = c.produce_into.ensures.none; same = c.produce_into.ensures.same } in
+    let plays : Plays g.T.Timing.timed c.loop.self (record c.loop.self { func = c.produce_into.new.self; time = c.feed.new.self }) =
+    fed_silent g.T.Timing.timed g.met.T.Timing.laws c.loop.self c.loop.invariant.clear c.produce_into.new.self c.produce_into.new.to c.produce_into.result c.if-not-produce_into.false made
+    (λ s k stands. sym c.if-not-wants.false ∙ c.wants.ensures.needs s k stands)
+    c.feed.new.self c.feed.result c.feed.ensures.fed (ap order_told c.in-Want.is) in
+    let more = demand_more g.T.Timing.timed g.met.T.Timing.laws c.args.self.now c.loop.self (record c.loop.self { func = c.produce_into.new.self; time = c.feed.new.self }) c.loop.invariant.far plays in
+    record { far = more; clear = clear_at c.loop.self c.loop.invariant.clear c.produce_into.new.self c.feed.new.self }
