@@ -1,5 +1,8 @@
 -- A walk that goes back by its journal, or on by execution.
-use Rattle.std.proofs.Common.{◌≡◌, ℕ, suc, ◌+◌, ◌-◌, ◌≤◌, ◌<◌, List, [], ◌∷◌, ◌++◌, length, drop, refl, ap, sym, ◌∙◌, subst, arith}
+use Rattle.std.proofs.Common.{◌≡◌, ℕ, suc, ◌+◌, ◌-◌, ◌≤◌, ◌<◌, List, [], ◌∷◌, ◌++◌, length, take, drop, refl, ap, sym, ◌∙◌, subst, arith}
+use Rattle.std.specs.List.{All}
+use Rattle.std.proofs.lemmas.List.{length-take, length-drop, drop-drop}
+use Rattle.std.proofs.lemmas.List.Elements.{All-same, All-drop}
 use Rattle.rollback_cmds.specs.declared.order.Order.{Order}
 use Rattle.undo_journal.specs.declared.past.Past.{Past}
 use Rattle.undo_journal.specs.Journal.{Log, from_number}
@@ -9,10 +12,10 @@ use Rattle.mono_model.specs.Arch.{Arch}
 use Rattle.mono_model.specs.Path.{path}
 use Rattle.func_model.specs.declared.contents.Contents.{Contents}
 use Rattle.func_model.specs.declared.walk.Walk.{Walk}
-use Rattle.func_model.specs.Undo.{undone, IsRestorable}
+use Rattle.func_model.specs.Undo.{undone, all_undone, IsRestorable}
 use Rattle.func_model.specs.Contents.{ContentsStandFor}
 use Rattle.func_model.specs.Walk.{IsStep, LeadsBack, IsOnPath, WalkStandsFor, IsSameBut, IsOnSomePath, IsStanding}
-use Rattle.func_model.proofs.Leading.{leads_less, leads_from, length_from, drop_from}
+use Rattle.func_model.proofs.Leading.{leads_less, leads_front, leads_newest, leads_all, leads_restorable, leads_from, length_from, drop_from}
 use Rattle.func_model.proofs.Walking.{one_longer}
 
 -- what holds as instructions are taken back until `n` is the next one
@@ -82,18 +85,55 @@ step_back_holds {D} walk contents journal past above is stands space s os now =
     fewer : (position committed count whole : ℕ) → whole ≡ count + 1 → whole ≡ position - committed → count ≡ position - 1 - committed
     fewer position committed count whole is held = omega arith
 
--- what is taken back is above what is committed, and on a path
-pub backing_above : {D : Type 0} (n : ℕ) (opened walk : Walk D) → opened.committed ≤ n → Backing n opened walk → n < walk.position → walk.committed < walk.position
-backing_above n opened walk from at more = omega (arith, at.others.committed)
+-- what the newest steps name exists
+pub newest_restorable : {D : Type 0} (walk : Walk D) (run : List Past) → IsOnSomePath walk → run ≡ drop (length walk.journal.steps - length run) walk.journal.steps → All IsRestorable run
+newest_restorable walk run holding is =
+    let steps = walk.journal.steps in
+    let all = leads_restorable (ram_range holding.setup.params) (path holding.setup holding.orders) walk.committed steps holding.holds.back in
+    All-same IsRestorable run (drop (length steps - length run) steps) is (All-drop IsRestorable (length steps - length run) steps all)
 
+-- of the newest steps those from a place on are taken back
+pub steps_back_holds : {D : Type 0} (walk : Walk D) (contents : Contents D) (journal : Log) (run : List Past) (left : ℕ) → walk.committed < walk.position →
+    run ≡ drop (length walk.journal.steps - length run) walk.journal.steps → length run ≤ length walk.journal.steps → left ≤ length run →
+    journal ≡ record walk.journal { steps = take (length walk.journal.steps - (length run - left)) walk.journal.steps } →
+    ((s : Setup) (a : Arch) → ContentsStandFor s a walk.contents → ContentsStandFor s (all_undone (ram_range s.params) (drop left run) a) contents) → contents.hart.room ≡ walk.contents.hart.room →
+    (s : Setup) (os : List Order) → IsOnPath s os walk → IsOnPath s os (record walk { contents = contents; journal = journal; position = walk.position - (length run - left) })
+steps_back_holds {D} walk contents journal run left above newest short within fewer stands space s os now =
+    let range = ram_range s.params in
+    let at = path s os in
+    let steps = walk.journal.steps in
+    let first = walk.committed in
+    let kept : ℕ = length steps - (length run - left) in
+    let place : length steps - length run + left ≡ kept = omega arith in
+    let taken : drop left run ≡ drop kept steps = ap (λ (later : List Past). drop left later) newest ∙ drop-drop left (length steps - length run) steps ∙ ap (λ (n : ℕ). drop n steps) place in
+    let end : walk.position ≡ first + kept + length (drop kept steps) = omega (arith, now.held, length-drop kept steps) in
+    let here : first + kept ≡ walk.position - (length run - left) = omega (arith, now.held) in
+    let back : all_undone range (drop left run) (at walk.position) ≡ at (walk.position - (length run - left)) =
+    (λ i. all_undone range (taken i) (at (end i))) ∙ leads_all range at (first + kept) (drop kept steps) (leads_newest range at first kept steps now.back (omega arith)) ∙ ap at here in
+    let left_steps : journal.steps ≡ take kept steps = ap (λ (j : Log). j.steps) fewer in
+    let P : Arch → Type 0 = λ a. ContentsStandFor {D = D} s a contents in
+    let L : List Past → Type 0 = λ xs. LeadsBack range at first xs in
+    record {
+      contents = subst P back (stands s (at walk.position) now.contents);
+      back = subst L (sym left_steps) (leads_front range at first kept steps now.back);
+      held = ap (length {A = Past}) left_steps ∙ omega (arith, now.held, length-take kept steps);
+      capacity = ap (λ (j : Log). j.room) fewer ∙ now.capacity;
+      limit = now.limit;
+      space = space ∙ now.space;
+      given = now.given;
+      epoch = now.epoch;
+      within = now.within;
+    }
+
+-- what is taken back is on a path
 pub backing_holding : {D : Type 0} (n : ℕ) (opened walk : Walk D) → (n < opened.position → IsOnSomePath opened) → Backing n opened walk → n < walk.position → IsOnSomePath walk
 backing_holding n opened walk holding at more =
     let held = holding (omega (arith, at.within)) in
     record { setup = held.setup; orders = held.orders; holds = at.holds held.setup held.orders held.holds }
 
 pub backing_more : {D : Type 0} (n : ℕ) (opened walk next : Walk D) → Backing n opened walk → n < walk.position →
-    ((s : Setup) (os : List Order) → IsOnPath s os walk → IsOnPath s os next) → next.position + 1 ≡ walk.position → IsSameBut walk next → Backing n opened next
-backing_more {D} n opened walk next at more holds position same = record {
+    ((s : Setup) (os : List Order) → IsOnPath s os walk → IsOnPath s os next) → n ≤ next.position → next.position < walk.position → IsSameBut walk next → Backing n opened next
+backing_more {D} n opened walk next at more holds above less same = record {
   holds = λ s os h. holds s os (at.holds s os h);
   others = record {
     committed = same.committed ∙ at.others.committed;
@@ -103,7 +143,7 @@ backing_more {D} n opened walk next at more holds position same = record {
     limit = same.limit ∙ at.others.limit;
   };
   within = omega (arith, at.within);
-  above = λ up. omega arith;
+  above = λ up. above;
   stays = λ low. absurd (omega (arith, ap (λ (w : Walk D). w.position) (at.stays low)));
 }
 

@@ -1,12 +1,14 @@
 -- Undo steps that lead back along a path: one more, one fewer, those from a number on, and along another path.
-use Rattle.std.proofs.Common.{◌≡◌, ℕ, suc, ◌+◌, ◌-◌, ◌≤◌, ◌<◌, nat_le, List, [], ◌∷◌, ◌++◌, length, drop, refl, ap, sym, ◌∙◌, subst, arith, inl, inr}
+use Rattle.std.proofs.Common.{◌≡◌, ℕ, zero, suc, ◌+◌, ◌-◌, ◌≤◌, ◌<◌, nat_le, List, [], ◌∷◌, ◌++◌, length, take, drop, refl, ap, sym, ◌∙◌, subst, arith, inl, inr}
 use Rattle.std.proofs.lemmas.Bool.{le-leb, lt-leb, cond-true, cond-false, cases_lt}
 use Rattle.std.proofs.lemmas.List.{drop_all}
+use Rattle.std.specs.List.{All}
+use Rattle.std.proofs.lemmas.List.Elements.{All-nil, All-cons}
 use Rattle.fsim_base.specs.declared.access.RamRange.{RamRange}
 use Rattle.undo_journal.specs.declared.past.Past.{Past}
 use Rattle.undo_journal.specs.Journal.{from_number}
 use Rattle.mono_model.specs.Arch.{Arch}
-use Rattle.func_model.specs.Undo.{undone}
+use Rattle.func_model.specs.Undo.{undone, all_undone, IsRestorable}
 use Rattle.func_model.specs.Walk.{IsStep, LeadsBack}
 
 -- the steps from a number on, without or with the oldest
@@ -32,6 +34,29 @@ module _ (range : RamRange) (at : ℕ → Arch) where
   leads_less m (p ∷ ps) past leads =
       let less = leads_less (suc m) ps past leads.1 in
       ((leads.0, less.0), step_for (suc m + length ps) (m + length (p ∷ ps)) past (omega arith) less.1)
+
+  -- without the newest ones, and those
+  pub leads_front : (m k : ℕ) (steps : List Past) → LeadsBack range at m steps → LeadsBack range at m (take k steps)
+  leads_front m zero steps leads = tt
+  leads_front m (suc k) [] leads = tt
+  leads_front m (suc k) (p ∷ ps) leads = (leads.0, leads_front (suc m) k ps leads.1)
+
+  pub leads_newest : (m k : ℕ) (steps : List Past) → LeadsBack range at m steps → k ≤ length steps → LeadsBack range at (m + k) (drop k steps)
+  leads_newest m zero steps leads within = subst (λ (n : ℕ). LeadsBack range at n steps) (omega arith) leads
+  leads_newest m (suc k) [] leads within = absurd (omega (arith, within))
+  leads_newest m (suc k) (p ∷ ps) leads within =
+      subst (λ (n : ℕ). LeadsBack range at n (drop k ps)) (omega arith) (leads_newest (suc m) k ps leads.1 (omega (arith, within)))
+
+  -- all of them lead back, and what they name exists
+  pub leads_all : (m : ℕ) (steps : List Past) → LeadsBack range at m steps → all_undone range steps (at (m + length steps)) ≡ at m
+  leads_all m [] leads = ap at (omega arith)
+  leads_all m (p ∷ ps) leads =
+      let end : m + length (p ∷ ps) ≡ suc m + length ps = omega arith in
+      ap (λ (n : ℕ). undone range p (all_undone range ps (at n))) end ∙ ap (undone range p) (leads_all (suc m) ps leads.1) ∙ leads.0.back
+
+  pub leads_restorable : (m : ℕ) (steps : List Past) → LeadsBack range at m steps → All IsRestorable steps
+  leads_restorable m [] leads = All-nil IsRestorable
+  leads_restorable m (p ∷ ps) leads = All-cons IsRestorable p ps leads.0.restorable (leads_restorable (suc m) ps leads.1)
 
   -- all steps are from their first number on
   pub from_all : (m n : ℕ) (steps : List Past) → LeadsBack range at m steps → n ≤ m → from_number n steps ≡ steps

@@ -14,6 +14,7 @@ pub mod Loads
 pub mod Made
 pub mod Outputs
 pub mod Path
+pub mod Plain
 pub mod Reaching
 pub mod Reported
 pub mod Running

@@ -1,5 +1,5 @@
 -- What takes a state back before an instruction.
-use Rattle.std.specs.Prelude.{◌≡◌, ℕ, ◌-◌, ◌%◌, ◌<◌, Bool, true, false, if◌then◌else◌, List, length, take, is_some, Option, Some, None}
+use Rattle.std.specs.Prelude.{◌≡◌, ℕ, ◌-◌, ◌%◌, ◌<◌, Bool, true, false, if◌then◌else◌, List, [], ◌∷◌, length, take, is_some, Option, Some, None}
 use Rattle.fsim_base.specs.declared.access.RamRange.{RamRange}
 use Rattle.fsim_base.specs.Width.{width_bytes}
 use Rattle.machine_csr.specs.declared.csrs.Csrs.{Csrs}
@@ -102,6 +102,15 @@ undone range past a = record {
   devices = devices_back past.change a.devices;
   output = if past.out then shortened a.output else a.output;
 }
+
+-- the same before instructions, the oldest first, and the registers alone
+abbrev pub all_undone : RamRange → List Past → Arch → Arch
+all_undone range [] a = a
+all_undone range (past ∷ later) a = undone range past (all_undone range later a)
+
+abbrev pub all_registers_back : List Past → (ℕ → ℕ) → (ℕ → ℕ)
+all_registers_back [] regs = regs
+all_registers_back (past ∷ later) regs = registers_back past.reg (all_registers_back later regs)
 
 -- what a change names exists: a store is aligned, and a device has the slot that is named
 abbrev pub IsRestorableChange : Change → Type 0

@@ -1,6 +1,7 @@
 ghost use Rattle.std.specs.Prelude.{◌≡◌, ◌<◌, ◌≤◌, ◌+◌, ◌-◌, ◌^◌, Some, IfOk, is_none, length};
 ghost use Rattle.std.specs.Prelude.{ℕ, Option, IfSome, IfNone, ◌&&◌, map, true, is_some};
-ghost use Rattle.std.specs.Prelude.{if◌then◌else◌, None, false};
+ghost use Rattle.std.specs.Prelude.{if◌then◌else◌, None, false, drop};
+ghost use Rattle.std.specs.List.{All};
 ghost use Rattle.mono_model.specs.Result.{is_time_load, is_time_read};
 ghost use Rattle.func_model.specs.Hart.{found_in};
 ghost use Rattle.mono_model.specs.Arch.{compare_of};
@@ -107,8 +108,7 @@ impl<D: Device> Contents<D> {
     ghost use Rattle.func_model.specs.Steps.{stepped_by};
     ghost use Rattle.func_model.specs.Contents.{ContentsStandFor, retired_in, output_in};
     ghost use Rattle.func_model.specs.Contents.{after_instruction, before, GoesOn};
-    ghost use Rattle.func_model.specs.Undo.{undone, IsRestorable};
-    ghost use Rattle.undo_journal.specs.Journal.{IsPlain};
+    ghost use Rattle.func_model.specs.Undo.{undone, all_undone, IsRestorable};
     ghost use Rattle.func_model.specs.History.{resumed, step_undone, step_seq};
     ghost use Rattle.func_model.specs.History.{instruction_in, IsMade, going_on};
     ghost use Rattle.func_model.specs.Hart.{FetchedFits, next_found, IsRegister};
@@ -549,16 +549,18 @@ impl<D: Device> Contents<D> {
         self.cmp = compare_behind(&self.bus, past.change, self.cmp);
     }
 
-    /// Takes an instruction back whose undo step is plain.
+    /// Takes instructions back, the last one first, as far as their undo steps are plain: how many
+    /// are left.
     #[inline(always)]
-    pub fn undo_plain(&mut self, past: Past)
-        requires restorable { IsRestorable past }
-        requires plain { IsPlain past }
+    pub fn undo_plain(&mut self, steps: &[Past]) -> usize
+        requires restorable { All IsRestorable steps.now }
+        ensures within { result ≤ length steps.now }
         ensures stands { (s : Setup) (a : Arch) → ContentsStandFor s a self.old
-            → ContentsStandFor s (undone (ram_range s.params) past a) self.new }
+            → ContentsStandFor s
+            (all_undone (ram_range s.params) (drop result steps.now) a) self.new }
         ensures room { self.new.hart.room ≡ self.old.hart.room }
     {
-        self.hart.restore_plain(past);
+        self.hart.restore_plain(steps)
     }
 
     /// Goes on at another address.

@@ -1,6 +1,7 @@
 ghost use Rattle.std.specs.Prelude.{◌≡◌, ◌≤◌, ◌<◌, ◌^◌, ◌+◌, ◌-◌, ◌%◌, ℕ, None, Some};
 ghost use Rattle.std.specs.Prelude.{slice_index, vec_capacity, unwrap_or, if◌then◌else◌};
-ghost use Rattle.std.specs.Prelude.{Option, IfSome, IfNone, true};
+ghost use Rattle.std.specs.Prelude.{Option, IfSome, IfNone, true, length, drop};
+ghost use Rattle.std.specs.List.{All};
 ghost use Rattle.mono_model.specs.Arch.{compare_of};
 ghost use Rattle.mono_model.specs.Found.{is_csr_insn, is_mret_insn};
 ghost use Rattle.mono_model.specs.Result.{attempted, csr_value};
@@ -250,7 +251,8 @@ impl Hart {
     ghost use Rattle.func_model.specs.Hart.{arch_of, next_found, IsRegister};
     ghost use Rattle.func_model.specs.Undo.{undone, TakesBack, IsRestorable, IsRestorableChange};
     ghost use Rattle.func_model.specs.Undo.{IsOfLoad, uncounted, devices_back, changed_back};
-    ghost use Rattle.func_model.specs.Undo.{register_before, trap_back};
+    ghost use Rattle.func_model.specs.Undo.{register_before, trap_back, all_undone};
+    ghost use Rattle.func_model.specs.Undo.{registers_back, all_registers_back};
     ghost use Rattle.fsim_base.specs.declared.access.RamRange.{RamRange};
     ghost use Rattle.undo_journal.specs.declared.past.Change.TheVariants.{Csr};
     ghost use Rattle.undo_journal.specs.Journal.{IsPlain};
@@ -985,20 +987,56 @@ impl Hart {
         self.csrs.retired = self.csrs.retired.saturating_sub(1);
     }
 
-    /// Takes an instruction back whose undo step is plain.
-    #[tactic(auto, unfolding(crate::specs::Hart::arch_of, crate::specs::Undo::undone))]
+    /// Puts back what a register was.
     #[inline(always)]
-    pub fn restore_plain(&mut self, past: Past)
-        requires restorable { IsRestorable past }
-        requires plain { IsPlain past }
-        ensures arch { (range : RamRange) (d : Devices)
-            → arch_of self.new d ≡ undone range past (arch_of self.old d) }
+    fn put_register(&mut self, before: OldRegister)
+        requires exists { before.register < 32 }
+        ensures regs { (λ r. slice_index self.new.regs r)
+            ≡ registers_back before (λ r. slice_index self.old.regs r) }
+        ensures others { self.new ≡ record self.old { regs = self.new.regs } }
+    {
+        self.regs[before.register as usize] = before.value;
+    }
+
+    /// Puts back the registers of instructions, the last one first, as far as their undo steps are
+    /// plain: how many are left.
+    #[inline(always)]
+    fn put_registers(&mut self, steps: &[Past]) -> usize
+        requires restorable { All IsRestorable steps.now }
+        ensures within { result ≤ length steps.now }
+        ensures plain { All IsPlain (drop result steps.now) }
+        ensures regs { (λ r. slice_index self.new.regs r)
+            ≡ all_registers_back (drop result steps.now) (λ r. slice_index self.old.regs r) }
+        ensures others { self.new ≡ record self.old { regs = self.new.regs } }
+    {
+        let mut left = steps.len();
+        while left > 0 && steps[left - 1].is_plain() {
+            left -= 1;
+            self.put_register(steps[left].reg);
+        }
+        left
+    }
+
+    /// Takes instructions back, the last one first, as far as their undo steps are plain: how many
+    /// are left. The next address and the count of retired instructions are put back once for all.
+    #[tactic(auto, unfolding(crate::specs::Hart::arch_of))]
+    #[inline(always)]
+    pub fn restore_plain(&mut self, steps: &[Past]) -> usize
+        requires restorable { All IsRestorable steps.now }
+        ensures within { result ≤ length steps.now }
+        ensures plain { All IsPlain (drop result steps.now) }
+        ensures arch { (range : RamRange) (d : Devices) → arch_of self.new d
+            ≡ all_undone range (drop result steps.now) (arch_of self.old d) }
         ensures memory { self.new.memory ≡ self.old.memory }
         ensures room { self.new.room ≡ self.old.room }
     {
-        self.regs[past.reg.register as usize] = past.reg.value;
-        self.pc = past.addr;
-        self.uncount();
+        let left = self.put_registers(steps);
+        if left < steps.len() {
+            self.pc = steps[left].addr;
+            let count = (steps.len() - left) as u64;
+            self.csrs.retired = self.csrs.retired.saturating_sub(count);
+        }
+        left
     }
 
     /// Takes an instruction back.

@@ -219,26 +219,27 @@ impl<D: Device> Walk<D> {
         self.position += 1;
     }
 
-    /// Takes the instruction back that was executed last. What is committed isn't taken back.
+    /// Takes back, of the instructions that were executed last and not below instruction `n`, those
+    /// that changed nothing beside a register, as far as their undo steps stand side by side.
     #[inline(always)]
-    fn step_back(&mut self)
+    fn step_back_plain(&mut self, n: u64)
         requires holding { IsOnSomePath self.old }
-        requires above { self.old.committed < self.old.position }
+        requires above { n < self.old.position }
+        requires from { self.old.committed ≤ n }
         ensures holds { (s : RunSetup) (os : List SpecOrder) → IsOnPath s os self.old
             → IsOnPath s os self.new }
-        ensures position { self.new.position + 1 ≡ self.old.position }
+        ensures above { n ≤ self.new.position }
+        ensures within { self.new.position ≤ self.old.position }
         ensures others { IsSameBut self.old self.new }
     {
-        if let Some(past) = self.journal.back_plain() {
-            self.contents.undo_plain(past);
-            self.position -= 1;
-        } else {
-            self.step_back_by_call();
-        }
+        let steps = self.journal.newest_run(self.position - n);
+        let count = steps.len() - self.contents.undo_plain(steps);
+        self.journal.drop_newest(count);
+        self.position -= count as u64;
     }
 
-    /// The same, whatever the instruction changed. It stays a call: what most instructions changed
-    /// needs no frame of it.
+    /// Takes the instruction back that was executed last, whatever it changed. It stays a call: what
+    /// most instructions changed needs no frame of it.
     #[inline(never)]
     fn step_back_by_call(&mut self)
         requires holding { IsOnSomePath self.old }
@@ -255,6 +256,25 @@ impl<D: Device> Walk<D> {
         self.position -= 1;
     }
 
+    /// Takes instructions back, at least one, and none below instruction `n`. What is committed isn't
+    /// taken back.
+    #[inline(always)]
+    fn step_back(&mut self, n: u64)
+        requires holding { IsOnSomePath self.old }
+        requires above { n < self.old.position }
+        requires from { self.old.committed ≤ n }
+        ensures holds { (s : RunSetup) (os : List SpecOrder) → IsOnPath s os self.old
+            → IsOnPath s os self.new }
+        ensures above { n ≤ self.new.position }
+        ensures less { self.new.position < self.old.position }
+        ensures others { IsSameBut self.old self.new }
+    {
+        self.step_back_plain(n);
+        if self.position > n {
+            self.step_back_by_call();
+        }
+    }
+
     /// Takes instructions back until instruction `n` is the next one. What is committed isn't taken
     /// back.
     fn go_back(&mut self, n: u64)
@@ -267,7 +287,7 @@ impl<D: Device> Walk<D> {
         ensures others { IsSameBut self.old self.new }
     {
         while self.position > n {
-            self.step_back();
+            self.step_back(n);
         }
     }
 

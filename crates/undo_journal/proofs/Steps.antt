@@ -1,12 +1,13 @@
 -- A list of steps with rising numbers: its newest step, one step more, and the steps from a number on.
-use Rattle.std.proofs.Common.{◌≡◌, ℕ, zero, suc, ◌+◌, ◌-◌, ◌<◌, ◌≤◌, nat_lt, nat_le, List, [], ◌∷◌, ◌++◌, length, get_or, take, drop, min, refl, sym, ap, ◌∙◌, arith, Option, Some, None, if◌then◌else◌, slice_get, IfSome, IfNone, All, inl, inr}
+use Rattle.std.proofs.Common.{◌≡◌, ◌==◌, true, ℕ, zero, suc, ◌+◌, ◌-◌, ◌<◌, ◌≤◌, nat_lt, nat_le, List, [], ◌∷◌, ◌++◌, length, get_or, take, drop, min, refl, sym, ap, ◌∙◌, arith, Option, Some, None, IfSome, IfNone, All, inl, inr}
 use Rattle.std.specs.List.{prefix_len}
 use Rattle.std.proofs.lemmas.List.Kept.{AllPairs-filter}
 use Rattle.std.proofs.lemmas.List.Sums.{prefix_len-le-length}
 use Rattle.std.proofs.lemmas.List.Quantifiers.{all_pairs_push}
 use Rattle.std.proofs.lemmas.Option.{slice_get-get_or}
 use Rattle.std.proofs.lemmas.Bool.{cases_lt}
-use Rattle.std.proofs.lemmas.List.{get_or_append_left, length-append, drop_all}
+use Rattle.std.proofs.lemmas.List.{get_or_append_left, append-nil, length-append, length-take, length-drop, get_or-take, take_rest, drop_all}
+use Rattle.std.proofs.Math.Seq.{drop-append-add}
 use Rattle.std.proofs.lemmas.List.Elements.{All-filter}
 use Rattle.circular_buffer.specs.Buffer.{keep_last}
 use Rattle.circular_buffer.proofs.Items.{pops_last}
@@ -55,6 +56,27 @@ rising_without zero ps rising = rising
 rising_without (suc n) [] rising = rising
 rising_without (suc n) (p ∷ ps) rising = rising_without n ps (rest_rises p ps rising)
 
+-- without the newest ones
+pub rising_front : (n : ℕ) (ps : List Past) → IsRising ps → IsRising (take n ps)
+rising_front n ps rising i j d before within =
+    let low : get_or (take n ps) i d ≡ get_or ps i d = get_or-take n ps i d (omega (arith, length-take n ps)) in
+    let high : get_or (take n ps) j d ≡ get_or ps j d = get_or-take n ps j d (omega (arith, length-take n ps)) in
+    rw (low, high) (rising i j d before (omega (arith, length-take n ps)))
+
+-- the newest ones, of those that stand behind others
+pub run_newest : (front run ps : List Past) (n : ℕ) → front ++ run ≡ ps → n ≤ length run →
+    take (length run - (length run - n)) (drop (length run - n) run) ≡ drop (length ps - length (take (length run - (length run - n)) (drop (length run - n) run))) ps
+run_newest front run ps n is within =
+    let shown = take_rest run (length run - n) in
+    let at : length (front ++ run) - length (drop (length run - n) run) ≡ length front + (length run - n) =
+    omega (arith, length-append front run, length-drop (length run - n) run) in
+    rw (shown, ← is, at) (sym (drop-append-add front run (length run - n)))
+
+-- where none stand behind
+pub none_behind : (ps later : List Past) → (length later == 0) ≡ true → ps ++ later ≡ ps
+none_behind ps [] none = append-nil ps
+none_behind ps (q ∷ later) none = absurd (grind (arith, none))
+
 -- to keep the newest ones is to drop the others, or all where there are fewer
 pub keep_newest : (n : ℕ) (ps : List Past) → keep_last (length ps - min n (length ps)) ps ≡ drop n ps
 keep_newest n ps = elim (cases_lt n (length ps)) [
@@ -88,11 +110,6 @@ below_from m n ps below = All-filter (λ p. nat_le m p.number) (λ p. p.number <
 pub below_front : (n : ℕ) (ps : List Past) (p : Past) → All (λ p. p.number < n) (ps ++ p ∷ []) → All (λ p. p.number < n) ps
 below_front n ps p below = λ k d within.
     rw (← get_or_append_left ps (p ∷ []) d k within) (below k d (omega (arith, length-append ps (p ∷ []))))
-
--- a step that is shown as the newest one
-pub newest_shown : (ps : List Past) (p : Past) → Some p ≡ (if nat_lt 0 (length ps) then slice_get ps (length ps - 0 - 1) else None) → Some p ≡ newest ps
-newest_shown [] p shown = cc
-newest_shown (q ∷ ps) p shown = grind (arith, shown)
 
 -- what is left in front of the newest step, and the newest step behind it
 module _ (log : Log) (room : ℕ) (rest : List Past) (same_room : room ≡ log.room) (front : rest ≡ take (length log.steps - 1) log.steps) where

@@ -23,9 +23,9 @@ impl Model for Journal {
 
 impl Journal {
     ghost use Rattle.std.specs.Prelude.{◌≡◌, ◌↔◌, ◌<◌, ◌≤◌, ◌++◌, ◌∷◌, [], length, IsTrue, IsNone};
-    ghost use Rattle.std.specs.Prelude.{IfOk, IfSome, IfNone, nat_lt, drop};
+    ghost use Rattle.std.specs.Prelude.{IfOk, IfSome, IfNone, nat_lt, ◌-◌, take, drop};
     ghost use Rattle.std.specs.List.{prefix_len};
-    ghost use Rattle.undo_journal.specs.Journal.{IsRising, newest, from_number, IsPlain};
+    ghost use Rattle.undo_journal.specs.Journal.{IsRising, newest, from_number};
 
     /// An empty journal with room for `capacity` steps. All its memory is taken here.
     pub fn with_room(alloc: Global, capacity: u32) -> Result<Journal, NoMemory>
@@ -75,24 +75,31 @@ impl Journal {
         self.steps.pop_back()
     }
 
-    /// Removes the newest step and gives it, where it is plain. None, and nothing removed, of any
-    /// other.
+    /// The newest steps, at most so many, as far as they stand side by side. None only where the
+    /// journal holds none or none are asked for.
     #[inline(always)]
-    #[tactic(auto, using(crate::proofs::Steps::split_newest, crate::proofs::Steps::split_empty))]
-    pub fn back_plain(&mut self) -> Option<Past>
-        ensures newest { IfSome result (λ p. self.old ≡ record self.new
-            { steps = self.new.steps ++ p ∷ [] }) }
-        ensures plain { IfSome result IsPlain }
-        ensures none { IfNone result (self.new ≡ self.old) }
+    pub fn newest_run(&self, most: u64) -> &[Past]
+        ensures newest { result.now
+            ≡ drop (length self.now.steps - length result.now) self.now.steps }
+        ensures within { length result.now ≤ length self.now.steps }
+        ensures most { length result.now ≤ most }
+        ensures some { 0 < most → 0 < length self.now.steps → 0 < length result.now }
     {
-        let newest = self.steps.nth_back(0)?;
-        if !newest.is_plain() {
-            return None;
-        }
-        // What is read where it stands isn't moved with all that others need.
-        let plain = *newest;
-        let _ = self.steps.pop_back();
-        Some(plain)
+        let (earlier, later) = self.steps.as_slices();
+        let run = if later.is_empty() { earlier } else { later };
+        let count = most.min(run.len() as u64) as usize;
+        &run[run.len() - count..]
+    }
+
+    /// Removes so many of the newest steps, or all where there are fewer.
+    #[inline(always)]
+    #[tactic(auto, using(crate::proofs::Steps::rising_front))]
+    pub fn drop_newest(&mut self, count: usize)
+        ensures kept { self.new ≡ record self.old
+            { steps = take (length self.old.steps - count) self.old.steps } }
+    {
+        let kept = self.steps.len().saturating_sub(count);
+        self.steps.truncate_back(kept);
     }
 
     /// Removes the steps whose numbers are below `n`.

@@ -1,5 +1,5 @@
 use Rattle.std.proofs.Common.{arith}
-use Rattle.func_model.proofs.Going.{backing_start, backing_more, backing_above, backing_holding}
+use Rattle.func_model.proofs.Going.{backing_start, backing_more, backing_holding}
 use Rattle.func_model.proofs.walk.Walk.go_back.Goals as goal
 
 pub loop-self-init : goal.loop-self-init
@@ -8,13 +8,13 @@ loop-self-init g c = backing_start c.args.n c.args.self.now
 pub step_back-requires-clause-holding : goal.step_back-requires-clause-holding
 step_back-requires-clause-holding g c = backing_holding c.args.n c.args.self.now c.loop-self.self c.requires.holding c.loop-self.invariant c.loop-self-test.true
 
-pub step_back-requires-clause-above : goal.step_back-requires-clause-above
-step_back-requires-clause-above g c = backing_above c.args.n c.args.self.now c.loop-self.self c.requires.from c.loop-self.invariant c.loop-self-test.true
+pub step_back-requires-clause-from : goal.step_back-requires-clause-from
+step_back-requires-clause-from g c = omega (arith, c.requires.from, c.loop-self.invariant.others.committed)
 
 pub loop-self-preserved : goal.loop-self-preserved
 loop-self-preserved g c =
     backing_more c.args.n c.args.self.now c.loop-self.self c.step_back.new.self c.loop-self.invariant c.loop-self-test.true
-    c.step_back.ensures.holds c.step_back.ensures.position c.step_back.ensures.others
+    c.step_back.ensures.holds c.step_back.ensures.above c.step_back.ensures.less c.step_back.ensures.others
 
 pub returns-clause-holds : goal.returns-clause-holds
 returns-clause-holds g c = c.loop-self.invariant.holds
