@@ -19,13 +19,13 @@ use std::marker::Model;
 #[derive(Debug, Drop)]
 pub struct Stations {
     /// For each turn, the index of the station that took it last.
-    at_turn: Vec<u8>,
+    at_turn: [u8; 256],
     /// How many stations there are. The oldest has the turn `retired`.
     count: u32,
     /// What each index keeps of the station that holds it.
     rows: Vec<Row>,
     /// The index of each register's producer, where it has one that isn't done.
-    producers: Vec<Option<u32>>,
+    producers: [Option<u32>; 256],
     /// How many wait.
     waiting: u32,
     /// By their turns, which wait, which execute and which miss operands.
@@ -47,16 +47,16 @@ impl Model for Stations {
     ghost view = { λ s. record {
       capacity = length s.rows.items;
       stations = stations_at (row_at s.rows.items)
-          (indices_from s.at_turn.items s.retired s.count);
+          (indices_from s.at_turn s.retired s.count);
     } };
 
     ghost invariant = { λ s.
-        AreTables (length s.rows.items) (indices_from s.at_turn.items s.retired s.count)
-        s.rows.items s.producers.items s.waiting
-        × AreTurned s.retired (indices_from s.at_turn.items s.retired s.count) s.rows.items
+        AreTables (length s.rows.items) (indices_from s.at_turn s.retired s.count)
+        s.rows.items s.producers s.waiting
+        × AreTurned s.retired (indices_from s.at_turn s.retired s.count) s.rows.items
         × AreSetsOf (length s.rows.items) s.retired (stations_at (row_at s.rows.items)
-        (indices_from s.at_turn.items s.retired s.count)) s.sets
-        × (length s.at_turn.items ≡ 256) };
+        (indices_from s.at_turn s.retired s.count)) s.sets
+        × (length s.at_turn ≡ 256) };
 }
 
 impl Stations {
@@ -75,23 +75,17 @@ impl Stations {
         requires limit { capacity ≤ 256 }
         ensures empty { IfOk result (λ it. it ≡ record { capacity = capacity; stations = [] }) }
     {
-        let Ok(at_turn) = vec![in alloc; 0; 256] else {
-            return Err(NoMemory);
-        };
         let Ok(rows) = vec![in alloc; Row::free(); capacity as usize] else {
-            return Err(NoMemory);
-        };
-        let Ok(producers) = vec![in alloc; None; 256] else {
             return Err(NoMemory);
         };
         let Ok(sets) = Sets::new(alloc, capacity) else {
             return Err(NoMemory);
         };
         Ok(Stations {
-            at_turn,
+            at_turn: [0; 256],
             count: 0,
             rows,
-            producers,
+            producers: [None; 256],
             waiting: 0,
             sets,
             retired: 0,

@@ -1,5 +1,5 @@
 //! What is read of the rows and by turns, and the table of producers.
-ghost use Rattle.std.specs.Prelude.{◌≡◌, ◌<◌, ◌≤◌, ◌+◌, vec_len, if◌then◌else◌};
+ghost use Rattle.std.specs.Prelude.{◌≡◌, ◌<◌, ◌≤◌, ◌+◌, vec_len, length, if◌then◌else◌};
 ghost use Rattle.std.specs.Prelude.{List, reverse};
 ghost use Rattle.reservation_stations.specs.declared.station.Station.{Station};
 ghost use Rattle.reservation_stations.specs.Readiness.{is_waiting, waiting_count};
@@ -12,9 +12,8 @@ use crate::row::Row;
 use crate::station::Mark;
 
 /// The index of the station that has yet to give the value of a source, if one has.
-pub fn awaited(producers: &Vec<Option<u32>>, source: Option<u8>) -> Option<u32>
-    requires every_register { vec_len producers.now ≡ 256 }
-    ensures awaited { (older : List Station) → AreProducers producers.now.items older
+pub fn awaited(producers: &[Option<u32>; 256], source: Option<u8>) -> Option<u32>
+    ensures awaited { (older : List Station) → AreProducers producers.now older
         → result ≡ awaited older source }
 {
     let register = source?;
@@ -22,9 +21,8 @@ pub fn awaited(producers: &Vec<Option<u32>>, source: Option<u8>) -> Option<u32>
 }
 
 /// Makes an index the producer of a register, if one is given, or none.
-pub fn set_producer(producers: &mut Vec<Option<u32>>, register: Option<u8>, index: Option<u32>)
-    requires every_register { vec_len producers.old ≡ 256 }
-    ensures set { producers.new.items ≡ with_producer register index producers.old.items }
+pub fn set_producer(producers: &mut [Option<u32>; 256], register: Option<u8>, index: Option<u32>)
+    ensures set { producers.new ≡ with_producer register index producers.old }
 {
     if let Some(register) = register {
         producers[register as usize] = index;
@@ -32,11 +30,10 @@ pub fn set_producer(producers: &mut Vec<Option<u32>>, register: Option<u8>, inde
 }
 
 /// Makes a register, if one is given, have no producer, where this index is its producer.
-pub fn drop_producer(producers: &mut Vec<Option<u32>>, register: Option<u8>, index: u32)
-    requires every_register { vec_len producers.old ≡ 256 }
-    ensures dropped { producers.new.items ≡
-        with_producer register (without index (producer_at producers.old.items register))
-        producers.old.items }
+pub fn drop_producer(producers: &mut [Option<u32>; 256], register: Option<u8>, index: u32)
+    ensures dropped { producers.new ≡
+        with_producer register (without index (producer_at producers.old register))
+        producers.old }
 {
     if let Some(register) = register
         && producers[register as usize] == Some(index)
@@ -47,25 +44,23 @@ pub fn drop_producer(producers: &mut Vec<Option<u32>>, register: Option<u8>, ind
 
 /// Makes the producers those of so many stations from a turn on, and gives how many of them wait.
 pub fn rename(
-    producers: &mut Vec<Option<u32>>,
-    at_turn: &Vec<u8>,
+    producers: &mut [Option<u32>; 256],
+    at_turn: &[u8; 256],
     rows: &Vec<Row>,
     from: u8,
     count: u32,
 ) -> u32
-    requires every_register { vec_len producers.old ≡ 256 }
-    requires every_turn { vec_len at_turn.now ≡ 256 }
     requires few { count ≤ 256 }
     requires within { Each (λ index. index < vec_len rows.now)
-        (indices_from at_turn.now.items from count) }
-    ensures every_register { vec_len producers.new ≡ 256 }
-    ensures renamed { AreProducers producers.new.items
+        (indices_from at_turn.now from count) }
+    ensures every_register { length producers.new ≡ 256 }
+    ensures renamed { AreProducers producers.new
         (stations_at (row_at rows.now.items)
-        (reverse (indices_from at_turn.now.items from count))) }
+        (reverse (indices_from at_turn.now from count))) }
     ensures waiting { result ≡ waiting_count
-        (stations_at (row_at rows.now.items) (indices_from at_turn.now.items from count)) }
+        (stations_at (row_at rows.now.items) (indices_from at_turn.now from count)) }
 {
-    producers.fill(None);
+    *producers = [None; 256];
     let mut waiting = 0;
     for place in 0..count {
         let turn = from.wrapping_add(place as u8);

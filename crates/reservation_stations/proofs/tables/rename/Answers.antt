@@ -1,6 +1,6 @@
-use Rattle.std.proofs.Common.{◌≡◌, ◌∙◌, ◌+◌, ◌%◌, ◌<◌, length, if◌then◌else◌, Some, None, ap, sym, arith, subst}
+use Rattle.std.proofs.Common.{◌≡◌, ◌∙◌, ◌+◌, ◌%◌, ◌<◌, ℕ, length, get_or, if◌then◌else◌, Option, Some, None, refl, ap, sym, arith, subst}
 use Rattle.std.specs.Prelude.{vec_len}
-use Rattle.std.proofs.lemmas.List.{get_or_read}
+use Rattle.std.proofs.lemmas.List.{get_or_read, get_or-replicate, length-replicate}
 use Rattle.reservation_stations.specs.Readiness.{is_waiting, is_done}
 use Rattle.reservation_stations.specs.AreTables.{row_at, free_row}
 use Rattle.reservation_stations.specs.Changes.{with_producer}
@@ -9,18 +9,24 @@ use Rattle.reservation_stations.proofs.Keeping.{producers_more, waiting_more, wa
 use Rattle.reservation_stations.proofs.tables.rename.Goals.{then-is_done, else-is_done}
 use Rattle.reservation_stations.proofs.tables.rename.Goals as goal
 
-pub index-requires-in-loop-place : goal.index-requires-in-loop-place
-index-requires-in-loop-place c =
-    let turns = c.args.at_turn.now.items in
+pub loop-place-init : goal.loop-place-init
+loop-place-init c = record {
+  every_register = length-replicate {A = Option ℕ} 256 None;
+  renamed = λ register within. get_or-replicate {A = Option ℕ} 256 register None None within;
+  waiting = refl;
+}
+
+pub index-requires : goal.index-requires
+index-requires c =
+    let turns = c.args.at_turn.now in
     let own = (c.args.from + c.loop-place.place) % 256 in
-    let inside : own < length turns = omega (arith, c.requires.every_turn, c.args.at_turn.now.ok) in
-    let read = c.from-index.ensures ∙ get_or_read turns own c.index.result.now inside c.index.ensures 0 in
+    let read : c.from-index.result ≡ get_or turns own 0 = c.from-index.ensures in
     subst (λ s. s < vec_len c.args.rows.now) (sym read)
     (Each-turn (λ s. s < vec_len c.args.rows.now) turns c.args.from c.args.count c.loop-place.place c.loop-place-test.true c.requires.within)
 
 pub overflow_add-waiting : goal.overflow_add-waiting
 overflow_add-waiting c =
-    let turns = c.args.at_turn.now.items in
+    let turns = c.args.at_turn.now in
     let place = c.loop-place.place in
     omega (
       arith,
@@ -34,41 +40,38 @@ overflow_add-waiting c =
 
 pub loop-place-preserved : goal.loop-place-preserved
 loop-place-preserved c =
-    let turns = c.args.at_turn.now.items in
+    let turns = c.args.at_turn.now in
     let rows = c.args.rows.now.items in
     let place = c.loop-place.place in
     let own = (c.args.from + place) % 256 in
     let index = c.from-index.result in
-    let row = c.index-in-loop-place.result.now in
+    let row = c.index.result.now in
     let old = c.loop-place.producers in
     let new = c.set_producer.new.producers in
-    let inside : own < length turns = omega (arith, c.requires.every_turn, c.args.at_turn.now.ok) in
-    let read = c.from-index.ensures ∙ get_or_read turns own c.index.result.now inside c.index.ensures 0 in
+    let read : index ≡ get_or turns own 0 = c.from-index.ensures in
     let below : index < vec_len c.args.rows.now =
     subst (λ s. s < vec_len c.args.rows.now) (sym read)
     (Each-turn (λ s. s < vec_len c.args.rows.now) turns c.args.from c.args.count place c.loop-place-test.true c.requires.within)
     in
-    let is : row ≡ row_at rows index = get_or_read rows index row (omega (arith, below, c.args.rows.now.ok)) c.index-in-loop-place.ensures free_row in
+    let is : row ≡ row_at rows index = get_or_read rows index row (omega (arith, below, c.args.rows.now.ok)) c.index.ensures free_row in
     let value : c.if-is_done.producer ≡ (if is_done row.mark then None else Some index) =
     elim c.if-is_done.branch [
       | then-is_done w ↦ w.producer-is ∙ ap (λ b. if b then None else Some index) (sym w.if-is_done.true ∙ c.is_done.ensures)
       | else-is_done w ↦ w.producer-is ∙ ap (λ b. if b then None else Some index) (sym w.if-is_done.false ∙ c.is_done.ensures)
     ]
     in
-    let set : new.items ≡ with_producer row.destination (if is_done row.mark then None else Some index) old.items =
-    c.set_producer.ensures.set ∙ ap (λ o. with_producer row.destination o old.items) value
+    let set : new ≡ with_producer row.destination (if is_done row.mark then None else Some index) old =
+    c.set_producer.ensures.set ∙ ap (λ o. with_producer row.destination o old) value
     in
     record {
       every_register = omega (
         arith,
         c.loop-place.invariant.every_register,
-        old.ok,
-        new.ok,
         ap length set,
-        length-with_producer row.destination (if is_done row.mark then None else Some index) old.items,
+        length-with_producer row.destination (if is_done row.mark then None else Some index) old,
       );
-      renamed = producers_more turns c.args.from place rows index read row is old.items new.items
-          (omega (arith, c.loop-place.invariant.every_register, old.ok)) c.loop-place.invariant.renamed set;
+      renamed = producers_more turns c.args.from place rows index read row is old new
+          (c.loop-place.invariant.every_register) c.loop-place.invariant.renamed set;
       waiting = ap (λ n. c.loop-place.waiting + n) c.from-waiting.ensures
           ∙ counted_one c.loop-place.waiting (is_waiting row.mark) c.is_waiting.result c.is_waiting.ensures
           ∙ waiting_more turns c.args.from place rows index read row is c.loop-place.waiting c.loop-place.invariant.waiting;

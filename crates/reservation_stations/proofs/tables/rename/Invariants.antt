@@ -1,5 +1,4 @@
-use Rattle.std.proofs.Common.{◌≡◌, reverse}
-use Rattle.std.specs.Prelude.{vec_len}
+use Rattle.std.proofs.Common.{◌≡◌, length, reverse}
 use Rattle.reservation_stations.specs.Readiness.{waiting_count}
 use Rattle.reservation_stations.specs.AreTables.{AreProducers, row_at, stations_at}
 use Rattle.reservation_stations.specs.Turns.{indices_from}
@@ -7,7 +6,7 @@ use Rattle.reservation_stations.proofs.tables.rename.Given as goal
 
 abbrev pub invariant-loop-place : goal.invariant-loop-place
 invariant-loop-place l = record {
-  every_register : vec_len l.producers ≡ 256;
-  renamed : AreProducers l.producers.items (stations_at (row_at l.rows.items) (reverse (indices_from l.at_turn.items l.from l.place)));
-  waiting : l.waiting ≡ waiting_count (stations_at (row_at l.rows.items) (indices_from l.at_turn.items l.from l.place));
+  every_register : length l.producers ≡ 256;
+  renamed : AreProducers l.producers (stations_at (row_at l.rows.items) (reverse (indices_from l.at_turn l.from l.place)));
+  waiting : l.waiting ≡ waiting_count (stations_at (row_at l.rows.items) (indices_from l.at_turn l.from l.place));
 }

@@ -21,7 +21,7 @@ use Rattle.reservation_stations.proofs.stations.Stations.enter.Goals as goal
 
 pub enter-requires : goal.enter-requires
 enter-requires c =
-    let older = stations_at (row_at c.self.inside.rows.items) (reverse (indices_from c.self.inside.at_turn.items c.self.inside.retired c.self.inside.count)) in
+    let older = stations_at (row_at c.self.inside.rows.items) (reverse (indices_from c.self.inside.at_turn c.self.inside.retired c.self.inside.count)) in
     let long : length c.self.inside.rows.items ≡ vec_len c.self.inside.sets.dependents = omega (arith, c.self.inside.sets.dependents.ok, c.self.invariant.2.every_index) in
     let held : (source : Option ℕ) → ForSome (awaited older source) (λ index. index < vec_len c.self.inside.sets.dependents) =
     λ source. subst (λ n. ForSome (awaited older source) (λ index. index < n)) long (all_awaited c.self.invariant.0 c.self.view_is source)
@@ -37,7 +37,7 @@ overflow_cast-turn c =
       arith,
       room c.self.invariant.0 c.self.view_is c.args.index c.requires.within c.requires.free,
       c.self.invariant.0.limit,
-      length-indices c.self.inside.at_turn.items c.self.inside.retired c.self.inside.count,
+      length-indices c.self.inside.at_turn c.self.inside.retired c.self.inside.count,
     )
 
 pub overflow_add-self : goal.overflow_add-self
@@ -46,7 +46,7 @@ overflow_add-self c =
       arith,
       room c.self.invariant.0 c.self.view_is c.args.index c.requires.within c.requires.free,
       c.self.invariant.0.limit,
-      length-indices c.self.inside.at_turn.items c.self.inside.retired c.self.inside.count,
+      length-indices c.self.inside.at_turn c.self.inside.retired c.self.inside.count,
     )
 
 pub overflow_add-self-2 : goal.overflow_add-self-2
@@ -57,7 +57,7 @@ invariant_of-self c =
     let rows = c.self.inside.rows.items in
     let index = c.args.index in
     let within : index < length rows = omega (arith, c.requires.within, ap (λ (w : Window). w.capacity) c.self.view_is) in
-    let items = c.self.inside.at_turn.items in
+    let items = c.self.inside.at_turn in
     let retired = c.self.inside.retired in
     let count = c.self.inside.count in
     let indices = indices_from items retired count in
@@ -100,7 +100,7 @@ invariant_of-self c =
     subst (λ (w : Window). AreSetsOf (length rows) retired w.stations c.enter.new.self) (sym seen_now) now
     in (
       own_tables {capacity = length rows} (rw behind
-          (AreTables-entered c.self.invariant.0 c.self.view_is index c.requires.within c.requires.free row c.set_producer.new.producers.items
+          (AreTables-entered c.self.invariant.0 c.self.view_is index c.requires.within c.requires.free row c.set_producer.new.producers
           refl c.set_producer.ensures.set)),
       rw behind
           (turned_entered retired indices rows index row c.self.invariant.1 within (is_fresh c.self.invariant.0 c.self.view_is index c.requires.within c.requires.free)
@@ -111,7 +111,7 @@ invariant_of-self c =
 
 pub returns : goal.returns
 returns c =
-    let items = c.self.inside.at_turn.items in
+    let items = c.self.inside.at_turn in
     let retired = c.self.inside.retired in
     let count = c.self.inside.count in
     let rows = c.self.inside.rows.items in

@@ -11,16 +11,16 @@ pub loop-block-init : goal.loop-block-init
 loop-block-init c = record { whole = omega arith; none = λ k behind ahead. absurd (omega (arith, behind, ahead)) }
 
 pub overflow_cast-block : goal.overflow_cast-block
-overflow_cast-block c = omega (arith, c.loop-block-test.true, all_few c.self.invariant.0, length-indices c.self.inside.at_turn.items c.self.inside.retired c.self.inside.count)
+overflow_cast-block c = omega (arith, c.loop-block-test.true, all_few c.self.invariant.0, length-indices c.self.inside.at_turn c.self.inside.retired c.self.inside.count)
 
 pub among-set-requires : goal.among-set-requires
-among-set-requires c = record { inside = omega (arith, c.loop-block-test.true, c.loop-block.invariant.whole, all_few c.self.invariant.0, length-indices c.self.inside.at_turn.items c.self.inside.retired c.self.inside.count) }
+among-set-requires c = record { inside = omega (arith, c.loop-block-test.true, c.loop-block.invariant.whole, all_few c.self.invariant.0, length-indices c.self.inside.at_turn c.self.inside.retired c.self.inside.count) }
 
 pub overflow_add-block : goal.overflow_add-block
-overflow_add-block c = omega (arith, c.loop-block-test.true, all_few c.self.invariant.0, length-indices c.self.inside.at_turn.items c.self.inside.retired c.self.inside.count)
+overflow_add-block c = omega (arith, c.loop-block-test.true, all_few c.self.invariant.0, length-indices c.self.inside.at_turn c.self.inside.retired c.self.inside.count)
 
 pub loop-block-smaller : goal.loop-block-smaller
-loop-block-smaller c = omega (arith, c.loop-block-test.true, all_few c.self.invariant.0, length-indices c.self.inside.at_turn.items c.self.inside.retired c.self.inside.count)
+loop-block-smaller c = omega (arith, c.loop-block-test.true, all_few c.self.invariant.0, length-indices c.self.inside.at_turn c.self.inside.retired c.self.inside.count)
 
 pub returns-in-Some-clause-first : goal.returns-in-Some-clause-first
 returns-in-Some-clause-first c = λ k behind ahead. elim (cases_lt k c.loop-block.block) [
@@ -41,5 +41,5 @@ pub returns-clause-none : goal.returns-clause-none
 returns-clause-none c = λ k behind. elim (cases_lt k c.loop-block.block) [
   | inl before ↦ c.loop-block.invariant.none k behind before
   | inr past ↦ none_past c.args.sought c.args.self.now.stations k
-      (omega (arith, past, c.loop-block-test.false, length_seen c.self.invariant.0 c.self.view_is, length-indices c.self.inside.at_turn.items c.self.inside.retired c.self.inside.count))
+      (omega (arith, past, c.loop-block-test.false, length_seen c.self.invariant.0 c.self.view_is, length-indices c.self.inside.at_turn c.self.inside.retired c.self.inside.count))
 ]

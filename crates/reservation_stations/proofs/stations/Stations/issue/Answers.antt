@@ -29,7 +29,7 @@ invariant_of-self c =
     let rows = c.self.inside.rows.items in
     let retired = c.self.inside.retired in
     let index = c.args.index in
-    let indices = indices_from c.self.inside.at_turn.items retired c.self.inside.count in
+    let indices = indices_from c.self.inside.at_turn retired c.self.inside.count in
     let held = held_with c.self.invariant.0 c.self.view_is index Waiting c.requires.waiting in
     let row = c.index_mut.result.now in
     let read : row ≡ row_at rows index = get_or_read rows index row held.0 c.index_mut.ensures.value free_row in
@@ -48,6 +48,6 @@ returns c =
     let rows = c.self.inside.rows.items in
     let row : Row = record c.index_mut.result.now { mark = Issued } in
     record {
-      issued = own_seen (length rows) (indices_from c.self.inside.at_turn.items c.self.inside.retired c.self.inside.count) (slice_set rows c.args.index row) (length-set rows c.args.index row)
+      issued = own_seen (length rows) (indices_from c.self.inside.at_turn c.self.inside.retired c.self.inside.count) (slice_set rows c.args.index row) (length-set rows c.args.index row)
           (seen-written c.self.invariant.0 c.self.view_is c.args.index Waiting Issued c.requires.waiting c.index_mut.result.now c.index_mut.ensures.value);
     }

@@ -27,7 +27,7 @@ rename-self-inside-requires-clause-few c =
 
 pub rename-self-inside-requires-clause-within : goal.rename-self-inside-requires-clause-within
 rename-self-inside-requires-clause-within c =
-    let items = c.self.inside.at_turn.items in
+    let items = c.self.inside.at_turn in
     let retired = c.self.inside.retired in
     let count = c.self.inside.count in
     let indices = indices_from items retired count in
@@ -44,7 +44,7 @@ turns_from-requires c = record {
 
 pub invariant_of-self : goal.invariant_of-self
 invariant_of-self c =
-    let items = c.self.inside.at_turn.items in
+    let items = c.self.inside.at_turn in
     let retired = c.self.inside.retired in
     let count = c.self.inside.count in
     let kept = c.args.kept in
@@ -53,14 +53,14 @@ invariant_of-self c =
     let indices = indices_from items retired count in
     let few : kept ≤ count = omega (arith, c.requires.within, length_seen c.self.invariant.0 c.self.view_is, length-indices items retired count) in
     let now : indices_from items retired kept ≡ take kept indices = indices_front items retired kept count few in
-    let every : length table.items ≡ 256 = omega (arith, c.rename-self-inside.ensures.every_register, table.ok) in
+    let every : length table ≡ 256 = c.rename-self-inside.ensures.every_register in
     let live = c.turns_from.result in
     let taken : take kept (stations_at (row_at rows) indices) ≡ stations_at (row_at rows) (indices_from items retired kept) =
     take-map (λ s. station_in s (row_at rows s)) kept indices ∙ ap (stations_at (row_at rows)) (sym now)
     in (
       rw now
-          (AreTables-kept c.self.invariant.0 kept table.items c.rename-self-inside.result every
-          (subst (λ (xs : List ℕ). AreProducers table.items (stations_at (row_at rows) (reverse xs))) now c.rename-self-inside.ensures.renamed)
+          (AreTables-kept c.self.invariant.0 kept table c.rename-self-inside.result every
+          (subst (λ (xs : List ℕ). AreProducers table (stations_at (row_at rows) (reverse xs))) now c.rename-self-inside.ensures.renamed)
           (c.rename-self-inside.ensures.waiting ∙ ap (λ xs. waiting_count (stations_at (row_at rows) xs)) now)),
       rw now (turned_kept retired kept indices rows c.self.invariant.1),
       subst (λ (xs : List Station). AreSetsOf (length rows) retired xs c.keep.new.self) taken
@@ -71,7 +71,7 @@ invariant_of-self c =
 
 pub returns : goal.returns
 returns c =
-    let items = c.self.inside.at_turn.items in
+    let items = c.self.inside.at_turn in
     let retired = c.self.inside.retired in
     let count = c.self.inside.count in
     let rows = c.self.inside.rows.items in

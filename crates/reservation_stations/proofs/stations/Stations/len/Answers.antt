@@ -6,7 +6,7 @@ use Rattle.reservation_stations.proofs.Reading.{all_within, all_distinct, length
 use Rattle.reservation_stations.proofs.stations.Stations.len.Goals as goal
 
 pub returns-clause-count : goal.returns-clause-count
-returns-clause-count c = sym (length_seen c.self.invariant.0 c.self.view_is ∙ length-indices c.self.inside.at_turn.items c.self.inside.retired c.self.inside.count)
+returns-clause-count c = sym (length_seen c.self.invariant.0 c.self.view_is ∙ length-indices c.self.inside.at_turn c.self.inside.retired c.self.inside.count)
 
 pub returns-clause-room : goal.returns-clause-room
 returns-clause-room c = omega (arith, length_seen c.self.invariant.0 c.self.view_is, all_room c.self.invariant.0, ap (λ (w : Window). w.capacity) c.self.view_is)

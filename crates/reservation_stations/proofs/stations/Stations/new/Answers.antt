@@ -1,6 +1,5 @@
-use Rattle.std.proofs.Common.{ℕ, [], rules, arith, sym, subst}
+use Rattle.std.proofs.Common.{ℕ, [], sym, subst}
 use Rattle.std.proofs.lemmas.List.{length-replicate}
-use Rattle.std.proofs.lemmas.Grind.{common_steps}
 use Rattle.reservation_stations.specs.AreSets.{AreSetsOf}
 use Rattle.reservation_stations.proofs.Entering.{own_tables}
 use Rattle.reservation_stations.proofs.Places.{Keeps_none}
@@ -9,10 +8,8 @@ use Rattle.reservation_stations.proofs.stations.Stations.new.Goals as goal
 
 pub invariant_of-result : goal.invariant_of-result
 invariant_of-result c =
-    let turns = c.in-Ok.ensures.items_if_clones_equal (λ y is. is) in
-    let items = c.in-Ok-vec.ensures.items_if_clones_equal (λ y is. is) in
-    let none = c.in-Ok-vec-2.ensures.items_if_clones_equal (λ y is. first_of (search rules, grind (arith, common_steps))) in
-    rw (turns, items, none) (
+    let items = c.in-Ok.ensures.items_if_clones_equal (λ y is. is) in
+    rw items (
       own_tables (Keeps_none c.args.capacity c.free.result c.requires.limit),
       λ p s there. absurd cc,
       subst (λ n. AreSetsOf n 0 [] c.in-Ok-new.sets) (sym (length-replicate c.args.capacity c.free.result)) (AreSets-none c.in-Ok-new.ensures.empty),

@@ -18,11 +18,11 @@ index-requires c = omega (arith, c.self.inside.rows.ok, retire_within c.self.inv
 
 pub overflow_sub-self : goal.overflow_sub-self
 overflow_sub-self c =
-    omega (arith, retire_some c.self.invariant.0 c.self.view_is c.args.index c.requires.oldest, length-indices c.self.inside.at_turn.items c.self.inside.retired c.self.inside.count)
+    omega (arith, retire_some c.self.invariant.0 c.self.view_is c.args.index c.requires.oldest, length-indices c.self.inside.at_turn c.self.inside.retired c.self.inside.count)
 
 pub invariant_of-self : goal.invariant_of-self
 invariant_of-self c =
-    let items = c.self.inside.at_turn.items in
+    let items = c.self.inside.at_turn in
     let retired = c.self.inside.retired in
     let count = c.self.inside.count in
     let indices = indices_from items retired count in
@@ -48,7 +48,7 @@ invariant_of-self c =
 
 pub returns-then-is_done : goal.returns-then-is_done
 returns-then-is_done c =
-    let items = c.self.inside.at_turn.items in
+    let items = c.self.inside.at_turn in
     let retired = c.self.inside.retired in
     let count = c.self.inside.count in
     let rows = c.self.inside.rows.items in

@@ -31,11 +31,11 @@ uncounted-self-inside-requires c = record {
 
 pub overflow_sub-self : goal.overflow_sub-self
 overflow_sub-self c =
-    omega (arith, retire_some c.self.invariant.0 c.self.view_is c.args.index c.requires.oldest, length-indices c.self.inside.at_turn.items c.self.inside.retired c.self.inside.count)
+    omega (arith, retire_some c.self.invariant.0 c.self.view_is c.args.index c.requires.oldest, length-indices c.self.inside.at_turn c.self.inside.retired c.self.inside.count)
 
 pub invariant_of-self : goal.invariant_of-self
 invariant_of-self c =
-    let items = c.self.inside.at_turn.items in
+    let items = c.self.inside.at_turn in
     let retired = c.self.inside.retired in
     let count = c.self.inside.count in
     let indices = indices_from items retired count in
@@ -51,7 +51,7 @@ invariant_of-self c =
     let old = subst (λ (xs : List ℕ). AreSetsOf (length rows) retired (stations_at (row_at rows) xs) c.self.inside.sets) first c.self.invariant.2 in
     let turned = turned_retired retired index rest rows (subst (λ (xs : List ℕ). AreTurned retired xs rows) first c.self.invariant.1) (omega arith) in
     rw now (
-      AreTables-retired c.self.invariant.0 c.self.view_is index c.requires.oldest row c.index.ensures c.drop_producer.new.producers.items
+      AreTables-retired c.self.invariant.0 c.self.view_is index c.requires.oldest row c.index.ensures c.drop_producer.new.producers
           c.uncounted-self-inside.result c.drop_producer.ensures.dropped c.uncounted-self-inside.ensures.left,
       turned,
       AreSets-retired index rest rows keeps retired (omega arith) few (c.retire.ensures.retired (length rows) _ _ _ old),
@@ -60,7 +60,7 @@ invariant_of-self c =
 
 pub returns : goal.returns
 returns c =
-    let items = c.self.inside.at_turn.items in
+    let items = c.self.inside.at_turn in
     let retired = c.self.inside.retired in
     let count = c.self.inside.count in
     let rows = c.self.inside.rows.items in

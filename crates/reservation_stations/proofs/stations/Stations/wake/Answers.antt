@@ -37,7 +37,7 @@ invariant_of-self c =
     let rows = c.self.inside.rows.items in
     let retired = c.self.inside.retired in
     let index = c.args.index in
-    let indices = indices_from c.self.inside.at_turn.items retired c.self.inside.count in
+    let indices = indices_from c.self.inside.at_turn retired c.self.inside.count in
     let held = held_with c.self.invariant.0 c.self.view_is index Issued c.requires.issued in
     let row = c.index_mut.result.now in
     let read : row ≡ row_at rows index = get_or_read rows index row held.0 c.index_mut.ensures.value free_row in
@@ -71,18 +71,18 @@ invariant_of-self-else-faulted c =
     let rows = c.self.inside.rows.items in
     let retired = c.self.inside.retired in
     let index = c.args.index in
-    let indices = indices_from c.self.inside.at_turn.items retired c.self.inside.count in
+    let indices = indices_from c.self.inside.at_turn retired c.self.inside.count in
     let held = held_with c.self.invariant.0 c.self.view_is index Issued c.requires.issued in
     let row = c.index_mut-else-faulted.result.now in
     let read : row ≡ row_at rows index = get_or_read rows index row held.0 c.index_mut-else-faulted.ensures.value free_row in
     let first : c.index.result.now ≡ row_at rows index = get_or_read rows index c.index.result.now held.0 c.index.ensures free_row in
     let own : (row_at rows index).turn ≡ c.index.result.now.turn = ap (λ (e : Row). e.turn) (sym first) in
     let its : c.index-else-faulted.result.now ≡ row_at rows index = get_or_read rows index c.index-else-faulted.result.now held.0 c.index-else-faulted.ensures free_row in
-    let table : Row → List (Option ℕ) = λ e. with_producer e.destination (without index (producer_at c.self.inside.producers.items e.destination)) c.self.inside.producers.items in
-    let dropped : c.drop_producer.new.producers.items ≡ table (row_at rows index) = c.drop_producer.ensures.dropped ∙ ap table its in
+    let table : Row → List (Option ℕ) = λ e. with_producer e.destination (without index (producer_at c.self.inside.producers e.destination)) c.self.inside.producers in
+    let dropped : c.drop_producer.new.producers ≡ table (row_at rows index) = c.drop_producer.ensures.dropped ∙ ap table its in
     let others : (other : ℕ) → other ≢ index → one index other ≡ false = λ other differ. ne_eqb other index differ in (
       own_tables (AreTables-told c.self.invariant.0 c.self.view_is index Issued Done c.requires.issued row c.index_mut-else-faulted.ensures.value
-          c.drop_producer.new.producers.items dropped (sym (eq-eqb index index refl)) refl),
+          c.drop_producer.new.producers dropped (sym (eq-eqb index index refl)) refl),
       turned_marked retired indices rows index (record row { mark = Done }) c.self.invariant.1 held.0 (ap (λ (e : Row). e.turn) read),
       AreSets-marked c.self.invariant.0 c.self.view_is index Issued Done c.requires.issued row c.index_mut-else-faulted.ensures.value retired (omega arith) c.self.invariant.1
           c.index.result.now.turn (omega arith) own (one index) others (sym (eq-eqb index index refl))
@@ -98,7 +98,7 @@ invariant_of-self-else-faulted c =
 pub returns-then-faulted : goal.returns-then-faulted
 returns-then-faulted c =
     let rows = c.self.inside.rows.items in
-    let indices = indices_from c.self.inside.at_turn.items c.self.inside.retired c.self.inside.count in
+    let indices = indices_from c.self.inside.at_turn c.self.inside.retired c.self.inside.count in
     let row : Row = record c.index_mut.result.now { mark = Faulted } in
     record {
       woken = rw c.if-faulted.true
@@ -109,7 +109,7 @@ returns-then-faulted c =
 pub returns-else-faulted : goal.returns-else-faulted
 returns-else-faulted c =
     let rows = c.self.inside.rows.items in
-    let indices = indices_from c.self.inside.at_turn.items c.self.inside.retired c.self.inside.count in
+    let indices = indices_from c.self.inside.at_turn c.self.inside.retired c.self.inside.count in
     let row : Row = record c.index_mut-else-faulted.result.now { mark = Done } in
     record {
       woken = rw c.if-faulted.false
