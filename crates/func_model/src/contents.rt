@@ -300,8 +300,7 @@ impl<D: Device> Contents<D> {
         let mut interrupts = 0;
         for made in 0..steps {
             interrupts += self.interrupt(made);
-            // The program as built makes a test behind each call of what may come to a device; most
-            // instructions need no such call.
+            // Most instructions need no frame of what all others need.
             if self.advance_plain() {
                 continue;
             }

@@ -98,8 +98,7 @@ impl<D: Device> Trail<D> {
         if has_ended(self.end) {
             return Some(self.end);
         }
-        // The program as built makes a test behind each call of what may come to a device; most
-        // steps need no such call.
+        // Most steps need no frame of what all others need.
         if self.step_computed() {
             return None;
         }

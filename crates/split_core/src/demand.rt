@@ -76,9 +76,8 @@ impl<D: Device, T: Timing> SplitState<D, T> {
         }
     }
 
-    /// Plays on with nothing under way, until the run is over. The program as built makes a test
-    /// behind each call of what may come to a device: so an order is obeyed right here, and by no
-    /// call where none was told.
+    /// Plays on with nothing under way, until the run is over. An order is obeyed right where its
+    /// turn is told apart from the others, so that no turn is looked at twice.
     fn play_clear(&mut self)
         requires standing { IsStandingOn T.timed self.old }
         requires clear { IsClear self.old }
