@@ -51,6 +51,7 @@ impl InFlight {
     ghost use Rattle.timing_side.specs.Slots.{found_in};
     ghost use Rattle.in_flight.specs.Flight.{older_at, is_sought_at, IsExecuting, reads_from};
     ghost use Rattle.in_flight.specs.Snapshot.{IsSnapshot};
+    ghost use Rattle.in_flight.specs.Registers.{registers_of};
 
     /// No instructions, with room for `capacity`, at most 256. All memory is taken here; want of it
     /// is the one refusal.
@@ -131,11 +132,44 @@ impl InFlight {
               slots = self.old.slots ++ slot_from entry.now predicted fetched Waiting ∷ [];
             } }
     {
+        match self.known.find(entry.addr, entry.word) {
+            Some(registers) => self.append_known(entry, predicted, fetched, registers),
+            None => self.append_new(entry, predicted, fetched),
+        }
+    }
+
+    /// The same, of a word whose registers are read anew. It stays a call: few words come to it, and
+    /// all others need no frame of it.
+    #[inline(never)]
+    fn append_new(&mut self, entry: &Entry, predicted: u32, fetched: u64)
+        requires room { length self.old.slots < self.old.capacity }
+        requires next { IfSome (youngest self.old.slots)
+            (λ last. entry.now.number ≡ last.number + 1) }
+        ensures appended { self.new
+            ≡ record self.old {
+              slots = self.old.slots ++ slot_from entry.now predicted fetched Waiting ∷ [];
+            } }
+    {
+        let registers = self.known.told(entry.addr, entry.word);
+        self.append_known(entry, predicted, fetched, registers);
+    }
+
+    /// The same, of a word whose registers are known.
+    #[inline(always)]
+    fn append_known(&mut self, entry: &Entry, predicted: u32, fetched: u64, registers: Registers)
+        requires room { length self.old.slots < self.old.capacity }
+        requires next { IfSome (youngest self.old.slots)
+            (λ last. entry.now.number ≡ last.number + 1) }
+        requires known { registers ≡ registers_of entry.now.word }
+        ensures appended { self.new
+            ≡ record self.old {
+              slots = self.old.slots ++ slot_from entry.now predicted fetched Waiting ∷ [];
+            } }
+    {
         prove!(self.window.len() < 256);
         let position = self.window.free_position(entry.number);
         self.window.append(entry, predicted, fetched);
         put_store(&mut self.stores, entry);
-        let registers = self.known.told(entry.addr, entry.word);
         self.stations
             .enter(position, registers.sources, registers.destination);
     }

@@ -1,4 +1,4 @@
-ghost use Rattle.std.specs.Prelude.{◌≡◌, ℕ, vec_len};
+ghost use Rattle.std.specs.Prelude.{◌≡◌, ℕ, vec_len, IfSome};
 
 use fsim_base::NoMemory;
 use std::alloc::{AllocError, Global};
@@ -53,7 +53,20 @@ impl<T: OfWord> KnownWords<T> {
         Ok(KnownWords { words })
     }
 
-    /// What a word tells that stands at this address.
+    /// What a word tells that stands at this address, where it is kept. Who has much to do behind it
+    /// needs no frame for a word that is taken apart anew.
+    #[inline(always)]
+    pub fn find(&self, addr: u32, word: u32) -> Option<T>
+        ensures told { IfSome result (λ told. told ≡ T.of word) }
+    {
+        let known = &self.words[(addr / 4) as usize % KEPT];
+        if known.word != word {
+            return None;
+        }
+        Some(known.told)
+    }
+
+    /// What a word tells that stands at this address. It is kept there from then on.
     #[inline(always)]
     pub fn told(&mut self, addr: u32, word: u32) -> T
         ensures told { result ≡ T.of word }

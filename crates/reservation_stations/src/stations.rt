@@ -112,6 +112,7 @@ impl Stations {
     }
 
     /// Appends the station of an instruction, which waits, at an index that no station holds.
+    #[inline(always)]
     pub fn enter(&mut self, index: u32, sources: (Option<u8>, Option<u8>), destination: Option<u8>)
         requires within { index < self.old.capacity }
         requires free { IsNone (station_of index self.old.stations) }

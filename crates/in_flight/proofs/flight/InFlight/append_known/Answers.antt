@@ -8,7 +8,7 @@ use Rattle.in_flight.specs.Step.{put_in}
 use Rattle.in_flight.proofs.Stations.{none_holds}
 use Rattle.in_flight.proofs.Stores.{put_room, put_above, puts}
 use Rattle.in_flight.proofs.Changes.{appended_keeps}
-use Rattle.in_flight.proofs.flight.InFlight.append.Goals as goal
+use Rattle.in_flight.proofs.flight.InFlight.append_known.Goals as goal
 
 pub enter-requires-clause-free : goal.enter-requires-clause-free
 enter-requires-clause-free c =
@@ -41,7 +41,7 @@ invariant_of-self c =
     in
     let keeps =
     appended_keeps window c.self.inside.stations c.self.inside.stores c.put_store.new.stores c.self.inside.dividing c.free_position-position.result
-    c.told-registers.result slot c.self.invariant refl c.free_position-position.ensures.position
-    c.told-registers.ensures.told queued
+    c.args.registers slot c.self.invariant refl c.free_position-position.ensures.position
+    c.requires.known queued
     in
     rw (c.append.ensures.appended, c.enter.ensures.entered) keeps
