@@ -236,6 +236,7 @@ none_issues s t core k ordered none =
     let start = walks_from_start s t busy core none_used k refl ordered in
     let end = walks_to s t busy core 0 (length slots) none_used start (omega arith) (λ place above below. none_starts slots place none) in
     let off : wants_time s t ≡ false = none_wants s.params t.cycle t.slots (ap waiting_count (sym k.slots) ∙ none) in
-    let phase = issues s t false off in
-    (subst (λ (p : Phase). CoreStandsFor s p.timing core) (sym phase) (walks_to_end s t core (length slots) none_used end (omega arith)),
-      ap (λ (p : Phase). p.orders) phase)
+    let phase = issues s t false off in (
+      subst (λ (p : Phase). CoreStandsFor s p.timing core) (sym phase) (walks_to_end s t core (length slots) none_used end (omega arith)),
+      ap (λ (p : Phase). p.orders) phase,
+    )
