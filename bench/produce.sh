@@ -150,7 +150,7 @@ mod trace;
 
 use anyhow::{Context, anyhow};
 use branch_predictor::PredKind;
-use device_bus::{Console, Device, Finisher, Timer, in_order};
+use device_bus::{AnyDevice, Console, Device, Finisher, Timer, in_order};
 use elf_image::{Image, Segment, Segments};
 use fsim_base::Bytes;
 use mono_model::{Params, Setup};
@@ -173,14 +173,14 @@ fn params() -> Params {
     }
 }
 
-fn devices(alloc: Global) -> anyhow::Result<Vec<Box<dyn Device + Send>>> {
+fn devices(alloc: Global) -> anyhow::Result<Vec<AnyDevice>> {
     let Ok(console) = Console::new(alloc) else {
         return Err(anyhow!("no memory"));
     };
-    let mut devices: Vec<Box<dyn Device + Send>> = Vec::new(alloc);
-    devices.push(Box::new(alloc, console)?)?;
-    devices.push(Box::new(alloc, Timer::new())?)?;
-    devices.push(Box::new(alloc, Finisher::new())?)?;
+    let mut devices = Vec::new(alloc);
+    devices.push(AnyDevice::Console(console))?;
+    devices.push(AnyDevice::Timer(Timer::new()))?;
+    devices.push(AnyDevice::Finisher(Finisher::new()))?;
     Ok(devices)
 }
 
