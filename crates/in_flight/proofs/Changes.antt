@@ -1,7 +1,6 @@
 -- The stations, the store queue and the count of divisions stay those of the window's slots, as these change.
 use Rattle.std.proofs.Common.{◌≡◌, ℕ, ◌+◌, ◌-◌, if◌then◌else◌, is_some, Option, Some, None, [], ◌∷◌, ◌++◌, refl, ap, sym, ◌∙◌, arith}
 use Rattle.std.specs.Prelude.{slice_get, slice_set}
-use Rattle.std.proofs.lemmas.List.{map-append}
 use Rattle.fsim_base.specs.declared.cause.Cause.{Cause}
 use Rattle.reorder_buffer.specs.declared.slot.Slot.{Slot}
 use Rattle.reorder_buffer.specs.declared.slot.SlotState.{SlotState}
@@ -10,11 +9,10 @@ use Rattle.reorder_buffer.specs.Window.{Contents, HasOwnPositions, room_of, posi
 use Rattle.reservation_stations.specs.declared.station.Mark.{Mark}
 use Rattle.reservation_stations.specs.declared.station.Mark.TheVariants as mark
 use Rattle.reservation_stations.specs.declared.station.Station.{Station}
-use Rattle.reservation_stations.specs.Readiness.{Window, mark_of, marked, entered}
+use Rattle.reservation_stations.specs.Readiness.{Window, mark_of, marked}
 use Rattle.load_store_queue.specs.Queue.{Contents as Stores}
 use Rattle.timing_side.specs.Slots.{is_done_state}
-use Rattle.in_flight.specs.declared.registers.Registers.{Registers}
-use Rattle.in_flight.specs.Registers.{registers_of}
+use Rattle.timing_side.specs.Issue.{busy_divisions}
 use Rattle.in_flight.specs.Flight.{IsExecuting}
 use Rattle.in_flight.specs.Step.{done_mark, mark_in, station_in, stations_of, queue_of, queued_as, IsInStep}
 use Rattle.in_flight.proofs.Divisions.{division, waits_undivided, done_undivided, divisions-append, divisions-set}
@@ -95,29 +93,19 @@ finished_keeps window stations stores queued dividing place slot step apart here
     }
 
 -- one more comes
-pub appended_keeps : (window : Contents) (stations : Window) (stores queued : Stores) (dividing position : ℕ) (registers : Registers) (slot : Slot)
-    → IsInStep window stations stores dividing → slot.state ≡ Waiting → position ≡ position_of (room_of window.capacity) slot.number
-    → registers ≡ registers_of slot.word
-    → queued ≡ queue_of window.capacity (window.slots ++ slot ∷ [])
-    → IsInStep (record window { slots = window.slots ++ slot ∷ [] })
-    (record stations { stations = stations.stations ++ entered position registers.sources.0 registers.sources.1 registers.destination ∷ [] })
-    queued
-    dividing
-appended_keeps window stations stores queued dividing position registers slot step waiting at own is =
-    let entry : entered position registers.sources.0 registers.sources.1 registers.destination ≡ station_in (room_of window.capacity) slot =
-    λ i. record {
-      index = at i;
-      first = (own i).sources.0;
-      second = (own i).sources.1;
-      destination = (own i).destination;
-      mark = sym (ap (λ state. mark_in state slot.cause) waiting) i;
-    }
-    in
-    record {
-      limit = step.limit;
-      stations_are =
-          (λ i. let now : Window = record { capacity = (step.stations_are i).capacity; stations = (step.stations_are i).stations ++ entry i ∷ [] } in now)
-          ∙ ap (λ held. let now : Window = record { capacity = room_of window.capacity; stations = held } in now) (sym (map-append (station_in (room_of window.capacity)) window.slots (slot ∷ [])));
-      stores_are = is;
-      dividing_is = omega (arith, step.dividing_is, divisions-append window.slots (slot ∷ []), waiting_undivided slot waiting);
-    }
+pub appended_keeps : {window now : Contents} {stations entered : Window} {stores queued : Stores} {dividing : ℕ} (slot : Slot)
+    → IsInStep window stations stores dividing → slot.state ≡ Waiting → now ≡ record window { slots = window.slots ++ slot ∷ [] }
+    → entered ≡ stations_of (room_of now.capacity) now.slots → queued ≡ queue_of now.capacity now.slots
+    → IsInStep now entered queued dividing
+appended_keeps {window = window} slot step waiting is are_entered are_queued = record {
+  limit = omega (arith, step.limit, ap (λ (w : Contents). w.capacity) is);
+  stations_are = are_entered;
+  stores_are = are_queued;
+  dividing_is = omega (
+    arith,
+    step.dividing_is,
+    divisions-append window.slots (slot ∷ []),
+    waiting_undivided slot waiting,
+    ap (λ (w : Contents). busy_divisions w.slots) is,
+  );
+}

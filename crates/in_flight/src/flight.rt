@@ -1,7 +1,8 @@
+use crate::appending::append_known;
 use crate::dividing::{divisions_cut, forget_division, note_division};
-use crate::queueing::{finish_store, pop_oldest, put_store};
+use crate::queueing::{finish_store, pop_oldest};
 use crate::reading::slot_at;
-use crate::registers::Registers;
+use crate::registers::WordRegisters;
 use fsim_base::NoMemory;
 use known_words::{KnownWords, OfWord};
 use load_store_queue::StoreQueue;
@@ -22,7 +23,7 @@ pub struct InFlight {
     /// How many divisions execute.
     dividing: u32,
     /// Words whose registers need not be read again: no part of what is in flight.
-    known: KnownWords<Registers>,
+    known: KnownWords<WordRegisters>,
 }
 
 impl Model for InFlight {
@@ -51,7 +52,6 @@ impl InFlight {
     ghost use Rattle.timing_side.specs.Slots.{found_in};
     ghost use Rattle.in_flight.specs.Flight.{older_at, is_sought_at, IsExecuting, reads_from};
     ghost use Rattle.in_flight.specs.Snapshot.{IsSnapshot};
-    ghost use Rattle.in_flight.specs.Registers.{registers_of};
 
     /// No instructions, with room for `capacity`, at most 256. All memory is taken here; want of it
     /// is the one refusal.
@@ -133,13 +133,21 @@ impl InFlight {
             } }
     {
         match self.known.find(entry.addr, entry.word) {
-            Some(registers) => self.append_known(entry, predicted, fetched, registers),
+            Some(known) => append_known(
+                &mut self.window,
+                &mut self.stations,
+                &mut self.stores,
+                entry,
+                predicted,
+                fetched,
+                &known.registers,
+            ),
             None => self.append_new(entry, predicted, fetched),
         }
     }
 
-    /// The same, of a word whose registers are read anew. It stays a call: few words come to it, and
-    /// all others need no frame of it.
+    /// The same, of a word whose registers are read anew. It stays a call: few words come to it,
+    /// and all others need no frame of it.
     #[inline(never)]
     fn append_new(&mut self, entry: &Entry, predicted: u32, fetched: u64)
         requires room { length self.old.slots < self.old.capacity }
@@ -150,28 +158,16 @@ impl InFlight {
               slots = self.old.slots ++ slot_from entry.now predicted fetched Waiting ∷ [];
             } }
     {
-        let registers = self.known.told(entry.addr, entry.word);
-        self.append_known(entry, predicted, fetched, registers);
-    }
-
-    /// The same, of a word whose registers are known.
-    #[inline(always)]
-    fn append_known(&mut self, entry: &Entry, predicted: u32, fetched: u64, registers: Registers)
-        requires room { length self.old.slots < self.old.capacity }
-        requires next { IfSome (youngest self.old.slots)
-            (λ last. entry.now.number ≡ last.number + 1) }
-        requires known { registers ≡ registers_of entry.now.word }
-        ensures appended { self.new
-            ≡ record self.old {
-              slots = self.old.slots ++ slot_from entry.now predicted fetched Waiting ∷ [];
-            } }
-    {
-        prove!(self.window.len() < 256);
-        let position = self.window.free_position(entry.number);
-        self.window.append(entry, predicted, fetched);
-        put_store(&mut self.stores, entry);
-        self.stations
-            .enter(position, registers.sources, registers.destination);
+        let told = self.known.told(entry.addr, entry.word);
+        append_known(
+            &mut self.window,
+            &mut self.stations,
+            &mut self.stores,
+            entry,
+            predicted,
+            fetched,
+            &told.registers,
+        );
     }
 
     /// The oldest instruction leaves, in whatever state. There is one.
@@ -267,8 +263,8 @@ impl InFlight {
             IfSome (slice_get self.now.slots other) (λ writer.
             result ≡ reads_from (found_in slot) (destination_in (found_in writer)))) }
     {
-        let reader = Registers::of_word(self.window.slot(place).word);
-        let writer = Registers::of_word(self.window.slot(other).word);
+        let reader = WordRegisters::of_word(self.window.slot(place).word).registers;
+        let writer = WordRegisters::of_word(self.window.slot(other).word).registers;
         match writer.destination {
             Some(register) => {
                 reader.sources.0 == Some(register) || reader.sources.1 == Some(register)

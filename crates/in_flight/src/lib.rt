@@ -2,6 +2,7 @@
 //! store queue, kept in step.
 #![tactic(auto)]
 
+mod appending;
 mod dividing;
 mod flight;
 mod queueing;

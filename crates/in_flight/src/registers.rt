@@ -1,25 +1,23 @@
-//! The registers of an instruction.
+//! The registers of the instruction that a word spells.
 
 use known_words::OfWord;
+use reservation_stations::Registers;
 use rv_decode::decode;
 
-/// The registers of an instruction, by number.
+/// What a word tells by itself: the registers of its instruction.
 #[derive(Clone, Copy, Debug)]
-pub struct Registers {
-    /// Those that it reads.
-    pub sources: (Option<u8>, Option<u8>),
-    /// The one that it writes.
-    pub destination: Option<u8>,
+pub struct WordRegisters {
+    pub registers: Registers,
 }
 
-/// Those of the instruction that the word spells; a word that spells none has none.
-impl OfWord for Registers {
+/// A word that spells no instruction has none.
+impl OfWord for WordRegisters {
     ghost use Rattle.in_flight.specs.Registers.{registers_of};
 
-    ghost of = { registers_of };
+    ghost of = { λ word. record { registers = registers_of word } };
 
-    fn of_word(word: u32) -> Registers {
-        match decode(word) {
+    fn of_word(word: u32) -> WordRegisters {
+        let registers = match decode(word) {
             Some(insn) => Registers {
                 sources: insn.sources(),
                 destination: insn.dest(),
@@ -28,6 +26,7 @@ impl OfWord for Registers {
                 sources: (None, None),
                 destination: None,
             },
-        }
+        };
+        WordRegisters { registers }
     }
 }

@@ -53,17 +53,17 @@ impl<T: OfWord> KnownWords<T> {
         Ok(KnownWords { words })
     }
 
-    /// What a word tells that stands at this address, where it is kept. Who has much to do behind it
-    /// needs no frame for a word that is taken apart anew.
+    /// What a word tells that stands at this address, where it is kept. Who has much to do behind
+    /// it needs no frame for a word that is taken apart anew, and no copy of what is kept.
     #[inline(always)]
-    pub fn find(&self, addr: u32, word: u32) -> Option<T>
-        ensures told { IfSome result (λ told. told ≡ T.of word) }
+    pub fn find(&self, addr: u32, word: u32) -> Option<&T>
+        ensures told { IfSome result (λ told. told.now ≡ T.of word) }
     {
         let known = &self.words[(addr / 4) as usize % KEPT];
         if known.word != word {
             return None;
         }
-        Some(known.told)
+        Some(&known.told)
     }
 
     /// What a word tells that stands at this address. It is kept there from then on.

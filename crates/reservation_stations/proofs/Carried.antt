@@ -13,7 +13,7 @@ dropped lost (Some index) = if lost index then None else Some index
 module _ (at at' : ℕ → Row) (lost : ℕ → Bool) where
   -- the lost ones are done
   pub record Changes (index : ℕ) : Type 0 where
-    pub destination : (at' index).destination ≡ (at index).destination
+    pub destination : (at' index).registers.destination ≡ (at index).registers.destination
     pub done : is_done (at' index).mark ≡ (is_done (at index).mark || lost index)
 
   -- what the older ones are behind the change
@@ -31,8 +31,8 @@ module _ (at at' : ℕ → Row) (lost : ℕ → Bool) where
   Carries-cons index older older' here carried = record {
     unfinished = λ register.
         ap (λ destination. if is_register register destination then (if is_done (at' index).mark then None else Some index) else unfinished (stations_at at' older') register) here.destination
-        ∙ ap (λ done. if is_register register (at index).destination then (if done then None else Some index) else unfinished (stations_at at' older') register) here.done
-        ∙ unfinished_cons index (is_register register (at index).destination) (is_done (at index).mark) (lost index) (unfinished (stations_at at older) register) (unfinished (stations_at at' older') register) refl (carried.unfinished register);
+        ∙ ap (λ done. if is_register register (at index).registers.destination then (if done then None else Some index) else unfinished (stations_at at' older') register) here.done
+        ∙ unfinished_cons index (is_register register (at index).registers.destination) (is_done (at index).mark) (lost index) (unfinished (stations_at at older) register) (unfinished (stations_at at' older') register) refl (carried.unfinished register);
   }
 
   pub awaited_carried : (older older' : List ℕ) (source : Option ℕ) → Carries older older' →

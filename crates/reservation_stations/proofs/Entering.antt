@@ -73,9 +73,7 @@ module _ (capacity : ℕ) (indices : List ℕ) (old : List Row) (producers : Lis
   Stays-none other differ =
       let same = same_row other differ in
       record {
-        first = ap (λ (e : Row). e.first) same;
-        second = ap (λ (e : Row). e.second) same;
-        destination = ap (λ (e : Row). e.destination) same;
+        registers = ap (λ (e : Row). e.registers) same;
         mark = ap (λ (e : Row). e.mark) same;
       }
 
@@ -91,7 +89,7 @@ module _ (capacity : ℕ) (indices : List ℕ) (old : List Row) (producers : Lis
       ∙ λ i. stations_stay i ++ station_in index (mine i) ∷ []
 
   AreTables-pushed : is_waiting row.mark ≡ true →
-      AreTables capacity (indices ++ index ∷ []) (slice_set old index row) (with_producer row.destination (Some index) producers) (waiting + 1)
+      AreTables capacity (indices ++ index ∷ []) (slice_set old index row) (with_producer row.registers.destination (Some index) producers) (waiting + 1)
   AreTables-pushed waits =
       let at' = row_at (slice_set old index row) in
       let counted = waiting_count-push at' indices index in
@@ -102,12 +100,12 @@ module _ (capacity : ℕ) (indices : List ℕ) (old : List Row) (producers : Lis
         within = Each-push (λ s. s < capacity) indices index keeps.within within;
         distinct = AreDistinct-push indices index keeps.distinct fresh;
         every_index = length-set old index row ∙ keeps.every_index;
-        every_register = length-with_producer row.destination (Some index) producers ∙ keeps.every_register;
+        every_register = length-with_producer row.registers.destination (Some index) producers ∙ keeps.every_register;
         each_producer = λ register below.
-            get_or-with_producer row.destination (Some index) producers register (omega (arith, keeps.every_register))
-            ∙ ap (λ o. if is_register register row.destination then Some index else o) (keeps.each_producer register below ∙ ap (λ xs. unfinished xs register) (sym older_stay))
-            ∙ ap (λ b. if is_register register row.destination then (if b then None else Some index) else unfinished (stations_at at' (reverse indices)) register) (sym (not_done row.mark waits))
-            ∙ ap (λ (e : Row). if is_register register e.destination then (if is_done e.mark then None else Some index) else unfinished (stations_at at' (reverse indices)) register) (sym mine)
+            get_or-with_producer row.registers.destination (Some index) producers register (omega (arith, keeps.every_register))
+            ∙ ap (λ o. if is_register register row.registers.destination then Some index else o) (keeps.each_producer register below ∙ ap (λ xs. unfinished xs register) (sym older_stay))
+            ∙ ap (λ b. if is_register register row.registers.destination then (if b then None else Some index) else unfinished (stations_at at' (reverse indices)) register) (sym (not_done row.mark waits))
+            ∙ ap (λ (e : Row). if is_register register e.registers.destination then (if is_done e.mark then None else Some index) else unfinished (stations_at at' (reverse indices)) register) (sym mine)
             ∙ ap (λ xs. unfinished (stations_at at' xs) register) (sym (reverse-push indices index));
         count = omega (arith, counted, same, one_more);
       }
@@ -130,7 +128,7 @@ module _ {capacity : ℕ} {indices : List ℕ} {rows : List Row} {producers : Li
   waiting_fits = omega (arith, room, keeps.limit, keeps.count, waiting_few (row_at rows) indices)
 
   module _ (row : Row) where
-    pub AreTables-entered : (table : List (Option ℕ)) → is_waiting row.mark ≡ true → table ≡ with_producer row.destination (Some index) producers →
+    pub AreTables-entered : (table : List (Option ℕ)) → is_waiting row.mark ≡ true → table ≡ with_producer row.registers.destination (Some index) producers →
         AreTables capacity (indices ++ index ∷ []) (slice_set rows index row) table (waiting + 1)
     AreTables-entered table is_waits set = rw set (AreTables-pushed capacity indices rows producers waiting keeps index inside_window is_fresh row is_waits)
 

@@ -5,6 +5,7 @@ use Rattle.std.proofs.lemmas.Bool.{cases_eq, ne_eqb}
 use Rattle.std.proofs.lemmas.Option.{slice_get-map}
 use Rattle.std.proofs.lemmas.List.{append-nil, length-map}
 use Rattle.reservation_stations.specs.declared.station.Mark.{Mark}
+use Rattle.reservation_stations.specs.declared.station.Registers.{Registers}
 use Rattle.reservation_stations.specs.declared.station.Station.{Station}
 use Rattle.reservation_stations.specs.declared.row.Row.{Row}
 use Rattle.reservation_stations.specs.Readiness.{is_done}
@@ -38,14 +39,14 @@ losing_none missed = λ i. record { first = dropped_none missed.first i; second 
 pub losing_one : (index : ℕ) (missed : Missing) → losing (one index) missed ≡ fed index missed
 losing_one index missed = λ i. record { first = dropped_one index missed.first i; second = dropped_one index missed.second i }
 
-module _ (at at' : ℕ → Row) (lost : ℕ → Bool) (first : (s : ℕ) → (at' s).first ≡ (at s).first) (second : (s : ℕ) → (at' s).second ≡ (at s).second) where
+module _ (at at' : ℕ → Row) (lost : ℕ → Bool) (same : (s : ℕ) → (at' s).registers ≡ (at s).registers) where
   missing_carried : (older older' : List ℕ) (o : Option ℕ) → Carries at at' lost older older' →
       missing (stations_at at' older') (station_if at' o) ≡ losing lost (missing (stations_at at older) (station_if at o))
   missing_carried older older' None carried = refl
   missing_carried older older' (Some s) carried =
       λ i. record {
-        first = (ap (awaited (stations_at at' older')) (first s) ∙ awaited_carried at at' lost older older' (at s).first carried) i;
-        second = (ap (awaited (stations_at at' older')) (second s) ∙ awaited_carried at at' lost older older' (at s).second carried) i;
+        first = (ap (λ (r : Registers). awaited (stations_at at' older') r.sources.0) (same s) ∙ awaited_carried at at' lost older older' (at s).registers.sources.0 carried) i;
+        second = (ap (λ (r : Registers). awaited (stations_at at' older') r.sources.1) (same s) ∙ awaited_carried at at' lost older older' (at s).registers.sources.1 carried) i;
       }
 
 -- one gets another mark
@@ -57,7 +58,7 @@ module _ (at at' : ℕ → Row) (index : ℕ) (next : Mark) (marks : (other : �
       subst (λ xs. Carries at at' lost xs xs) (append-nil (reverse (take p indices)))
       (Carries-behind at at' lost (take p indices) [] [] (Each-take (Changes at at' lost) indices p each) (Carries-none at at' lost)) in
       at_there at' indices p
-      ∙ missing_carried at at' lost (λ s. (marks s).first) (λ s. (marks s).second) (reverse (take p indices)) (reverse (take p indices)) (slice_get indices p) behind
+      ∙ missing_carried at at' lost (λ s. (marks s).registers) (reverse (take p indices)) (reverse (take p indices)) (slice_get indices p) behind
       ∙ ap (losing lost) (sym (at_there at indices p))
 
   module _ (of : Option Station → Bool) (by : Mark → Bool) (is_by : (station : Station) → of (Some station) ≡ by station.mark) where
@@ -101,7 +102,7 @@ not_missed : (index : ℕ) (rows : List Row) (older : List ℕ) (o : Option ℕ)
     awaits index (missing (stations_at (row_at rows) older) (station_if (row_at rows) o)) ≡ false
 not_missed index rows older None done = refl
 not_missed index rows older (Some s) done =
-    λ i. not_awaited index (row_at rows) older (row_at rows s).first done i || not_awaited index (row_at rows) older (row_at rows s).second done i
+    λ i. not_awaited index (row_at rows) older (row_at rows s).registers.sources.0 done i || not_awaited index (row_at rows) older (row_at rows s).registers.sources.1 done i
 
 pub none_awaits : (index : ℕ) (rows : List Row) (indices : List ℕ) → is_done (row_at rows index).mark ≡ true → (p : ℕ) →
     awaits index (missing_at (stations_at (row_at rows) indices) p) ≡ false
@@ -118,7 +119,7 @@ module _ {capacity : ℕ} (index : ℕ) (rest : List ℕ) (rows : List Row) {pro
       (Carries-behind at at lost (take p rest) (index ∷ []) [] (Each-take (Changes at at lost) rest p (each_behind capacity index rest rows producers waiting waiting keeps)) (Carries-oldest capacity index rest rows producers waiting waiting keeps)) in
       ap (fed index) (at_there at (index ∷ rest) (suc p) ∙ ap (λ xs. missing (stations_at at xs) (station_if at (slice_get rest p))) (reverse-cons index (take p rest)))
       ∙ sym (losing_one index (missing (stations_at at (reverse (take p rest) ++ index ∷ [])) (station_if at (slice_get rest p))))
-      ∙ sym (missing_carried at at lost (λ s. refl) (λ s. refl) (reverse (take p rest) ++ index ∷ []) (reverse (take p rest)) (slice_get rest p) behind)
+      ∙ sym (missing_carried at at lost (λ s. refl) (reverse (take p rest) ++ index ∷ []) (reverse (take p rest)) (slice_get rest p) behind)
       ∙ sym (at_there at rest p)
 
   pub missing_retired : (retired : ℕ) → retired < 256 → length rest < 256 → (t : ℕ) → t < 256 →
@@ -128,7 +129,7 @@ module _ {capacity : ℕ} (index : ℕ) (rest : List ℕ) (rows : List Row) {pro
         let at = row_at rows in
         let first : missing_at (stations_at at (index ∷ rest)) (place_of retired t) ≡ nothing =
         ap (λ u. missing_at (stations_at at (index ∷ rest)) (place_of retired u)) same ∙ ap (missing_at (stations_at at (index ∷ rest))) (own_turn retired small)
-        ∙ (λ i. record { first = first_misses (at index).first i; second = first_misses (at index).second i }) in
+        ∙ (λ i. record { first = first_misses (at index).registers.sources.0 i; second = first_misses (at index).registers.sources.1 i }) in
         let behind : length (stations_at at rest) ≤ place_of ((retired + 1) % 256) retired =
         omega (arith, last_turn retired small, few, length-map rest (λ s. station_in s (at s))) in
         ap (fed index) first

@@ -22,13 +22,13 @@ module _ (at_turn : List ℕ) (turn place : ℕ) (rows : List Row) (index : ℕ)
       ap (indices_from at_turn turn) e ∙ indices_more at_turn turn place ∙ ap (λ s. indices_from at_turn turn place ++ s ∷ []) (sym read)
 
   pub producers_more : (producers table : List (Option ℕ)) → length producers ≡ 256 → AreProducers producers (stations_at (row_at rows) (reverse (indices_from at_turn turn place))) →
-      table ≡ with_producer row.destination (if is_done row.mark then None else Some index) producers → AreProducers table (stations_at (row_at rows) (reverse (indices_from at_turn turn (place + 1))))
+      table ≡ with_producer row.registers.destination (if is_done row.mark then None else Some index) producers → AreProducers table (stations_at (row_at rows) (reverse (indices_from at_turn turn (place + 1))))
   producers_more producers table every were set register within =
       let older = stations_at (row_at rows) (reverse (indices_from at_turn turn place)) in
       ap (λ xs. get_or xs register None) set
-      ∙ get_or-with_producer row.destination (if is_done row.mark then None else Some index) producers register (omega (arith, every, within))
-      ∙ ap (λ o. if is_register register row.destination then (if is_done row.mark then None else Some index) else o) (were register within)
-      ∙ ap (λ (e : Row). if is_register register e.destination then (if is_done e.mark then None else Some index) else unfinished older register) is
+      ∙ get_or-with_producer row.registers.destination (if is_done row.mark then None else Some index) producers register (omega (arith, every, within))
+      ∙ ap (λ o. if is_register register row.registers.destination then (if is_done row.mark then None else Some index) else o) (were register within)
+      ∙ ap (λ (e : Row). if is_register register e.registers.destination then (if is_done e.mark then None else Some index) else unfinished older register) is
       ∙ ap (λ xs. unfinished (stations_at (row_at rows) xs) register) (sym (ap reverse one_more ∙ reverse-push (indices_from at_turn turn place) index))
 
   pub waiting_more : (waiting : ℕ) → waiting ≡ waiting_count (stations_at (row_at rows) (indices_from at_turn turn place)) →

@@ -4,6 +4,7 @@ use Rattle.std.specs.Prelude.{slice_set}
 use Rattle.std.proofs.lemmas.Bool.{cases_eq, ne_eqb}
 use Rattle.std.proofs.lemmas.List.{length-set, append-nil, get_or_read}
 use Rattle.reservation_stations.specs.declared.station.Mark.{Mark}
+use Rattle.reservation_stations.specs.declared.station.Registers.{Registers}
 use Rattle.reservation_stations.specs.declared.row.Row.{Row}
 use Rattle.reservation_stations.specs.Readiness.{Window, is_waiting, is_done, station_of, mark_of, marked, waiting_count}
 use Rattle.reservation_stations.specs.AreTables.{AreTables, Each, row_at, free_row, stations_at}
@@ -80,9 +81,7 @@ module _ (rows : List Row) (index : ℕ) (mark : Mark) (row : Row) (within : ind
 
   pub Marks-written : (other : ℕ) → Marks (row_at rows) (row_at written) index mark other
   Marks-written other = record {
-    first = field (λ e. e.first) refl other;
-    second = field (λ e. e.second) refl other;
-    destination = field (λ e. e.destination) refl other;
+    registers = field (λ e. e.registers) refl other;
     mark = ap (λ (e : Row). e.mark) (row_at-set rows index with_mark within other) ∙ mark_by (other == index) (row_at rows other);
   }
 
@@ -101,7 +100,7 @@ module _ (rows : List Row) (index : ℕ) (mark : Mark) (row : Row) (within : ind
   pub Changes-written : (lost : ℕ → Bool) → ((other : ℕ) → other ≢ index → lost other ≡ false) → is_done mark ≡ (is_done (row_at rows index).mark || lost index) →
       (other : ℕ) → Changes (row_at rows) (row_at written) lost other
   Changes-written lost others here other = record {
-    destination = (Marks-written other).destination;
+    destination = ap (λ (r : Registers). r.destination) (Marks-written other).registers;
     done = lost_by lost others here other;
   }
 
@@ -175,10 +174,10 @@ module _ {capacity : ℕ} {indices : List ℕ} {rows : List Row} {producers : Li
 
     -- one that is done now is no producer
     pub AreTables-told : (table : List (Option ℕ)) →
-        table ≡ with_producer (row_at rows index).destination (without index (producer_at producers (row_at rows index).destination)) producers →
+        table ≡ with_producer (row_at rows index).registers.destination (without index (producer_at producers (row_at rows index).registers.destination)) producers →
         is_done next ≡ (is_done mark || one index index) → is_waiting next ≡ is_waiting mark → AreTables capacity indices new_rows table waiting
     AreTables-told table set done alike =
-        let mine = (row_at rows index).destination in
+        let mine = (row_at rows index).registers.destination in
         let dropped_of = get_or-dropped (row_at rows) (reverse indices) producers keeps.every_register keeps.each_producer index in
         keeps_written table (one index) (λ other differ. ne_eqb other index differ) done
         (ap length set ∙ length-with_producer mine (without index (producer_at producers mine)) producers)

@@ -65,7 +65,7 @@ module _ (capacity : ℕ) (index : ℕ) (rest : List ℕ) (rows : List Row) (pro
 
   pub Carries-oldest : Carries (row_at rows) (row_at rows) (one index) (index ∷ []) []
   Carries-oldest = record {
-    unfinished = λ register. lost_oldest (is_register register (row_at rows index).destination) (is_done (row_at rows index).mark) index;
+    unfinished = λ register. lost_oldest (is_register register (row_at rows index).registers.destination) (is_done (row_at rows index).mark) index;
   }
 
   all_behind : Carries (row_at rows) (row_at rows) (one index) (reverse rest ++ index ∷ []) (reverse rest ++ [])
@@ -81,9 +81,9 @@ module _ (capacity : ℕ) (index : ℕ) (rest : List ℕ) (rows : List Row) (pro
       ∙ ap (without index) (sym (keeps.each_producer register within))
 
   AreTables-rest : waiting' + (if is_waiting (row_at rows index).mark then 1 else 0) ≡ waiting →
-      AreTables capacity rest rows (with_producer (row_at rows index).destination (without index (producer_at producers (row_at rows index).destination)) producers) waiting'
+      AreTables capacity rest rows (with_producer (row_at rows index).registers.destination (without index (producer_at producers (row_at rows index).registers.destination)) producers) waiting'
   AreTables-rest left =
-      let mine = (row_at rows index).destination in
+      let mine = (row_at rows index).registers.destination in
       let value = without index (producer_at producers mine) in
       record {
         limit = keeps.limit;
@@ -141,7 +141,7 @@ module _ {capacity : ℕ} {indices : List ℕ} {rows : List Row} {producers : Li
     retire_counted = rw retired_row (omega (arith, first_keeps.count))
 
     pub AreTables-retired : (table : List (Option ℕ)) (waiting' : ℕ) →
-        table ≡ with_producer row.destination (without index (producer_at producers row.destination)) producers →
+        table ≡ with_producer row.registers.destination (without index (producer_at producers row.registers.destination)) producers →
         waiting' + (if is_waiting row.mark then 1 else 0) ≡ waiting → AreTables capacity (drop 1 indices) rows table waiting'
     AreTables-retired table waiting' dropped left =
         let left_by : waiting' + (if is_waiting (row_at rows index).mark then 1 else 0) ≡ waiting = subst (λ (e : Row). waiting' + (if is_waiting e.mark then 1 else 0) ≡ waiting) retired_row left in

@@ -37,15 +37,13 @@ mark_of-held at P indices index mark each is =
 module _ (at at' : ℕ → Row) where
   -- stations that stay
   pub record Stays (index : ℕ) : Type 0 where
-    pub first : (at' index).first ≡ (at index).first
-    pub second : (at' index).second ≡ (at index).second
-    pub destination : (at' index).destination ≡ (at index).destination
+    pub registers : (at' index).registers ≡ (at index).registers
     pub mark : (at' index).mark ≡ (at index).mark
 
   pub stations_at-same : (indices : List ℕ) → Each Stays indices → stations_at at' indices ≡ stations_at at indices
   stations_at-same [] each = refl
   stations_at-same (index ∷ indices) each =
-      λ i. record { index = index; first = each.0.first i; second = each.0.second i; destination = each.0.destination i; mark = each.0.mark i } ∷ stations_at-same indices each.1 i
+      λ i. station_in index (record (at index) { registers = each.0.registers i; mark = each.0.mark i }) ∷ stations_at-same indices each.1 i
 
   -- stations of which as many wait
   pub waiting_count-same : (indices : List ℕ) → Each (λ index. is_waiting (at' index).mark ≡ is_waiting (at index).mark) indices →
@@ -56,20 +54,18 @@ module _ (at at' : ℕ → Row) where
   module _ (index : ℕ) (next : Mark) where
     -- one station with another mark
     pub record Marks (other : ℕ) : Type 0 where
-      pub first : (at' other).first ≡ (at other).first
-      pub second : (at' other).second ≡ (at other).second
-      pub destination : (at' other).destination ≡ (at other).destination
+      pub registers : (at' other).registers ≡ (at other).registers
       pub mark : (at' other).mark ≡ (if other == index then next else (at other).mark)
 
-    by_test : (b : Bool) (old new : Station) → new.index ≡ old.index → new.first ≡ old.first → new.second ≡ old.second → new.destination ≡ old.destination →
-        new.mark ≡ (if b then next else old.mark) → new ≡ (if b then record old { mark = next } else old)
-    by_test true old new s f g d m = λ i. record { index = s i; first = f i; second = g i; destination = d i; mark = m i }
-    by_test false old new s f g d m = λ i. record { index = s i; first = f i; second = g i; destination = d i; mark = m i }
+    by_test : (b : Bool) (other : ℕ) (old new : Row) → new.registers ≡ old.registers → new.mark ≡ (if b then next else old.mark) →
+        station_in other new ≡ (if b then record (station_in other old) { mark = next } else station_in other old)
+    by_test true other old new registers mark = λ i. station_in other (record old { registers = registers i; mark = mark i })
+    by_test false other old new registers mark = λ i. station_in other (record old { registers = registers i; mark = mark i })
 
     pub stations_at-marked : (indices : List ℕ) → Each Marks indices → stations_at at' indices ≡ marked index next (stations_at at indices)
     stations_at-marked [] each = refl
     stations_at-marked (other ∷ indices) each =
-        λ i. by_test (other == index) (station_in other (at other)) (station_in other (at' other)) refl each.0.first each.0.second each.0.destination each.0.mark i
+        λ i. by_test (other == index) other (at other) (at' other) each.0.registers each.0.mark i
         ∷ stations_at-marked indices each.1 i
 
     waits_alike : (other : ℕ) → other ≢ index → Marks other → is_waiting (at' other).mark ≡ is_waiting (at other).mark

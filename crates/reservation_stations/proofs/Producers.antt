@@ -36,7 +36,7 @@ held_by P index false done o here rest = rest
 unfinished-held : (at : ℕ → Row) (P : ℕ → Type 0) (indices : List ℕ) (register : ℕ) → Each P indices → IfSome (unfinished (stations_at at indices) register) P
 unfinished-held at P [] register each = tt
 unfinished-held at P (index ∷ indices) register each =
-    held_by P index (is_register register (at index).destination) (is_done (at index).mark) (unfinished (stations_at at indices) register) each.0 (unfinished-held at P indices register each.1)
+    held_by P index (is_register register (at index).registers.destination) (is_done (at index).mark) (unfinished (stations_at at indices) register) each.0 (unfinished-held at P indices register each.1)
 
 for_some : (o : Option ℕ) (P : ℕ → Type 0) → IfSome o P → ForSome o P
 for_some None P holds index is = absurd cc
@@ -47,18 +47,18 @@ awaited-held at P indices None each = for_some None P tt
 awaited-held at P indices (Some register) each = for_some (unfinished (stations_at at indices) register) P (unfinished-held at P indices register each)
 
 -- a producer writes its register
-writes_by : (at : ℕ → Row) (register index other : ℕ) (is done : Bool) (rest : Option ℕ) → is_register register (at other).destination ≡ is →
-    (if is then (if done then None else Some other) else rest) ≡ Some index → (rest ≡ Some index → is_register register (at index).destination ≡ true) →
-    is_register register (at index).destination ≡ true
+writes_by : (at : ℕ → Row) (register index other : ℕ) (is done : Bool) (rest : Option ℕ) → is_register register (at other).registers.destination ≡ is →
+    (if is then (if done then None else Some other) else rest) ≡ Some index → (rest ≡ Some index → is_register register (at index).registers.destination ≡ true) →
+    is_register register (at index).registers.destination ≡ true
 writes_by at register index other true true rest writes found behind = absurd cc
-writes_by at register index other true false rest writes found behind = subst (λ s. is_register register (at s).destination ≡ true) (same_Some other index found) writes
+writes_by at register index other true false rest writes found behind = subst (λ s. is_register register (at s).registers.destination ≡ true) (same_Some other index found) writes
 writes_by at register index other false done rest writes found behind = behind found
 
 unfinished-writes : (at : ℕ → Row) (indices : List ℕ) (register index : ℕ) → unfinished (stations_at at indices) register ≡ Some index →
-    is_register register (at index).destination ≡ true
+    is_register register (at index).registers.destination ≡ true
 unfinished-writes at [] register index is = absurd cc
 unfinished-writes at (other ∷ indices) register index is =
-    writes_by at register index other (is_register register (at other).destination) (is_done (at other).mark) (unfinished (stations_at at indices) register) refl is (unfinished-writes at indices register index)
+    writes_by at register index other (is_register register (at other).registers.destination) (is_done (at other).mark) (unfinished (stations_at at indices) register) refl is (unfinished-writes at indices register index)
 
 -- without an index, at the place of its register
 without-other : (index : ℕ) (table : Option ℕ) → (table ≡ Some index → ⊥) → table ≡ without index table
@@ -69,18 +69,18 @@ without-other index (Some producer) other = elim (cases_eq producer index) [
 ]
 
 module _ (at : ℕ → Row) (indices : List ℕ) (producers : List (Option ℕ)) (long : length producers ≡ 256) (are : AreProducers producers (stations_at at indices)) (index : ℕ) where
-  table_by : (register : ℕ) → register < 256 → (b : Bool) → is_register register (at index).destination ≡ b →
-      (if b then without index (producer_at producers (at index).destination) else get_or producers register None) ≡ without index (get_or producers register None)
-  table_by register within true is = ap (λ d. without index (producer_at producers d)) (register_is register (at index).destination is)
+  table_by : (register : ℕ) → register < 256 → (b : Bool) → is_register register (at index).registers.destination ≡ b →
+      (if b then without index (producer_at producers (at index).registers.destination) else get_or producers register None) ≡ without index (get_or producers register None)
+  table_by register within true is = ap (λ d. without index (producer_at producers d)) (register_is register (at index).registers.destination is)
   table_by register within false is =
       without-other index (get_or producers register None)
-      (λ here. both_ways (is_register register (at index).destination) is (unfinished-writes at indices register index (sym (are register within) ∙ here)))
+      (λ here. both_ways (is_register register (at index).registers.destination) is (unfinished-writes at indices register index (sym (are register within) ∙ here)))
 
   pub get_or-dropped : (register : ℕ) → register < 256 →
-      get_or (with_producer (at index).destination (without index (producer_at producers (at index).destination)) producers) register None ≡ without index (get_or producers register None)
+      get_or (with_producer (at index).registers.destination (without index (producer_at producers (at index).registers.destination)) producers) register None ≡ without index (get_or producers register None)
   get_or-dropped register within =
-      get_or-with_producer (at index).destination (without index (producer_at producers (at index).destination)) producers register (rw long within)
-      ∙ table_by register within (is_register register (at index).destination) refl
+      get_or-with_producer (at index).registers.destination (without index (producer_at producers (at index).registers.destination)) producers register (rw long within)
+      ∙ table_by register within (is_register register (at index).registers.destination) refl
 
 -- none awaits one that is done
 still_other : (index other : ℕ) (at : ℕ → Row) (is done : Bool) (rest : Option ℕ) → is_done (at other).mark ≡ done → is_done (at index).mark ≡ true → is_index index rest ≡ false →
@@ -92,7 +92,7 @@ still_other index other at false done rest is mine behind = behind
 pub not_unfinished : (index : ℕ) (at : ℕ → Row) (older : List ℕ) (register : ℕ) → is_done (at index).mark ≡ true → is_index index (unfinished (stations_at at older) register) ≡ false
 not_unfinished index at [] register done = refl
 not_unfinished index at (other ∷ older) register done =
-    still_other index other at (is_register register (at other).destination) (is_done (at other).mark) (unfinished (stations_at at older) register) refl done (not_unfinished index at older register done)
+    still_other index other at (is_register register (at other).registers.destination) (is_done (at other).mark) (unfinished (stations_at at older) register) refl done (not_unfinished index at older register done)
 
 pub not_awaited : (index : ℕ) (at : ℕ → Row) (older : List ℕ) (source : Option ℕ) → is_done (at index).mark ≡ true → is_index index (awaited (stations_at at older) source) ≡ false
 not_awaited index at older None done = refl

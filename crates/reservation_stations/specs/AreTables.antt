@@ -9,9 +9,7 @@ use Rattle.reservation_stations.specs.Readiness.{is_done, is_register, waiting_c
 -- the row of an index that was never held
 abbrev pub free_row : Row
 free_row = record {
-  first = None;
-  second = None;
-  destination = None;
+  registers = record { sources = (None, None); destination = None };
   mark = Done;
   turn = 0;
 }
@@ -23,7 +21,7 @@ row_at rows index = get_or rows index free_row
 -- the station that a row keeps
 abbrev pub station_in : ℕ → Row → Station
 station_in index row =
-    record { index = index; first = row.first; second = row.second; destination = row.destination; mark = row.mark }
+    record { index = index; first = row.registers.sources.0; second = row.registers.sources.1; destination = row.registers.destination; mark = row.mark }
 
 -- the stations of some indices
 abbrev pub stations_at : (ℕ → Row) → List ℕ → List Station

@@ -15,5 +15,5 @@ mod turn_set;
 
 pub use place_set::PlaceSet;
 pub use sought::Sought;
-pub use station::{Mark, Station};
+pub use station::{Mark, Registers, Station};
 pub use stations::Stations;

@@ -1,11 +1,9 @@
-use crate::station::Mark;
+use crate::station::{Mark, Registers};
 
 /// What an index of the window keeps of the station that holds it.
 #[derive(Clone, Copy, Debug, PartialEq, Eq)]
 pub struct Row {
-    pub first: Option<u8>,
-    pub second: Option<u8>,
-    pub destination: Option<u8>,
+    pub registers: Registers,
     pub mark: Mark,
     /// Its place plus how many stations retired, modulo 256.
     pub turn: u8,
@@ -20,9 +18,10 @@ impl Row {
         ensures free { result ≡ free_row }
     {
         Row {
-            first: None,
-            second: None,
-            destination: None,
+            registers: Registers {
+                sources: (None, None),
+                destination: None,
+            },
             mark: Mark::Done,
             turn: 0,
         }

@@ -30,6 +30,15 @@ impl Mark {
     }
 }
 
+/// The registers of an instruction, by number.
+#[derive(Clone, Copy, Debug, PartialEq, Eq)]
+pub struct Registers {
+    /// Those that it reads.
+    pub sources: (Option<u8>, Option<u8>),
+    /// The one that it writes.
+    pub destination: Option<u8>,
+}
+
 /// What the reservation stations keep of an instruction in the window: its index, its registers by
 /// number, and its mark.
 #[derive(Clone, Copy, Debug, PartialEq, Eq)]

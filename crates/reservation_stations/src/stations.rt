@@ -2,7 +2,7 @@ use crate::place_set::PlaceSet;
 use crate::row::Row;
 use crate::sets::Sets;
 use crate::sought::Sought;
-use crate::station::Mark;
+use crate::station::{Mark, Registers};
 use crate::tables::{awaited, drop_producer, rename, set_producer, uncounted};
 use crate::turn_set::TurnSet;
 use fsim_base::NoMemory;
@@ -111,27 +111,27 @@ impl Stations {
         self.waiting
     }
 
-    /// Appends the station of an instruction, which waits, at an index that no station holds.
+    /// Appends the station of an instruction with these registers, which waits, at an index that no
+    /// station holds. They are copied into its row as they stand.
     #[inline(always)]
-    pub fn enter(&mut self, index: u32, sources: (Option<u8>, Option<u8>), destination: Option<u8>)
+    pub fn enter(&mut self, index: u32, registers: &Registers)
         requires within { index < self.old.capacity }
         requires free { IsNone (station_of index self.old.stations) }
         ensures entered { self.new ≡ record self.old {
-          stations = self.old.stations ++ entered index sources.0 sources.1 destination ∷ [];
+          stations = self.old.stations ++ entered index registers.now.sources.0
+              registers.now.sources.1 registers.now.destination ∷ [];
         } }
     {
-        let first = awaited(&self.producers, sources.0);
-        let second = awaited(&self.producers, sources.1);
+        let first = awaited(&self.producers, registers.sources.0);
+        let second = awaited(&self.producers, registers.sources.1);
         let turn = self.retired.wrapping_add(self.count as u8);
         self.sets.enter(turn, first, second);
         self.rows[index as usize] = Row {
-            first: sources.0,
-            second: sources.1,
-            destination,
+            registers: *registers,
             mark: Mark::Waiting,
             turn,
         };
-        set_producer(&mut self.producers, destination, Some(index));
+        set_producer(&mut self.producers, registers.destination, Some(index));
         self.at_turn[turn as usize] = index as u8;
         self.count += 1;
         self.waiting += 1;
@@ -161,7 +161,7 @@ impl Stations {
         if faulted {
             self.rows[index as usize].mark = Mark::Faulted;
         } else {
-            let destination = self.rows[index as usize].destination;
+            let destination = self.rows[index as usize].registers.destination;
             self.rows[index as usize].mark = Mark::Done;
             drop_producer(&mut self.producers, destination, index);
             self.sets.tell(index);
@@ -193,13 +193,13 @@ impl Stations {
         ensures retired { self.new ≡ record self.old { stations = drop 1 self.old.stations } }
     {
         let Row {
-            destination,
+            registers,
             mark,
             ..
         } = self.rows[index as usize];
         self.sets.retire(index, self.retired);
         self.waiting = uncounted(self.waiting, mark);
-        drop_producer(&mut self.producers, destination, index);
+        drop_producer(&mut self.producers, registers.destination, index);
         self.count -= 1;
         self.retired = self.retired.wrapping_add(1);
     }

@@ -66,12 +66,12 @@ pub fn rename(
         let turn = from.wrapping_add(place as u8);
         let index = u32::from(at_turn[turn as usize]);
         let Row {
-            destination,
+            registers,
             mark,
             ..
         } = rows[index as usize];
         let producer = if mark.is_done() { None } else { Some(index) };
-        set_producer(producers, destination, producer);
+        set_producer(producers, registers.destination, producer);
         waiting += u32::from(mark.is_waiting());
     }
     waiting

@@ -1,5 +1,12 @@
-use crate::{Sought, Stations};
+use crate::{Registers, Sought, Stations};
 use std::test::Fail;
+
+fn registers(sources: (Option<u8>, Option<u8>), destination: Option<u8>) -> Registers {
+    Registers {
+        sources,
+        destination,
+    }
+}
 
 /// How many wait, and the first two places that can begin.
 fn seen(stations: &Stations) -> (u32, Option<u32>, Option<u32>) {
@@ -16,9 +23,9 @@ fn seen(stations: &Stations) -> (u32, Option<u32>, Option<u32>) {
 #[test]
 fn a_source_waits_for_its_youngest_older_writer(rt: HostRuntime) -> Result<(), Fail> {
     let mut stations = Stations::new(rt.alloc(), 4)?;
-    stations.enter(3, (Some(1), None), Some(5));
-    stations.enter(0, (Some(5), Some(2)), Some(6));
-    stations.enter(1, (Some(3), None), Some(6));
+    stations.enter(3, &registers((Some(1), None), Some(5)));
+    stations.enter(0, &registers((Some(5), Some(2)), Some(6)));
+    stations.enter(1, &registers((Some(3), None), Some(6)));
     assert_eq!(rt;
         seen(&stations),
         (3, Some(0), Some(2)),
@@ -38,7 +45,7 @@ fn a_source_waits_for_its_youngest_older_writer(rt: HostRuntime) -> Result<(), F
     );
     assert_eq!(rt; seen(&stations), (2, Some(1), Some(2)), "x5 has its value");
     stations.keep(2);
-    stations.enter(1, (Some(5), Some(6)), None);
+    stations.enter(1, &registers((Some(5), Some(6)), None));
     assert_eq!(rt;
         seen(&stations),
         (2, Some(1), None),

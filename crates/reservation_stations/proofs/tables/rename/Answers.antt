@@ -60,15 +60,15 @@ loop-place-preserved c =
       | else-is_done w ↦ w.producer-is ∙ ap (λ b. if b then None else Some index) (sym w.if-is_done.false ∙ c.is_done.ensures)
     ]
     in
-    let set : new ≡ with_producer row.destination (if is_done row.mark then None else Some index) old =
-    c.set_producer.ensures.set ∙ ap (λ o. with_producer row.destination o old) value
+    let set : new ≡ with_producer row.registers.destination (if is_done row.mark then None else Some index) old =
+    c.set_producer.ensures.set ∙ ap (λ o. with_producer row.registers.destination o old) value
     in
     record {
       every_register = omega (
         arith,
         c.loop-place.invariant.every_register,
         ap length set,
-        length-with_producer row.destination (if is_done row.mark then None else Some index) old,
+        length-with_producer row.registers.destination (if is_done row.mark then None else Some index) old,
       );
       renamed = producers_more turns c.args.from place rows index read row is old new
           (c.loop-place.invariant.every_register) c.loop-place.invariant.renamed set;

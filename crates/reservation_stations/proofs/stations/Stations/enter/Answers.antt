@@ -27,8 +27,8 @@ enter-requires c =
     λ source. subst (λ n. ForSome (awaited older source) (λ index. index < n)) long (all_awaited c.self.invariant.0 c.self.view_is source)
     in
     record {
-      inside = subst (λ (o : Option ℕ). ForSome o (λ index. index < vec_len c.self.inside.sets.dependents)) (sym (c.awaited-first.ensures.awaited older c.self.invariant.0.each_producer)) (held c.args.sources.0);
-      inside_second = subst (λ (o : Option ℕ). ForSome o (λ index. index < vec_len c.self.inside.sets.dependents)) (sym (c.awaited-second.ensures.awaited older c.self.invariant.0.each_producer)) (held c.args.sources.1);
+      inside = subst (λ (o : Option ℕ). ForSome o (λ index. index < vec_len c.self.inside.sets.dependents)) (sym (c.awaited-first.ensures.awaited older c.self.invariant.0.each_producer)) (held c.args.registers.now.sources.0);
+      inside_second = subst (λ (o : Option ℕ). ForSome o (λ index. index < vec_len c.self.inside.sets.dependents)) (sym (c.awaited-second.ensures.awaited older c.self.invariant.0.each_producer)) (held c.args.registers.now.sources.1);
     }
 
 pub overflow_cast-turn : goal.overflow_cast-turn
@@ -69,9 +69,7 @@ invariant_of-self c =
     indices_entered items retired count turn index c.self.invariant.3 fits refl
     in
     let row : Row = record {
-      first = c.args.sources.0;
-      second = c.args.sources.1;
-      destination = c.args.destination;
+      registers = c.args.registers.now;
       mark = Waiting;
       turn = turn;
     } in
@@ -87,8 +85,8 @@ invariant_of-self c =
     let entered = c.enter.ensures.entered (length rows) _ _ missed free old in
     let value : record { first = c.awaited-first.result; second = c.awaited-second.result } ≡ missing (reverse stations) (Some station) =
     λ i. record {
-      first = (c.awaited-first.ensures.awaited (stations_at (row_at rows) (reverse indices)) c.self.invariant.0.each_producer ∙ awaited_seen c.self.invariant.0 c.self.view_is c.args.sources.0) i;
-      second = (c.awaited-second.ensures.awaited (stations_at (row_at rows) (reverse indices)) c.self.invariant.0.each_producer ∙ awaited_seen c.self.invariant.0 c.self.view_is c.args.sources.1) i;
+      first = (c.awaited-first.ensures.awaited (stations_at (row_at rows) (reverse indices)) c.self.invariant.0.each_producer ∙ awaited_seen c.self.invariant.0 c.self.view_is c.args.registers.now.sources.0) i;
+      second = (c.awaited-second.ensures.awaited (stations_at (row_at rows) (reverse indices)) c.self.invariant.0.each_producer ∙ awaited_seen c.self.invariant.0 c.self.view_is c.args.registers.now.sources.1) i;
     }
     in
     let now : AreSetsOf (length rows) retired (stations ++ station ∷ []) c.enter.new.self =
@@ -119,9 +117,7 @@ returns c =
     let room_left : length indices < length rows = room c.self.invariant.0 c.self.view_is c.args.index c.requires.within c.requires.free in
     let fits : count < 256 = omega (arith, room_left, length-indices items retired count, c.self.invariant.0.limit) in
     let row : Row = record {
-      first = c.args.sources.0;
-      second = c.args.sources.1;
-      destination = c.args.destination;
+      registers = c.args.registers.now;
       mark = Waiting;
       turn = (retired + count) % 256;
     } in

@@ -78,7 +78,7 @@ invariant_of-self-else-faulted c =
     let first : c.index.result.now ≡ row_at rows index = get_or_read rows index c.index.result.now held.0 c.index.ensures free_row in
     let own : (row_at rows index).turn ≡ c.index.result.now.turn = ap (λ (e : Row). e.turn) (sym first) in
     let its : c.index-else-faulted.result.now ≡ row_at rows index = get_or_read rows index c.index-else-faulted.result.now held.0 c.index-else-faulted.ensures free_row in
-    let table : Row → List (Option ℕ) = λ e. with_producer e.destination (without index (producer_at c.self.inside.producers e.destination)) c.self.inside.producers in
+    let table : Row → List (Option ℕ) = λ e. with_producer e.registers.destination (without index (producer_at c.self.inside.producers e.registers.destination)) c.self.inside.producers in
     let dropped : c.drop_producer.new.producers ≡ table (row_at rows index) = c.drop_producer.ensures.dropped ∙ ap table its in
     let others : (other : ℕ) → other ≢ index → one index other ≡ false = λ other differ. ne_eqb other index differ in (
       own_tables (AreTables-told c.self.invariant.0 c.self.view_is index Issued Done c.requires.issued row c.index_mut-else-faulted.ensures.value
