@@ -14,29 +14,29 @@ pub struct Entry {
     pub number: u64,
     /// How many orders that open an epoch the functional side had obeyed when it made the entry.
     pub epoch: u64,
+    /// mtimecmp after it, in cycles.
+    pub cmp: u64,
     /// The instruction's address.
     pub addr: u32,
     /// The instruction's word; 0 where nothing could be fetched, which is exactly where the cause
     /// is an instruction address misaligned or an instruction access fault on a word of 0.
     pub word: u32,
-    /// The load or store as it was attempted, also where it has a cause.
-    pub access: Access,
     /// The address of the instruction behind it: the handler, where it has a cause.
     pub next: u32,
-    /// Why it traps, if it does.
-    pub cause: Option<Cause>,
     /// Which unit it waits for.
     pub class: Class,
-    /// It reads the time, and no time was given to it.
-    pub unserved: bool,
-    /// The byte that it sends to the console.
-    pub out: Option<u8>,
-    /// How it ends the run.
-    pub halt: Option<Halt>,
     /// Whether MIE and MTIE are both set after it.
     pub irq_on: bool,
-    /// mtimecmp after it, in cycles.
-    pub cmp: u64,
+    /// It reads the time, and no time was given to it.
+    pub unserved: bool,
+    /// The load or store as it was attempted, also where it has a cause.
+    pub access: Access,
+    /// How it ends the run.
+    pub halt: Option<Halt>,
+    /// Why it traps, if it does.
+    pub cause: Option<Cause>,
+    /// The byte that it sends to the console.
+    pub out: Option<u8>,
 }
 
 impl Entry {
