@@ -122,7 +122,9 @@ impl InFlight {
     }
 
     /// Adds an instruction that waits, behind the others. There is room, and its number is the one
-    /// behind the youngest one's.
+    /// behind the youngest one's. It goes inline where an instruction is fetched: most words are
+    /// known, and then it makes no call.
+    #[inline(always)]
     pub fn append(&mut self, entry: &Entry, predicted: u32, fetched: u64)
         requires room { length self.old.slots < self.old.capacity }
         requires next { IfSome (youngest self.old.slots)
