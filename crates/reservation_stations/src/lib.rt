@@ -3,6 +3,7 @@
 #![tactic(auto)]
 
 mod place_set;
+mod producer;
 mod row;
 mod sets;
 mod sought;

@@ -1,13 +1,14 @@
 //! What is known of each station by its turn: whether it waits, executes, and misses operands.
 ghost use Rattle.std.specs.Prelude.{◌≡◌, ℕ, ◌+◌, ◌%◌, ◌<◌, ◌==◌, ◌&&◌, not, true, false, Bool};
-ghost use Rattle.std.specs.Prelude.{◌||◌, is_some, vec_len, IfOk, if◌then◌else◌};
+ghost use Rattle.std.specs.Prelude.{vec_len, IfOk, if◌then◌else◌};
 ghost use Rattle.std.specs.Option.{ForSome};
 ghost use Rattle.std.specs.Int.{bit_at};
 ghost use Rattle.reservation_stations.specs.TurnSet.{holds, IsBitOf};
 ghost use Rattle.reservation_stations.specs.Noting.{Notes, Keeps};
-ghost use Rattle.reservation_stations.specs.AreSets.{AreSets, Missing, nothing, awaits, are_two};
+ghost use Rattle.reservation_stations.specs.AreSets.{AreSets, Missing, nothing, awaits};
 ghost use Rattle.reservation_stations.specs.AreSets.{fed, put};
 
+use crate::producer::Producer;
 use crate::turn_set::{TurnBit, TurnSet, bit_of};
 use fsim_base::NoMemory;
 use std::alloc::Global;
@@ -47,7 +48,7 @@ impl Sets {
 
     /// A station takes a turn. It waits, and awaits the values of these indices, if they are given.
     #[inline(always)]
-    pub fn enter(&mut self, turn: u8, first: Option<u32>, second: Option<u32>)
+    pub fn enter(&mut self, turn: u8, first: Producer, second: Producer)
         requires inside { ForSome first (λ index. index < vec_len self.old.dependents) }
         requires inside_second { ForSome second (λ index. index < vec_len self.old.dependents) }
         ensures entered { (capacity : ℕ) (idles executes : ℕ → Bool) (missed : ℕ → Missing)
@@ -59,8 +60,8 @@ impl Sets {
         note(&mut self.dependents, first, at);
         note(&mut self.dependents, second, at);
         self.idle.insert(at);
-        self.short.insert_if(at, is_either(first, second));
-        self.both.insert_if(at, are_two(first, second));
+        self.short.insert_if(at, first.is_either(second));
+        self.both.insert_if(at, first.are_two(second));
     }
 
     /// The station of a turn waits no longer, and executes.
@@ -153,32 +154,16 @@ impl Sets {
     }
 }
 
-/// Whether one of two indices is given.
-#[inline(always)]
-fn is_either(first: Option<u32>, second: Option<u32>) -> bool
-    ensures either { result ≡ (is_some first || is_some second) }
-{
-    first.is_some() || second.is_some()
-}
-
-/// Whether both are given, and differ.
-#[inline(always)]
-fn are_two(first: Option<u32>, second: Option<u32>) -> bool
-    ensures two { result ≡ are_two first second }
-{
-    first.is_some() && second.is_some() && first != second
-}
-
 /// Notes the turn of a bit among those that await the value of an index, if one is given.
 #[inline(always)]
-fn note(dependents: &mut Vec<TurnSet>, on: Option<u32>, at: TurnBit)
+fn note(dependents: &mut Vec<TurnSet>, on: Producer, at: TurnBit)
     requires inside { ForSome on (λ index. index < vec_len dependents.old) }
     requires within { at.word < 4 }
     ensures noted { (turn : ℕ) → IsBitOf turn at
         → Notes on turn dependents.old.items dependents.new.items }
 {
-    if let Some(on) = on {
-        dependents[on as usize].insert(at);
+    if on.is_some() {
+        dependents[on.index() as usize].insert(at);
     }
 }
 

@@ -1,4 +1,5 @@
 use crate::place_set::PlaceSet;
+use crate::producer::Producer;
 use crate::row::Row;
 use crate::sets::Sets;
 use crate::sought::Sought;
@@ -25,7 +26,7 @@ pub struct Stations {
     /// What each index keeps of the station that holds it.
     rows: Vec<Row>,
     /// The index of each register's producer, where it has one that isn't done.
-    producers: [Option<u32>; 256],
+    producers: [Producer; 256],
     /// How many wait.
     waiting: u32,
     /// By their turns, which wait, which execute and which miss operands.
@@ -85,7 +86,7 @@ impl Stations {
             at_turn: [0; 256],
             count: 0,
             rows,
-            producers: [None; 256],
+            producers: [Producer::none(); 256],
             waiting: 0,
             sets,
             retired: 0,
@@ -125,16 +126,21 @@ impl Stations {
         let first = awaited(&self.producers, registers.sources.0);
         let second = awaited(&self.producers, registers.sources.1);
         let turn = self.retired.wrapping_add(self.count as u8);
-        self.sets.enter(turn, first, second);
+        set_producer(
+            &mut self.producers,
+            registers.destination,
+            Producer::of(index),
+        );
         self.rows[index as usize] = Row {
             registers: *registers,
             mark: Mark::Waiting,
             turn,
         };
-        set_producer(&mut self.producers, registers.destination, Some(index));
         self.at_turn[turn as usize] = index as u8;
         self.count += 1;
         self.waiting += 1;
+        // The sets come last, so that the host saves no registers over the work on them.
+        self.sets.enter(turn, first, second);
     }
 
     /// Lets a station that waits execute.

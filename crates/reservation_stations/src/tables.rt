@@ -8,43 +8,49 @@ ghost use Rattle.reservation_stations.specs.AreTables.{AreProducers, Each, await
 ghost use Rattle.reservation_stations.specs.AreTables.{stations_at, row_at};
 ghost use Rattle.reservation_stations.specs.Turns.{indices_from};
 
+use crate::producer::Producer;
 use crate::row::Row;
 use crate::station::Mark;
 
 /// The index of the station that has yet to give the value of a source, if one has.
-pub fn awaited(producers: &[Option<u32>; 256], source: Option<u8>) -> Option<u32>
+#[inline(always)]
+pub fn awaited(producers: &[Producer; 256], source: Option<u8>) -> Producer
     ensures awaited { (older : List Station) → AreProducers producers.now older
         → result ≡ awaited older source }
 {
-    let register = source?;
-    producers[register as usize]
+    match source {
+        Some(register) => producers[register as usize],
+        None => Producer::none(),
+    }
 }
 
 /// Makes an index the producer of a register, if one is given, or none.
-pub fn set_producer(producers: &mut [Option<u32>; 256], register: Option<u8>, index: Option<u32>)
-    ensures set { producers.new ≡ with_producer register index producers.old }
+#[inline(always)]
+pub fn set_producer(producers: &mut [Producer; 256], register: Option<u8>, producer: Producer)
+    ensures set { producers.new ≡ with_producer register producer producers.old }
 {
     if let Some(register) = register {
-        producers[register as usize] = index;
+        producers[register as usize] = producer;
     }
 }
 
 /// Makes a register, if one is given, have no producer, where this index is its producer.
-pub fn drop_producer(producers: &mut [Option<u32>; 256], register: Option<u8>, index: u32)
+pub fn drop_producer(producers: &mut [Producer; 256], register: Option<u8>, index: u32)
+    requires within { index < 256 }
     ensures dropped { producers.new ≡
         with_producer register (without index (producer_at producers.old register))
         producers.old }
 {
     if let Some(register) = register
-        && producers[register as usize] == Some(index)
+        && producers[register as usize].is(index)
     {
-        producers[register as usize] = None;
+        producers[register as usize] = Producer::none();
     }
 }
 
 /// Makes the producers those of so many stations from a turn on, and gives how many of them wait.
 pub fn rename(
-    producers: &mut [Option<u32>; 256],
+    producers: &mut [Producer; 256],
     at_turn: &[u8; 256],
     rows: &Vec<Row>,
     from: u8,
@@ -60,7 +66,8 @@ pub fn rename(
     ensures waiting { result ≡ waiting_count
         (stations_at (row_at rows.now.items) (indices_from at_turn.now from count)) }
 {
-    *producers = [None; 256];
+    let none = [Producer::none(); 256];
+    *producers = none;
     let mut waiting = 0;
     for place in 0..count {
         let turn = from.wrapping_add(place as u8);
@@ -70,7 +77,11 @@ pub fn rename(
             mark,
             ..
         } = rows[index as usize];
-        let producer = if mark.is_done() { None } else { Some(index) };
+        let producer = if mark.is_done() {
+            Producer::none()
+        } else {
+            Producer::of(index)
+        };
         set_producer(producers, registers.destination, producer);
         waiting += u32::from(mark.is_waiting());
     }

@@ -11,8 +11,8 @@ use Rattle.reservation_stations.proofs.tables.rename.Goals as goal
 
 pub loop-place-init : goal.loop-place-init
 loop-place-init c = record {
-  every_register = length-replicate {A = Option ℕ} 256 None;
-  renamed = λ register within. get_or-replicate {A = Option ℕ} 256 register None None within;
+  every_register = length-replicate {A = Option ℕ} 256 c.none-none.result;
+  renamed = λ register within. get_or-replicate {A = Option ℕ} 256 register c.none-none.result None within ∙ c.none-none.ensures.none;
   waiting = refl;
 }
 
@@ -56,8 +56,8 @@ loop-place-preserved c =
     let is : row ≡ row_at rows index = get_or_read rows index row (omega (arith, below, c.args.rows.now.ok)) c.index.ensures free_row in
     let value : c.if-is_done.producer ≡ (if is_done row.mark then None else Some index) =
     elim c.if-is_done.branch [
-      | then-is_done w ↦ w.producer-is ∙ ap (λ b. if b then None else Some index) (sym w.if-is_done.true ∙ c.is_done.ensures)
-      | else-is_done w ↦ w.producer-is ∙ ap (λ b. if b then None else Some index) (sym w.if-is_done.false ∙ c.is_done.ensures)
+      | then-is_done w ↦ w.producer-is ∙ w.none-producer.ensures.none ∙ ap (λ b. if b then None else Some index) (sym w.if-is_done.true ∙ c.is_done.ensures)
+      | else-is_done w ↦ w.producer-is ∙ w.of-producer.ensures.some ∙ ap (λ b. if b then None else Some index) (sym w.if-is_done.false ∙ c.is_done.ensures)
     ]
     in
     let set : new ≡ with_producer row.registers.destination (if is_done row.mark then None else Some index) old =

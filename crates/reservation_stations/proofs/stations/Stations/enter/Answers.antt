@@ -6,6 +6,7 @@ use Rattle.reservation_stations.specs.declared.row.Row.{Row}
 use Rattle.reservation_stations.specs.declared.station.Mark.TheVariants.{Waiting}
 use Rattle.reservation_stations.specs.Readiness.{Window, executes_at}
 use Rattle.reservation_stations.specs.AreTables.{station_in, row_at, stations_at, awaited}
+use Rattle.reservation_stations.specs.Changes.{with_producer}
 use Rattle.reservation_stations.specs.Turns.{indices_from}
 use Rattle.reservation_stations.specs.Places.{place_of}
 use Rattle.reservation_stations.specs.AreSets.{AreSets, AreSetsOf, Missing, nothing, missing, missing_at, waits_at, put}
@@ -99,7 +100,7 @@ invariant_of-self c =
     in (
       own_tables {capacity = length rows} (rw behind
           (AreTables-entered c.self.invariant.0 c.self.view_is index c.requires.within c.requires.free row c.set_producer.new.producers
-          refl c.set_producer.ensures.set)),
+          refl (c.set_producer.ensures.set ∙ ap (λ o. with_producer c.args.registers.now.destination o c.self.inside.producers) c.of.ensures.some))),
       rw behind
           (turned_entered retired indices rows index row c.self.invariant.1 within (is_fresh c.self.invariant.0 c.self.view_is index c.requires.within c.requires.free)
           (omega arith) (omega (arith, fits, long)) (ap (λ n. (retired + n) % 256) (sym long))),

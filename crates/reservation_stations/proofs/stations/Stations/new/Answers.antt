@@ -9,7 +9,7 @@ use Rattle.reservation_stations.proofs.stations.Stations.new.Goals as goal
 pub invariant_of-result : goal.invariant_of-result
 invariant_of-result c =
     let items = c.in-Ok.ensures.items_if_clones_equal (λ y is. is) in
-    rw items (
+    rw (items, c.none.ensures.none) (
       own_tables (Keeps_none c.args.capacity c.free.result c.requires.limit),
       λ p s there. absurd cc,
       subst (λ n. AreSetsOf n 0 [] c.in-Ok-new.sets) (sym (length-replicate c.args.capacity c.free.result)) (AreSets-none c.in-Ok-new.ensures.empty),
