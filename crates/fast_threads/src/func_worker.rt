@@ -1,4 +1,4 @@
-ghost use Rattle.std.specs.Prelude.{◌≡◌, true, Some, None, map, IfOk};
+ghost use Rattle.std.specs.Prelude.{◌≡◌, true, None, IsSome, map, IfOk};
 
 use crate::lookahead::Lookahead;
 use crate::worker::Worker;
@@ -17,19 +17,25 @@ use trace_ring::{FuncEnd, Named};
 pub struct FuncWorker<D: Device, K: Named> {
     end: FuncEnd<K>,
     side: FuncSide<D>,
-    /// The entry that was computed and not pushed yet.
-    computed: Option<Entry>,
+    /// The entry computed last. It is written where it is kept, and not copied from elsewhere as
+    /// soon as it is written: wide loads of what small stores wrote wait until those are through.
+    entry: Entry,
+    /// Whether the entry is still to be pushed.
+    is_computed: bool,
     lookahead: Lookahead,
 }
 
 impl<D: Device, K: Named> Model for FuncWorker<D, K> {
+    ghost use Rattle.func_model.specs.Walk.{entry_if};
     ghost use Rattle.fast_threads.specs.Workers.{FuncWork, func_work, IsFuncAt};
 
     ghost Value = { FuncWork D };
 
-    ghost view = { λ worker. func_work worker.end.setup worker.side worker.computed };
+    ghost view = { λ worker.
+        func_work worker.end.setup worker.side (entry_if worker.is_computed worker.entry) };
 
-    ghost invariant = { λ worker. IsFuncAt worker.end worker.side worker.computed };
+    ghost invariant = { λ worker.
+        IsFuncAt worker.end worker.side (entry_if worker.is_computed worker.entry) };
 }
 
 impl<D: Device, K: Named> FuncWorker<D, K> {
@@ -57,7 +63,8 @@ impl<D: Device, K: Named> FuncWorker<D, K> {
         Ok(FuncWorker {
             end,
             side,
-            computed: None,
+            entry: Entry::BLANK,
+            is_computed: false,
             lookahead: Lookahead::new(),
         })
     }
@@ -95,7 +102,7 @@ impl<D: Device, K: Named> FuncWorker<D, K> {
         let committed = self.side.committed();
         self.side.obey(order);
         if order.opens_epoch() {
-            self.computed = None;
+            self.is_computed = false;
             self.lookahead = Lookahead::new();
         } else {
             let count = self.side.committed().saturating_sub(committed);
@@ -114,21 +121,21 @@ impl<D: Device, K: Named> FuncWorker<D, K> {
             self.lookahead.widen();
             return;
         }
-        self.computed = self.side.produce();
-        if self.computed.is_some() {
+        self.is_computed = self.side.produce_into(&mut self.entry);
+        if self.is_computed {
             self.lookahead.note_entry();
         }
     }
 
     /// Hands over the computed entry, if there is room for it. It goes into the ring at once where
     /// the timing side waits for it.
-    fn push(&mut self, entry: Entry) -> bool
-        requires computed { self.old.computed ≡ Some entry }
+    fn push(&mut self) -> bool
+        requires computed { IsSome self.old.computed }
         ensures setup { self.new.setup ≡ self.old.setup }
     {
-        let pushed = self.end.push(entry).is_ok();
+        let pushed = self.end.push(self.entry).is_ok();
         if pushed {
-            self.computed = None;
+            self.is_computed = false;
             if self.lookahead.is_short() {
                 self.end.flush();
             }
@@ -154,15 +161,13 @@ impl<D: Device, K: Named> Worker for FuncWorker<D, K> {
         if self.obey() {
             return true;
         }
-        if self.computed.is_none() {
+        if !self.is_computed {
             self.compute();
         }
-        match self.computed {
-            Some(entry) => self.push(entry),
-            None => {
-                self.end.flush();
-                false
-            }
+        if !self.is_computed {
+            self.end.flush();
+            return false;
         }
+        self.push()
     }
 }

@@ -1,23 +1,27 @@
 use Rattle.std.proofs.Common.{ap, ◌∙◌}
+use Rattle.func_model.specs.Walk.{entry_if}
 use Rattle.fast_threads.specs.Workers.{FuncWork}
 use Rattle.fast_threads.proofs.Functional.{func_may_produce, func_with, func_computed}
 use Rattle.fast_threads.proofs.func_worker.FuncWorker.compute.Goals as goal
 
-pub produce-self-inside-requires : goal.produce-self-inside-requires
-produce-self-inside-requires g c =
-    let may = func_may_produce c.self.inside.end c.self.inside.side c.self.inside.computed c.self.invariant in
+pub produce_into-self-inside-requires : goal.produce_into-self-inside-requires
+produce_into-self-inside-requires g c =
+    let old = c.self.inside in
+    let may = func_may_produce old.end old.side (entry_if old.is_computed old.entry) c.self.invariant in
     record { position = may.position; epoch = may.epoch }
 
-pub invariant_of-self-then-is_some : goal.invariant_of-self-then-is_some
-invariant_of-self-then-is_some g c =
-    let made = c.produce-self-inside in
-    func_computed c.self.inside.end c.self.inside.side
-    (func_with c.self.inside.end c.self.inside.side c.self.inside.computed _ (ap (λ (w : FuncWork _). w.computed) c.self.view_is ∙ c.requires.none) c.self.invariant)
-    made.new.self made.result made.ensures.produced made.ensures.moved made.ensures.none made.ensures.same
+pub invariant_of-self-then-self : goal.invariant_of-self-then-self
+invariant_of-self-then-self g c =
+    let old = c.self.inside in
+    let made = c.produce_into-self-inside in
+    func_computed old.end old.side
+    (func_with old.end old.side (entry_if old.is_computed old.entry) _ (ap (λ (w : FuncWork _). w.computed) c.self.view_is ∙ c.requires.none) c.self.invariant)
+    made.new.self (entry_if made.result made.new.to) made.ensures.produced made.ensures.moved made.ensures.none made.ensures.same
 
-pub invariant_of-self-else-is_some : goal.invariant_of-self-else-is_some
-invariant_of-self-else-is_some g c =
-    let made = c.produce-self-inside in
-    func_computed c.self.inside.end c.self.inside.side
-    (func_with c.self.inside.end c.self.inside.side c.self.inside.computed _ (ap (λ (w : FuncWork _). w.computed) c.self.view_is ∙ c.requires.none) c.self.invariant)
-    made.new.self made.result made.ensures.produced made.ensures.moved made.ensures.none made.ensures.same
+pub invariant_of-self-else-self : goal.invariant_of-self-else-self
+invariant_of-self-else-self g c =
+    let old = c.self.inside in
+    let made = c.produce_into-self-inside in
+    func_computed old.end old.side
+    (func_with old.end old.side (entry_if old.is_computed old.entry) _ (ap (λ (w : FuncWork _). w.computed) c.self.view_is ∙ c.requires.none) c.self.invariant)
+    made.new.self (entry_if made.result made.new.to) made.ensures.produced made.ensures.moved made.ensures.none made.ensures.same
