@@ -66,8 +66,7 @@ pub fn rename(
     ensures waiting { result ≡ waiting_count
         (stations_at (row_at rows.now.items) (indices_from at_turn.now from count)) }
 {
-    let none = [Producer::none(); 256];
-    *producers = none;
+    producers.fill(Producer::none());
     let mut waiting = 0;
     for place in 0..count {
         let turn = from.wrapping_add(place as u8);

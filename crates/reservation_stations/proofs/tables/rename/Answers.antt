@@ -1,4 +1,4 @@
-use Rattle.std.proofs.Common.{◌≡◌, ◌∙◌, ◌+◌, ◌%◌, ◌<◌, ℕ, length, get_or, if◌then◌else◌, Option, Some, None, refl, ap, sym, arith, subst}
+use Rattle.std.proofs.Common.{◌≡◌, ◌∙◌, ◌+◌, ◌%◌, ◌<◌, ℕ, length, get_or, if◌then◌else◌, List, Option, Some, None, refl, ap, sym, arith, subst}
 use Rattle.std.specs.Prelude.{vec_len}
 use Rattle.std.proofs.lemmas.List.{get_or_read, get_or-replicate, length-replicate}
 use Rattle.reservation_stations.specs.Readiness.{is_waiting, is_done}
@@ -10,11 +10,17 @@ use Rattle.reservation_stations.proofs.tables.rename.Goals.{then-is_done, else-i
 use Rattle.reservation_stations.proofs.tables.rename.Goals as goal
 
 pub loop-place-init : goal.loop-place-init
-loop-place-init c = record {
-  every_register = length-replicate {A = Option ℕ} 256 c.none-none.result;
-  renamed = λ register within. get_or-replicate {A = Option ℕ} 256 register c.none-none.result None within ∙ c.none-none.ensures.none;
-  waiting = refl;
-}
+loop-place-init c =
+    let none = c.none.result in
+    let count = length c.args.producers.now in
+    let filled = c.fill.ensures.after (λ y is. is) in
+    record {
+      every_register = ap length filled ∙ length-replicate {A = Option ℕ} count none ∙ c.told-producers;
+      renamed = λ register within.
+          ap (λ (xs : List (Option ℕ)). get_or xs register None) filled
+          ∙ get_or-replicate {A = Option ℕ} count register none None (omega (arith, within, c.told-producers)) ∙ c.none.ensures.none;
+      waiting = refl;
+    }
 
 pub index-requires : goal.index-requires
 index-requires c =
