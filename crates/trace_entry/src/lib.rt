@@ -27,6 +27,8 @@ pub struct Entry {
     pub class: Class,
     /// Whether MIE and MTIE are both set after it.
     pub irq_on: bool,
+    // The fields from here on are empty for an instruction that only computes: they stand side by
+    // side, so that the host writes them together.
     /// It reads the time, and no time was given to it.
     pub unserved: bool,
     /// The load or store as it was attempted, also where it has a cause.
@@ -44,16 +46,16 @@ impl Entry {
     pub const BLANK: Entry = Entry {
         number: 0,
         epoch: 0,
+        cmp: 0,
         addr: 0,
         word: 0,
-        access: Access::Nothing,
         next: 0,
-        cause: None,
         class: Class::Alu,
-        unserved: false,
-        out: None,
-        halt: None,
         irq_on: false,
-        cmp: 0,
+        unserved: false,
+        access: Access::Nothing,
+        halt: None,
+        cause: None,
+        out: None,
     };
 }
