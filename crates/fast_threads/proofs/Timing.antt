@@ -1,5 +1,5 @@
 -- The timing side at its end of the queues: each of its turns keeps what it stands for.
-use Rattle.std.proofs.Common.{◌≡◌, ℕ, suc, ◌+◌, ◌&&◌, ◌==◌, Bool, true, false, is_none, Option, Some, None, IfSome, List, length, refl, ap, sym, ◌∙◌, subst, arith}
+use Rattle.std.proofs.Common.{◌≡◌, ◌↔◌, ℕ, suc, ◌+◌, ◌&&◌, ◌==◌, Bool, true, false, is_none, Option, Some, None, IfSome, List, length, refl, ap, sym, ◌∙◌, subst, arith}
 use Rattle.std.proofs.lemmas.Bool.{and_parts}
 use Rattle.rollback_cmds.specs.declared.order.Order.{Order}
 use Rattle.trace_entry.specs.declared.Entry.{Entry}
@@ -23,6 +23,10 @@ use Rattle.time_model.specs.declared.turn.Turn.TheVariants.{Moved, Ordered, Want
 use Rattle.time_model.specs.Turns.{turn_told, order_told}
 use Rattle.time_model.specs.Running.{is_silent, IsSilent, start, more, IsRun, Steps}
 use Rattle.time_model.proofs.Turns.{told_turn}
+use Rattle.time_model.specs.declared.side.Taken.{Taken}
+use Rattle.time_model.specs.declared.side.Taken.TheVariants.{Used, Dropped}
+use Rattle.time_model.specs.Feeding.{holding, IsFed}
+use Rattle.time_model.proofs.Feeding.{holding_stands}
 use Rattle.time_model.specs.Standing.{TimeSideStandsFor, IsStep, IsMade, IsRight, is_told_out, wants_in}
 use Rattle.time_model.proofs.Owing.{stands_wants}
 use Rattle.trace_ring.specs.Ring.{IsNamed}
@@ -200,6 +204,10 @@ module _ (end : TimeAt) (side new : TimeState) (hand : Option Order) (is_halted 
   last_made : IsStep end.setup before_last.steps ran.behind new turn
   last_made = ran.last end.setup before_last.steps before_last.sound before_last.stands
 
+  -- the order that they told is in hand
+  pub run_told : (told : Option Order) → told ≡ order_told turn → IsTimeAt end new told is_halted
+  run_told told is_told = time_with end new (order_told turn) told is_halted (sym is_told) (stepped end ran.behind new hand is_halted turn none before_last last_made)
+
   pub run_tells : (o : Order) → turn ≡ Ordered o → IsTimeAt end new (Some o) is_halted
   run_tells = time_tells end ran.behind new hand is_halted turn none before_last last_made
 
@@ -208,6 +216,20 @@ module _ (end : TimeAt) (side new : TimeState) (hand : Option Order) (is_halted 
 
   pub run_halts : turn ≡ Halted → IsTimeAt end new hand true
   run_halts = time_halts end ran.behind new hand is_halted turn none before_last last_made
+
+-- the side stands where it stood behind an entry that was held or dropped
+taken_stands : (s : Setup) (k : ℕ) (e : Entry) (old taken : TimeState) (answer : Taken) → (answer ≡ Used → taken ≡ holding e old) → (answer ≡ Dropped → taken ≡ old) →
+    ((answer ≡ Used) ↔ (e.epoch ≡ old.telling.epoch)) → TimeSideStandsFor s k old → (e.epoch ≡ old.telling.epoch → e ≡ needed_entry s (place s k)) → TimeSideStandsFor s k taken
+taken_stands s k e old taken Used used dropped by_epoch stands needs = subst (TimeSideStandsFor s k) (sym (used refl)) (holding_stands s k e old stands (needs (by_epoch.0 refl)))
+taken_stands s k e old taken Dropped used dropped by_epoch stands needs = subst (TimeSideStandsFor s k) (sym (dropped refl)) stands
+
+-- an entry is taken from the queue and fed to the side, and the order that it told is in hand
+pub time_fed : (end behind : TimeAt) (side new : TimeState) (e : Entry) (hand told : Option Order) (is_halted : Bool) (turn : Turn) → hand ≡ None → (is : IsTimeAt end side hand is_halted) →
+    behind ≡ time_taken end e → (e.epoch ≡ side.telling.epoch → e ≡ needed_entry end.setup (place end.setup is.steps)) → IsFed e side new turn → told ≡ order_told turn →
+    IsTimeAt behind new told is_halted
+time_fed end behind side new e hand told is_halted turn none is taken needs fed is_told =
+    let stands = taken_stands end.setup is.steps e side fed.taken fed.answer fed.used fed.dropped fed.by_epoch is.stands needs in
+    run_told behind fed.taken new hand is_halted turn none (time_takes end behind side fed.taken e hand is_halted is taken stands) fed.run told is_told
 
 -- once the run is over, and whether or not its last orders have gone into the queue
 pub time_flushed : (end behind : TimeAt) (side : TimeState) (hand : Option Order) (gone : Bool) → IsTimeAt end side hand true → behind ≡ end → IsTimeAt behind side hand gone

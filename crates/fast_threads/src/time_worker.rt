@@ -1,4 +1,5 @@
 ghost use Rattle.std.specs.Prelude.{◌≡◌, true, Some, None, IfOk};
+ghost use Rattle.time_model.specs.Turns.{order_told};
 
 use crate::worker::Worker;
 use fsim_base::NoMemory;
@@ -89,10 +90,12 @@ impl<K: Named> TimeWorker<K> {
         sent
     }
 
-    /// Takes the next entry, if there is one. It is let go where its number isn't the wanted one,
-    /// or it is of another epoch. Where there is none, the orders that were sent go into the queue.
+    /// Takes the next entry, if there is one, and makes the try that needs it. It is let go where
+    /// its number isn't the wanted one, or it is of another epoch. Where there is none, the orders
+    /// that were sent go into the queue.
     fn take(&mut self) -> bool
         requires wants { wants_in self.old.side ≡ true }
+        requires none { self.old.hand ≡ None }
         ensures setup { self.new.setup ≡ self.old.setup }
     {
         let Some(entry) = self.end.next() else {
@@ -100,7 +103,8 @@ impl<K: Named> TimeWorker<K> {
             return false;
         };
         if entry.number == self.side.next_number() {
-            self.side.take(&entry);
+            let turn = self.side.feed(&entry);
+            self.hand = order_of(turn);
         }
         true
     }
@@ -118,6 +122,16 @@ impl<K: Named> TimeWorker<K> {
             Turn::Want => {}
             Turn::CycleEnd => {}
         }
+    }
+}
+
+/// The order that steps of the side told, if they told one.
+fn order_of(turn: Turn) -> Option<Order>
+    ensures told { result ≡ order_told turn }
+{
+    match turn {
+        Turn::Ordered(order) => Some(order),
+        Turn::Moved | Turn::Want | Turn::CycleEnd | Turn::Halted => None,
     }
 }
 
