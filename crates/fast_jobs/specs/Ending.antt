@@ -25,7 +25,7 @@ pub record IsStarved (sink : Writing) (status : Status) : Type 0 where
   pub answer : status ≡ Memory
   pub written : WroteTo sink (fault_text Memory)
 
--- the answer to a job; memory is wanted before its first step alone
+-- the answer to a job; where memory is wanted, none of its text is written
 pub data Ends (job : Job) (sink : Writing) (status : Status) : Type 0 where
   Reported : IsReported job sink status → Ends job sink status
   Broken : IsBroken job sink status → Ends job sink status

@@ -16,6 +16,7 @@ pub fn push<T: Drop>(list: &mut Vec<T>, item: T) -> Result<(), NoMemory>
 /// Moves the items of a list to the end of another.
 pub fn append<T: Drop>(list: &mut Vec<T>, more: &mut Vec<T>) -> Result<(), NoMemory>
     ensures appended { OnOk result (list.new.items ≡ list.old.items ++ more.old.items) }
+    ensures moved { OnOk result (more.new.items ≡ []) }
 {
     match list.append(more) {
         Ok(()) => Ok(()),

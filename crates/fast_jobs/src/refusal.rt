@@ -32,7 +32,7 @@ impl Model for Refusal {
 }
 
 impl Refusal {
-    ghost use Rattle.std.specs.Prelude.{◌≡◌, ◌≢◌, ◌≤◌, true, IfOk};
+    ghost use Rattle.std.specs.Prelude.{◌≡◌, ◌≢◌, ◌≤◌, true, IfOk, OnErr};
     ghost use Rattle.report_text.specs.FaultText.{fault_text, has_line};
     ghost use Rattle.fast_jobs.specs.Call.{WroteTo, writing_of};
 
@@ -56,6 +56,7 @@ impl Refusal {
     pub fn unless_memory(self) -> Result<Refusal, NoMemory>
         ensures same { IfOk result (λ refusal. refusal ≡ self) }
         ensures other { IfOk result (λ refusal. refusal ≢ NoMemoryLeft) }
+        ensures memory { OnErr result (self ≡ NoMemoryLeft) }
     {
         match self.status {
             Status::Memory => Err(NoMemory),

@@ -1,4 +1,4 @@
-ghost use Rattle.std.specs.Prelude.{◌≡◌, ◌≤◌, ◌/◌, true, map, vec_len};
+ghost use Rattle.std.specs.Prelude.{◌≡◌, ◌≤◌, ◌/◌, true, map, take, vec_len};
 ghost use Rattle.device_bus.specs.Bus.{AreSets, device_order};
 ghost use Rattle.mono_model.specs.Setup.{is_setup};
 ghost use Rattle.fast_jobs.specs.Ending.{Ends};
@@ -78,6 +78,7 @@ pub fn run_in_threads<R: Threads + Wait + Sync, K: Sink, G: Gate + Sync, D: Devi
 /// The first of the sets of devices; the others are dropped.
 pub fn first_set<D: Device>(devices: Vec<D>) -> Vec<D>
     requires sets { AreSets (vec_len devices / 3) (map D.kind devices.items) }
+    ensures first { result.items ≡ take 3 devices.items }
     ensures order { map D.kind result.items ≡ device_order }
 {
     let mut devices = devices;
