@@ -1,6 +1,7 @@
 """The command line of `tools/explore`."""
 
 import argparse
+import importlib.util
 import signal
 import sys
 from collections.abc import Callable
@@ -55,6 +56,8 @@ def explore(options: argparse.Namespace) -> int:
     for sign in (signal.SIGTERM, signal.SIGHUP):
         signal.signal(sign, signal.default_int_handler)
     plan = plan_of(options)
+    if space.pictures and not plan.is_quiet and importlib.util.find_spec("matplotlib") is None:
+        say("there will be no pictures: this Python has no matplotlib (--draw makes them later)")
     with Lock(plan.folder):
         if options.draw:
             return finish(space, Journal(plan.folder, work_of(space, plan.squashed)), plan)
