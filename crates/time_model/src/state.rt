@@ -144,7 +144,9 @@ impl TimeState {
     }
 
     /// Tries to fetch the instruction of an entry that isn't held yet, with so many tries allowed
-    /// behind it. It is held where it wasn't appended.
+    /// behind it. It is held where it wasn't appended. It goes inline where a run is played, on one
+    /// thread and in two: as a call it takes a tenth of a run more.
+    #[inline(always)]
     fn attempt_at_once(&mut self, entry: &Entry, allowed: u32) -> Orders
         requires none { self.old.telling.held ≡ None }
         requires tries { MayTry (holding entry.now self.old) }
