@@ -1,7 +1,7 @@
 //! The index of a register's producer.
 ghost use Rattle.std.specs.Prelude.{◌≡◌, ◌<◌, ◌||◌, IsTrue, Some, None, is_some};
 ghost use Rattle.reservation_stations.specs.AreSets.{are_two};
-ghost use Rattle.reservation_stations.specs.Places.{is_index};
+ghost use Rattle.reservation_stations.specs.Changes.{without};
 
 use std::marker::Model;
 
@@ -63,13 +63,16 @@ impl Producer {
         self.number
     }
 
-    /// Whether it is this index.
+    /// None where it is this index, and else itself.
     #[inline(always)]
-    pub fn is(self, index: u32) -> bool
-        requires within { index < 256 }
-        ensures is { result ≡ is_index index self }
+    pub fn without(self, index: u32) -> Producer
+        ensures without { result ≡ without index self }
     {
-        self.number == index
+        if self.number == index {
+            Producer::none()
+        } else {
+            self
+        }
     }
 
     /// Whether one of two is there: none is bit 8 alone, which only two of them share.

@@ -36,15 +36,13 @@ pub fn set_producer(producers: &mut [Producer; 256], register: Option<u8>, produ
 
 /// Makes a register, if one is given, have no producer, where this index is its producer.
 pub fn drop_producer(producers: &mut [Producer; 256], register: Option<u8>, index: u32)
-    requires within { index < 256 }
     ensures dropped { producers.new ≡
         with_producer register (without index (producer_at producers.old register))
         producers.old }
 {
-    if let Some(register) = register
-        && producers[register as usize].is(index)
-    {
-        producers[register as usize] = Producer::none();
+    if let Some(register) = register {
+        let producer = producers[register as usize];
+        producers[register as usize] = producer.without(index);
     }
 }
 

@@ -24,9 +24,6 @@ retire-requires c = record {
   );
 }
 
-pub drop_producer-requires : goal.drop_producer-requires
-drop_producer-requires c = record { within = omega (arith, c.self.invariant.0.limit, retire_within c.self.invariant.0 c.self.view_is c.args.index c.requires.oldest) }
-
 pub uncounted-self-inside-requires : goal.uncounted-self-inside-requires
 uncounted-self-inside-requires c = record {
   counted = retire_counted c.self.invariant.0 c.self.view_is c.args.index c.requires.oldest c.index.result.now c.index.ensures;

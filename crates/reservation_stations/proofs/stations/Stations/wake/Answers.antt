@@ -56,9 +56,6 @@ invariant_of-self c =
       c.self.invariant.3,
     )
 
-pub drop_producer-requires : goal.drop_producer-requires
-drop_producer-requires c = record { within = omega (arith, c.self.invariant.0.limit, (held_with c.self.invariant.0 c.self.view_is c.args.index Issued c.requires.issued).0) }
-
 pub tell-requires : goal.tell-requires
 tell-requires c = record {
   inside = omega (
