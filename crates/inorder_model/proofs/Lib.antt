@@ -9,6 +9,7 @@ pub mod Bounded
 pub mod Small
 pub mod Steps
 pub mod Sides
+pub mod Striding
 pub mod Trying
 pub mod Turns
 pub mod NextNumber

@@ -60,6 +60,7 @@ impl InorderSide {
     /// Makes steps of the demand run, up to the first that tells an order, needs an entry that
     /// isn't held, or finds the run over; and at most 64 of them. The result is what the last one
     /// did.
+    #[inline(always)]
     pub fn run(&mut self) -> Turn
         ensures made { IsRun Steps self.old self.new result }
     {
