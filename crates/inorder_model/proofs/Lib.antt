@@ -13,5 +13,6 @@ pub mod Striding
 pub mod Trying
 pub mod Turns
 pub mod NextNumber
+pub mod Feeding
 pub mod StepsOn
 pub mod LaneCore

@@ -7,7 +7,7 @@ use fsim_base::NoMemory;
 use mono_model::Setup;
 use rollback_cmds::Order;
 use std::alloc::Global;
-use time_model::{Stepping, Telling};
+use time_model::{Stepping, Telling, Turn};
 use timing_core::Orders;
 use trace_entry::Entry;
 
@@ -30,6 +30,7 @@ impl InorderState {
     ghost use Rattle.mono_model.specs.Split.{is_cycle_start};
     ghost use Rattle.timing_core.specs.Small.{IsSmall};
     ghost use Rattle.time_model.specs.Turning.{held_by};
+    ghost use Rattle.time_model.specs.Running.{IsRun};
     ghost use Rattle.time_model.specs.Turns.{told_or, untold_by};
     ghost use Rattle.lane_model.specs.Demand.{seen_at, trying, interrupting, writing, accessing};
     ghost use Rattle.lane_model.specs.Demand.{executing, issuing, ending};
@@ -41,6 +42,7 @@ impl InorderState {
     ghost use Rattle.inorder_model.specs.Standing.{IsInorder, InorderStandsFor, IsStanding};
     ghost use Rattle.inorder_model.specs.Standing.{wants_in};
     ghost use Rattle.inorder_model.specs.Running.{Steps, IsStridden};
+    ghost use Rattle.inorder_model.specs.Feeding.{holding};
     ghost use Rattle.inorder_model.specs.Turning.{MayTry, IsPhase, IsTurned, IsTold, over_in};
     ghost use Rattle.inorder_model.specs.Turning.{placed};
 
@@ -127,6 +129,33 @@ impl InorderState {
         *next = At::Ending;
         if tried.appended {
             self.telling.held = None;
+        }
+        tried.orders
+    }
+
+    /// Tries to fetch the instruction of an entry that isn't held yet. It is held where it wasn't
+    /// appended.
+    fn attempt_at_once(&mut self, entry: &Entry) -> Orders
+        requires none { self.old.telling.held ≡ None }
+        requires tries { MayTry (holding entry.now self.old) }
+        ensures made { (s : RunSetup) (l : LaneTiming) → LaneStandsFor s l self.old.lane
+            → IsSmall l.timing
+            → IsTurned s (timing_lane_turn s entry.now trying l) self.new result }
+        ensures held { (s : RunSetup) (l : LaneTiming) → LaneStandsFor s l self.old.lane
+            → IsSmall l.timing → self.new.telling.held
+            ≡ held_by (timing_lane_turn s entry.now trying l).lane.timing l.timing
+            (Some entry.now) }
+        ensures others { self.new
+            ≡ record self.old {
+              lane = self.new.lane;
+              at = self.new.at;
+              telling = record self.old.telling { held = self.new.telling.held };
+            } }
+    {
+        let tried = self.lane.fetch(entry);
+        self.at = At::Ending;
+        if !tried.appended {
+            self.telling.held = Some(*entry);
         }
         tried.orders
     }
@@ -392,6 +421,21 @@ impl InorderState {
             self.telling.tell(orders)
         } else {
             None
+        }
+    }
+
+    /// Makes the try that comes next with the entry that it needs, as if that were held.
+    #[inline(always)]
+    pub fn feed(&mut self, entry: &Entry) -> Turn
+        requires wants { wants_in self.old ≡ true }
+        requires standing { IsStanding (holding entry.now self.old) }
+        ensures made { IsRun Steps (holding entry.now self.old) self.new result }
+        ensures standing { IsStanding self.new }
+    {
+        let orders = self.attempt_at_once(entry);
+        match self.telling.tell(orders) {
+            Some(order) => Turn::Ordered(order),
+            None => Turn::Moved,
         }
     }
 }
