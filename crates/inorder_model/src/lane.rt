@@ -320,6 +320,7 @@ impl LaneCore {
     }
 
     /// The sixth phase: one try of fetch.
+    #[inline(always)]
     pub fn fetch(&mut self, entry: &Entry) -> Tried
         requires room { length self.old.core.flight.slots < self.old.core.flight.capacity }
         requires next { IfSome (youngest self.old.core.flight.slots)
