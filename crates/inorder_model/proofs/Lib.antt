@@ -9,8 +9,10 @@ pub mod Bounded
 pub mod Small
 pub mod Steps
 pub mod Sides
+pub mod Striding
 pub mod Trying
 pub mod Turns
 pub mod NextNumber
+pub mod Feeding
 pub mod StepsOn
 pub mod LaneCore

@@ -11,10 +11,11 @@ use Rattle.timing_side.specs.Timing.{Timing}
 use Rattle.timing_laws.specs.Seen as timing
 use Rattle.timing_core.specs.declared.orders.Orders.{Orders}
 use Rattle.timing_core.specs.Orders.{orders_in}
+use Rattle.time_model.specs.declared.telling.Telling.{Telling}
 use Rattle.time_model.specs.declared.turn.Turn.{Turn}
 use Rattle.time_model.specs.declared.turn.Turn.TheVariants as turn
 use Rattle.time_model.specs.Standing.{owed_in, is_told_out}
-use Rattle.time_model.specs.Telling.{telling_start}
+use Rattle.time_model.specs.Telling.{telling_start, told_behind}
 use Rattle.time_model.specs.Turning.{held_by}
 use Rattle.time_model.proofs.Bool.{if_not}
 use Rattle.time_model.proofs.Sides.{holds_by}
@@ -27,12 +28,13 @@ use Rattle.lane_timing_laws.proofs.Stepping.{lane_starts}
 use Rattle.inorder_model.specs.declared.at.At.TheVariants as code
 use Rattle.inorder_model.specs.declared.lane.LaneCore.{LaneCore}
 use Rattle.inorder_model.specs.declared.state.InorderState.{InorderState}
-use Rattle.inorder_model.specs.At.{at_in}
+use Rattle.inorder_model.specs.At.{at_in, turn_told}
 use Rattle.inorder_model.specs.LaneStandsFor.{LaneStandsFor}
 use Rattle.inorder_model.specs.Standing.{IsInorder, InorderStandsFor, IsStanding, wants_in, IsMade, IsStep}
+use Rattle.inorder_model.specs.Running.{Steps}
 use Rattle.inorder_model.specs.Turning.{IsTurned, IsTold, over_in, turned_by}
 use Rattle.inorder_model.proofs.Owing.{stands_owed, stands_wants, stands_over}
-use Rattle.inorder_model.proofs.Steps.{none_appended, due_lane}
+use Rattle.inorder_model.proofs.Steps.{none_appended, due_lane, told_side, step_made}
 
 -- the start of a run
 pub start_stands : (s : Setup) (lane : LaneCore) → LaneStandsFor s lane_timing_start lane →
@@ -172,3 +174,14 @@ turned_due s k old new told h free on none turned tried keeps =
         ∙ ap (λ (l : LaneTiming). l.timing) (due_lane s k) in
         tried try ∙ ap (λ (t : Timing). held_by t p.lane.timing old.telling.held) behind
         ∙ if_not ((seen s (suc k)).run.demand.machine.counts.fetched == (seen s k).run.demand.machine.counts.fetched) old.telling.held None
+
+-- and where the first of them is told, that is a step
+pub due_told : (old mid : InorderState) (orders : Orders) (told : Option Order) (behind : Telling) → wants_in old ≡ false → over_in old ≡ false →
+    ((s : Setup) (k : ℕ) → IsInorder s → InorderStandsFor s k old → IsTold s k old mid orders) → mid.telling.epoch ≡ old.telling.epoch → told ≡ orders.first → behind ≡ told_behind orders mid.telling →
+    Steps old (record mid { telling = behind }) (turn_told told (at_in old.at))
+due_told old mid orders told behind free on due epoch first is =
+    let turn = turn_told told (at_in old.at) in
+    λ s k allowed h.
+    subst (λ (t : Telling). IsStep s k old (record mid { telling = t }) turn) (sym is)
+    (going_step s k old h (told_side mid orders) turn free on
+    (λ still. step_made s k old mid orders turn allowed h still (due s k allowed h) epoch (ap (λ (o : Option Order). turn_told o (at_in old.at)) first)))

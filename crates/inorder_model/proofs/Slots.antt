@@ -8,23 +8,19 @@ use Rattle.reorder_buffer.specs.declared.slot.SlotState.{SlotState}
 use Rattle.reorder_buffer.specs.declared.slot.SlotState.TheVariants.{Waiting, Until, Done}
 use Rattle.timing_side.specs.Slots.{is_waiting_state, is_done_state}
 use Rattle.timing_core.proofs.Issuing.{starts_there}
-use Rattle.in_flight.specs.Flight.{older_at, may_start, may_start_at, is_executing_state, executes_at}
+use Rattle.in_flight.specs.Flight.{older_at, may_start_at, is_executing_state, executes_at}
 use Rattle.lane_side.specs.Timing.{Executing, execute_by, in_execute, done_count}
 use Rattle.inorder_model.proofs.Bool.{and_true, and_assoc}
 use Rattle.inorder_model.proofs.Lists.{drop_there, ends_there}
 
--- how many are done
-pub done_more : (slots : List Slot) (place : ℕ) (slot : Slot) → slice_get slots place ≡ Some slot →
-    done_count (drop place slots) ≡ (if is_done_state slot.state then 1 else 0) + done_count (drop (suc place) slots)
-done_more slots place slot there = ap done_count (drop_there slots place slot there)
-
-one_at_most : (b : Bool) → (if b then 1 else 0) ≤ 1
-one_at_most true = omega arith
-one_at_most false = omega arith
-
-pub done_within : (slots : List Slot) → done_count slots ≤ length slots
-done_within [] = omega arith
-done_within (slot ∷ rest) = omega (arith, done_within rest, one_at_most (is_done_state slot.state))
+-- how many are done from a place on, by whether the slot there is
+pub done_next : (slots : List Slot) (place : ℕ) (slot : Slot) (b : Bool) → slice_get slots place ≡ Some slot → is_done_state slot.state ≡ b →
+    done_count (drop place slots) ≡ (if b then 1 else 0) + done_count (drop (place + 1) slots)
+done_next slots place slot b there is =
+    let next : suc place ≡ place + 1 = omega arith in
+    ap done_count (drop_there slots place slot there)
+    ∙ ap (λ (b : Bool). (if b then 1 else 0) + done_count (drop (suc place) slots)) is
+    ∙ ap (λ (k : ℕ). (if b then 1 else 0) + done_count (drop k slots)) next
 
 -- the slot in Execute is the first that executes
 passed_over : (slot : Slot) (state : SlotState) (other : Option Executing) → is_executing_state state ≡ false → execute_by slot state other ≡ other
@@ -41,6 +37,16 @@ first_executing (x ∷ rest) zero slot from there is before =
 first_executing (x ∷ rest) (suc place) slot from there is before =
     passed_over x x.state (in_execute rest) (before 0 (omega arith))
     ∙ first_executing rest place slot from there is (λ k under. before (suc k) (omega arith))
+
+-- the first place from 0 on is the first of all
+pub first_of_all : (slots : List Slot) (r : Option ℕ) → IfSome r (λ place. (k : ℕ) → 0 ≤ k → k < place → executes_at slots k ≡ false) →
+    IfSome r (λ place. (k : ℕ) → k < place → executes_at slots k ≡ false)
+first_of_all slots None first = tt
+first_of_all slots (Some place) first = λ k under. first k (omega arith) under
+
+pub none_of_all : (slots : List Slot) (r : Option ℕ) → IfNone r ((k : ℕ) → 0 ≤ k → executes_at slots k ≡ false) → IfNone r ((k : ℕ) → executes_at slots k ≡ false)
+none_of_all slots None none = λ k. none k (omega arith)
+none_of_all slots (Some place) none = tt
 
 pub none_executing : (slots : List Slot) → ((k : ℕ) → executes_at slots k ≡ false) → in_execute slots ≡ None
 none_executing [] none = refl
@@ -98,20 +104,20 @@ busy_there (x ∷ rest) (suc place) is = idle_cons x rest ∙ ap (λ (b : Bool).
 pub idle_none : (slots : List Slot) → ((k : ℕ) → executes_at slots k ≡ false) → is_idle slots ≡ true
 idle_none slots none = ap (λ (x : Option Executing). is_none x) (none_executing slots none)
 
-pub idle_is : (slots : List Slot) (r : Option ℕ) → IfSome r (λ place. IsTrue (executes_at slots place)) → IfNone r ((k : ℕ) → 0 ≤ k → executes_at slots k ≡ false) →
+pub idle_is : (slots : List Slot) (r : Option ℕ) → IfSome r (λ place. IsTrue (executes_at slots place)) → IfNone r ((k : ℕ) → executes_at slots k ≡ false) →
     is_none r ≡ is_idle slots
-idle_is slots None found none = sym (idle_none slots (λ k. none k (omega arith)))
+idle_is slots None found none = sym (idle_none slots none)
 idle_is slots (Some place) found none = sym (busy_there slots place found)
 
--- the first place from the last one on at which a slot may start
-pub starts_is : (slots : List Slot) (place : ℕ) (slot : Slot) (r : Option ℕ) → slice_get slots place ≡ Some slot → length slots ≡ place + 1 →
+-- whether the slot at the last place may start, by what is found from there on
+pub starts_is : (slots : List Slot) (place : ℕ) (r : Option ℕ) → length slots ≡ place + 1 →
     IfSome r (λ k. place ≤ k) → IfSome r (λ k. IsTrue (may_start_at slots k)) → IfNone r ((k : ℕ) → place ≤ k → may_start_at slots k ≡ false) →
-    is_some r ≡ may_start (older_at slots place) (Some slot)
-starts_is slots place slot None there last behind found none = sym (none place (omega arith)) ∙ ap (may_start (older_at slots place)) there
-starts_is slots place slot (Some k) there last behind found none =
+    is_some r ≡ may_start_at slots place
+starts_is slots place None last behind found none = sym (none place (omega arith))
+starts_is slots place (Some k) last behind found none =
     let within = (starts_there slots k found).1 in
     let same : k ≡ place = omega (arith, within, last, behind) in
-    sym found ∙ ap (may_start_at slots) same ∙ ap (may_start (older_at slots place)) there
+    sym found ∙ ap (may_start_at slots) same
 
 pub none_by : {A : Type 0} (r : Option A) (b : Bool) → is_some r ≡ not b → b ≡ is_none r
 none_by None true is = refl

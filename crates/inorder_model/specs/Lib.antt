@@ -4,6 +4,7 @@ pub mod Stages
 pub mod Standing
 pub mod Turning
 pub mod Running
+pub mod Feeding
 pub mod LaneTimed
 pub mod LaneTimedLaws
 pub mod Core

@@ -8,10 +8,13 @@ use Rattle.mono_model.specs.Demand.{needed_entry}
 use Rattle.mono_model.specs.Split.{is_halted, has_appended}
 use Rattle.timing_core.specs.declared.orders.Orders.{Orders}
 use Rattle.timing_core.specs.Orders.{orders_in}
-use Rattle.lane_model.specs.Demand.{seen_at, lane_place, seen}
+use Rattle.timing_core.specs.Small.{IsSmall}
+use Rattle.lane_model.specs.Demand.{LaneAt, seen_at, lane_place, seen}
+use Rattle.lane_side.specs.Timing.{LaneTiming}
 use Rattle.lane_side.specs.Turn.{LaneTurned, timing_lane_turn}
 use Rattle.lane_side.specs.Step.{LaneTimingPlace}
 use Rattle.lane_timing_laws.specs.Seen.{lane_held_at}
+use Rattle.inorder_model.specs.declared.at.At as declared
 use Rattle.inorder_model.specs.declared.state.InorderState.{InorderState}
 use Rattle.inorder_model.specs.At.{at_in}
 use Rattle.inorder_model.specs.LaneStandsFor.{LaneStandsFor}
@@ -19,6 +22,10 @@ use Rattle.inorder_model.specs.LaneStandsFor.{LaneStandsFor}
 -- the run is over, and all is told
 abbrev pub over_in : InorderState → Bool
 over_in side = is_none side.telling.owed && is_halted (seen_at (at_in side.at))
+
+-- a side with this turn as the one that comes next, which is kept beside it while turns are made
+abbrev pub placed : declared.At → InorderState → InorderState
+placed at side = record side { at = at }
 
 -- the held entry may be tried: the window has room, and the entry follows the youngest slot
 pub record MayTry (side : InorderState) : Type 0 where
@@ -32,6 +39,12 @@ pub record IsTurned (s : Setup) (made : LaneTurned) (side : InorderState) (told 
   pub lane : LaneStandsFor s made.lane side.lane
   pub at : at_in side.at ≡ made.at
   pub orders : orders_in told ≡ made.orders
+
+-- A phase of a cycle, or its end: with an entry that it doesn't look at, it makes the pipeline and tells as the turn of the
+-- timing machine does, and leaves the rest as it was.
+pub record IsPhase (at : LaneAt) (old : InorderState) (next : declared.At) (new : InorderState) (told : Orders) : Type 0 where
+  pub made : (s : Setup) (l : LaneTiming) (e : Entry) → LaneStandsFor s l old.lane → IsSmall l.timing → IsTurned s (timing_lane_turn s e at l) (placed next new) told
+  pub others : new ≡ record old { lane = new.lane }
 
 -- the orders that stand to be told, with the state behind their turn: those that are owed, or those of the next turn
 abbrev pub turned_by : Setup → Entry → LaneTimingPlace → List Order → LaneTurned

@@ -1,5 +1,6 @@
 use crate::stages::{
-    Executing, done_count, execute_latency, in_execute, is_load, is_past_fetch, memory_latency,
+    Executing, execute_latency, executing_place, in_execute, is_load, is_past_fetch,
+    memory_latency, more_are_done,
 };
 use fsim_base::NoMemory;
 use in_flight::Sought;
@@ -35,7 +36,7 @@ impl LaneCore {
     ghost use Rattle.timing_core.specs.CoreStandsFor.{CoreStandsFor};
     ghost use Rattle.timing_core.specs.Small.{IsSmall};
     ghost use Rattle.timing_core.specs.Orders.{orders_in};
-    ghost use Rattle.in_flight.specs.Flight.{older_at};
+    ghost use Rattle.in_flight.specs.Flight.{older_at, may_start_at};
     ghost use Rattle.lane_model.specs.Lane.{memory_behind};
     ghost use Rattle.lane_model.specs.Memory.{went_on};
     ghost use Rattle.lane_side.specs.Timing.{LaneTiming, lane_timing_start, has_write};
@@ -83,6 +84,7 @@ impl LaneCore {
     }
 
     /// The second phase: the slot in Write, where there is one, leaves.
+    #[inline(always)]
     pub fn write(&mut self) -> Orders
         ensures kept { (s : RunSetup) (l : LaneTiming) → LaneStandsFor s l self.old
             → IsSmall l.timing → LaneStandsFor s (timing_lane_write s l).lane self.new }
@@ -108,7 +110,7 @@ impl LaneCore {
         ensures write { (s : RunSetup) (l : LaneTiming) → LaneStandsFor s l self.now
             → result ≡ has_write l }
     {
-        done_count(self.core.flight()) > u32::from(self.memory.is_some())
+        more_are_done(self.core.flight(), u32::from(self.memory.is_some()))
     }
 
     /// The third phase: the slot in Memory goes on to Write once its access is over.
@@ -132,6 +134,7 @@ impl LaneCore {
 
     /// The fourth phase: the slot in Execute goes on to Memory, once its latency is over and Memory
     /// is empty. A misprediction flushes all younger slots.
+    #[inline(always)]
     pub fn execute(&mut self) -> Orders
         ensures kept { (s : RunSetup) (l : LaneTiming) → LaneStandsFor s l self.old
             → IsSmall l.timing → LaneStandsFor s (timing_lane_execute s l).lane self.new }
@@ -156,6 +159,7 @@ impl LaneCore {
     }
 
     /// The slot in Execute goes on to Memory.
+    #[inline(always)]
     fn go_on(&mut self, leaving: &Executing) -> Orders
         ensures kept { (s : RunSetup) (l : LaneTiming) → LaneStandsFor s l self.old
             → IsSmall l.timing
@@ -177,6 +181,7 @@ impl LaneCore {
 
     /// The fifth phase: the slot in Decode goes on to Execute. But where the oldest reads the time
     /// and was given none, it is sent back to fetch for it.
+    #[inline(always)]
     pub fn issue(&mut self) -> Orders
         ensures kept { (s : RunSetup) (l : LaneTiming) → LaneStandsFor s l self.old
             → IsSmall l.timing → LaneStandsFor s (timing_lane_issue s l).lane self.new }
@@ -189,6 +194,7 @@ impl LaneCore {
     }
 
     /// The same, with Memory as it was.
+    #[inline(always)]
     fn replay_or_issue(&mut self) -> Orders
         ensures kept { (s : RunSetup) (l : LaneTiming) → LaneStandsFor s l self.old
             → IsSmall l.timing → CoreStandsFor s (issue_phase s l).timing self.new.core }
@@ -215,6 +221,7 @@ impl LaneCore {
     }
 
     /// The youngest slot, where it is in Decode, goes on to Execute if it may.
+    #[inline(always)]
     fn issue_youngest(&mut self)
         ensures kept { (s : RunSetup) (l : LaneTiming) → LaneStandsFor s l self.old
             → IsSmall l.timing → CoreStandsFor s (issued s l) self.new.core }
@@ -236,6 +243,7 @@ impl LaneCore {
 
     /// Whether the youngest slot, at this place, goes on: Execute is empty, its operands have
     /// values and its class allows it.
+    #[inline(always)]
     fn may_issue(&self, place: u32, slot: &Slot) -> bool
         requires there { slice_get self.now.core.flight.slots place ≡ Some slot.now }
         requires last { length self.now.core.flight.slots ≡ place + 1 }
@@ -256,10 +264,11 @@ impl LaneCore {
     fn is_idle(&self) -> bool
         ensures idle { result ≡ is_none (in_execute self.now.core.flight.slots) }
     {
-        self.core.flight().first(Sought::Executing, 0).is_none()
+        executing_place(self.core.flight()).is_none()
     }
 
     /// Whether the sources of the youngest slot, at this place, have values, if it waits.
+    #[inline(always)]
     fn has_operands(&self, place: u32, slot: &Slot) -> bool
         requires there { slice_get self.now.core.flight.slots place ≡ Some slot.now }
         requires last { length self.now.core.flight.slots ≡ place + 1 }
@@ -267,8 +276,22 @@ impl LaneCore {
             ≡ has_operands (found_in_order self.now.memory
             (older_at self.now.core.flight.slots place)) slot.now }
     {
-        self.core.flight().first(Sought::Ready, place).is_some()
-            && !self.waits_for_load(place, slot)
+        self.is_ready(place) && !self.waits_for_load(place, slot)
+    }
+
+    /// Whether the youngest slot, at this place, waits and has its operands. In a run no other slot
+    /// waits, so it is the first that is found.
+    #[inline(always)]
+    fn is_ready(&self, place: u32) -> bool
+        requires last { length self.now.core.flight.slots ≡ place + 1 }
+        ensures ready { result ≡ may_start_at self.now.core.flight.slots place }
+    {
+        let flight = self.core.flight();
+        let mut ready = flight.snapshot(Sought::Ready);
+        match flight.next(Sought::Ready, &mut ready, 0) {
+            Some(first) => first == place || flight.first(Sought::Ready, place).is_some(),
+            None => false,
+        }
     }
 
     /// Whether the slot at a place reads what a load in Memory, which has no value yet, writes.
@@ -297,6 +320,7 @@ impl LaneCore {
     }
 
     /// The sixth phase: one try of fetch.
+    #[inline(always)]
     pub fn fetch(&mut self, entry: &Entry) -> Tried
         requires room { length self.old.core.flight.slots < self.old.core.flight.capacity }
         requires next { IfSome (youngest self.old.core.flight.slots)

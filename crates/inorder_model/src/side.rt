@@ -36,6 +36,7 @@ impl InorderSide {
     ghost use Rattle.inorder_model.specs.Standing.{wants_in};
     ghost use Rattle.time_model.specs.Running.{IsRun};
     ghost use Rattle.inorder_model.specs.Running.{Steps};
+    ghost use Rattle.inorder_model.specs.Feeding.{IsFed};
 
     /// The timing side before the first step of a run. It takes all its memory here, and want of it
     /// is the one refusal.
@@ -58,8 +59,9 @@ impl InorderSide {
     }
 
     /// Makes steps of the demand run, up to the first that tells an order, needs an entry that
-    /// isn't held, or finds the run over; and at most 64 of them. The result is what the last one
-    /// did.
+    /// isn't held, or finds the run over; and at most 64 strides, with one step behind each at
+    /// most. The result is what the last step did.
+    #[inline(always)]
     pub fn run(&mut self) -> Turn
         ensures made { IsRun Steps self.old self.new result }
     {
@@ -94,6 +96,22 @@ impl InorderSide {
         }
         self.state.telling.held = Some(*entry);
         Taken::Used
+    }
+
+    /// Takes the entry that arrives next, where one is needed, and makes the try that needs it: an
+    /// [`InorderSide::take`], and a step behind it. The result is what the step did: where the entry
+    /// was dropped, [`Turn::Want`].
+    #[inline(always)]
+    pub fn feed(&mut self, entry: &Entry) -> Turn
+        requires wants { wants_in self.old ≡ true }
+        requires right { IsRight entry.now self.old }
+        ensures fed { IsFed entry.now self.old self.new result }
+    {
+        if entry.epoch == self.state.telling.epoch {
+            self.state.feed(entry)
+        } else {
+            Turn::Want
+        }
     }
 
     /// The number of the cycle, counted from 0.

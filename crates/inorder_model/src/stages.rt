@@ -1,6 +1,7 @@
 //! Which slots stand in a stage, and how long an instruction stays there.
-ghost use Rattle.std.specs.Prelude.{◌≡◌, if◌then◌else◌};
+ghost use Rattle.std.specs.Prelude.{◌≡◌, ◌<◌, ℕ, false, nat_lt, IsTrue, IfSome, IfNone};
 ghost use Rattle.timing_side.specs.Slots.{is_done_state};
+ghost use Rattle.in_flight.specs.Flight.{executes_at};
 ghost use Rattle.lane_model.specs.Execute.{memory_latency};
 ghost use Rattle.lane_model.specs.Issue.{is_load_class, execute_latency};
 ghost use Rattle.lane_side.specs.Timing.{done_count, in_execute};
@@ -21,11 +22,13 @@ pub(crate) struct Executing {
     pub from: u64,
 }
 
-/// The slot in Execute, if there is one.
+/// The slot in Execute, if there is one. It goes inline, so that of a slot that stays there no more
+/// than its state is read.
+#[inline(always)]
 pub(crate) fn in_execute(flight: &InFlight) -> Option<Executing>
     ensures executing { executing_in result ≡ in_execute flight.now.slots }
 {
-    let Some(place) = flight.first(Sought::Executing, 0) else {
+    let Some(place) = executing_place(flight) else {
         return None;
     };
     let slot = flight.at(place);
@@ -35,25 +38,41 @@ pub(crate) fn in_execute(flight: &InFlight) -> Option<Executing>
     }
 }
 
-/// How many slots are done: those in Memory and Write.
-pub(crate) fn done_count(flight: &InFlight) -> u32
-    ensures count { result ≡ done_count flight.now.slots }
+/// The first place whose slot executes, if there is one.
+#[inline(always)]
+pub(crate) fn executing_place(flight: &InFlight) -> Option<u32>
+    ensures found { IfSome result (λ place. IsTrue (executes_at flight.now.slots place)) }
+    ensures first { IfSome result (λ place. (k : ℕ) → k < place
+        → executes_at flight.now.slots k ≡ false) }
+    ensures none { IfNone result ((k : ℕ) → executes_at flight.now.slots k ≡ false) }
 {
-    let mut count = 0;
-    for place in (0..flight.len()).rev() {
-        count += done_in(&flight.at(place));
-    }
-    count
+    let mut executes = flight.snapshot(Sought::Executing);
+    flight.next(Sought::Executing, &mut executes, 0)
 }
 
-/// How many slots that are done the slot counts as: one or none.
-fn done_in(slot: &Slot) -> u32
-    ensures done { result ≡ (if is_done_state slot.now.state then 1 else 0) }
+/// Whether more slots than so many are done: those in Memory and Write, which are the oldest.
+#[inline(always)]
+pub(crate) fn more_are_done(flight: &InFlight, than: u32) -> bool
+    ensures more { result ≡ nat_lt than (done_count flight.now.slots) }
 {
-    match slot.state {
-        SlotState::Done => 1,
-        SlotState::Waiting | SlotState::Until(_) => 0,
+    let mut left = than;
+    for place in 0..flight.len() {
+        if is_done(&flight.at(place)) {
+            if left == 0 {
+                return true;
+            }
+            left -= 1;
+        }
     }
+    false
+}
+
+/// Whether the slot is done.
+#[inline(always)]
+fn is_done(slot: &Slot) -> bool
+    ensures done { result ≡ is_done_state slot.now.state }
+{
+    matches!(slot.state, SlotState::Done)
 }
 
 /// Whether an instruction of the class loads.

@@ -31,6 +31,7 @@ impl Timing for InorderSide {
         InorderSide::step(self)
     }
 
+    #[inline(always)]
     fn run(&mut self) -> Turn {
         InorderSide::run(self)
     }
@@ -43,9 +44,9 @@ impl Timing for InorderSide {
         InorderSide::take(self, entry)
     }
 
+    #[inline(always)]
     fn feed(&mut self, entry: &Entry) -> Turn {
-        InorderSide::take(self, entry);
-        InorderSide::run(self)
+        InorderSide::feed(self, entry)
     }
 
     fn end(&self) -> End {

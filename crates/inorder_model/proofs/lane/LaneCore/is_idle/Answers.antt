@@ -5,6 +5,6 @@ use Rattle.inorder_model.proofs.lane.LaneCore.is_idle.Goals as goal
 
 pub returns : goal.returns
 returns c = record {
-  idle = none_by c.first.result c.is_none.result c.is_none.ensures ∙ idle_is c.flight.result.now.slots c.first.result c.first.ensures.found c.first.ensures.none
+  idle = none_by c.executing_place.result c.is_none.result c.is_none.ensures ∙ idle_is c.flight.result.now.slots c.executing_place.result c.executing_place.ensures.found c.executing_place.ensures.none
       ∙ ap (λ (f : Contents). is_idle f.slots) c.flight.ensures.flight;
 }
