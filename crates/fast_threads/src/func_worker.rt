@@ -1,5 +1,6 @@
 ghost use Rattle.std.specs.Prelude.{◌≡◌, true, None, IsSome, map, IfOk};
 
+use crate::foresight::Foresight;
 use crate::lookahead::Lookahead;
 use crate::worker::Worker;
 use device_bus::Device;
@@ -23,6 +24,7 @@ pub struct FuncWorker<D: Device, K: Named> {
     /// Whether the entry is still to be pushed.
     is_computed: bool,
     lookahead: Lookahead,
+    foresight: Foresight,
 }
 
 impl<D: Device, K: Named> Model for FuncWorker<D, K> {
@@ -60,12 +62,14 @@ impl<D: Device, K: Named> FuncWorker<D, K> {
         ensures setup { IfOk result (λ worker. worker.setup ≡ setup.now) }
     {
         let side = FuncSide::new(alloc, setup, devices)?;
+        let foresight = Foresight::new(alloc, &setup.params)?;
         Ok(FuncWorker {
             end,
             side,
             entry: Entry::BLANK,
             is_computed: false,
             lookahead: Lookahead::new(),
+            foresight,
         })
     }
 
@@ -105,30 +109,31 @@ impl<D: Device, K: Named> FuncWorker<D, K> {
             self.is_computed = false;
             self.lookahead = Lookahead::new();
         } else {
-            let count = self.side.committed().saturating_sub(committed);
-            self.lookahead.note_commit(count);
+            let now = self.side.committed();
+            self.lookahead.note_commit(now.saturating_sub(committed));
+            self.foresight.learn(committed, now);
         }
         true
     }
 
     /// Computes the next entry, if the side may run ahead and isn't at rest. Where it may not run
-    /// ahead, there is nothing else to do: it may go further from now on.
+    /// ahead, there is nothing else to do.
     fn compute(&mut self)
         requires none { self.old.computed ≡ None }
         ensures setup { self.new.setup ≡ self.old.setup }
     {
         if !self.lookahead.may_run_ahead() {
-            self.lookahead.widen();
+            self.lookahead.note_idle();
             return;
         }
         self.is_computed = self.side.produce_into(&mut self.entry);
         if self.is_computed {
-            self.lookahead.note_entry();
+            let departs = self.foresight.departs(&self.entry);
+            self.lookahead.note_entry(departs);
         }
     }
 
-    /// Hands over the computed entry, if there is room for it. It goes into the ring at once where
-    /// the timing side waits for it.
+    /// Hands over the computed entry, if there is room for it.
     fn push(&mut self) -> bool
         requires computed { IsSome self.old.computed }
         ensures setup { self.new.setup ≡ self.old.setup }
@@ -136,9 +141,6 @@ impl<D: Device, K: Named> FuncWorker<D, K> {
         let pushed = self.end.push(self.entry).is_ok();
         if pushed {
             self.is_computed = false;
-            if self.lookahead.is_short() {
-                self.end.flush();
-            }
         }
         pushed
     }

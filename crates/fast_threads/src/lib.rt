@@ -2,6 +2,7 @@
 //! two bounded queues.
 #![tactic(auto)]
 
+mod foresight;
 mod func_worker;
 mod lookahead;
 mod rounds;

@@ -2,9 +2,6 @@
 /// the timing side needs more.
 const FIRST: u64 = 4;
 
-/// As long as no more are under way, the timing side probably waits for each of them.
-const SHORT: u64 = 2;
-
 /// Up to here the allowance doubles; from here on it grows one by one.
 const KNEE: u64 = 64;
 
@@ -12,17 +9,23 @@ const KNEE: u64 = 64;
 /// these may wait for the commit of the oldest.
 const MOST: u64 = 512;
 
+/// So many idle turns are given to an order that is foreseen. Where none comes, the timing side lacks
+/// entries meanwhile.
+const PATIENCE: u32 = 64;
+
 /// How far the functional side runs ahead of what it knows to be committed.
 ///
 /// Entries that were made before an order which opens an epoch were made for nothing: they are
 /// undone on this side and let go on the other. So few are made behind such an order, and more the
-/// longer none comes.
+/// longer none comes; and none for a while where one is foreseen.
 #[derive(Clone, Copy, Debug)]
 pub struct Lookahead {
     /// How many entries were made since the last opening, less those known to be committed.
     ahead: u64,
     /// How many may be.
     allowed: u64,
+    /// For so many idle turns more an order is waited for.
+    patience: u32,
 }
 
 impl Lookahead {
@@ -31,22 +34,22 @@ impl Lookahead {
         Lookahead {
             ahead: 0,
             allowed: FIRST,
+            patience: 0,
         }
     }
 
     /// Whether one more entry may be made now.
     pub fn may_run_ahead(&self) -> bool {
-        self.ahead < self.allowed
+        self.patience == 0 && self.ahead < self.allowed
     }
 
-    /// Whether so few are under way that the timing side probably waits for the last one made.
-    pub fn is_short(&self) -> bool {
-        self.ahead <= SHORT
-    }
-
-    /// One more entry was made.
-    pub fn note_entry(&mut self) {
+    /// One more entry was made. Where the timing side will probably depart behind it, its order is
+    /// waited for.
+    pub fn note_entry(&mut self, departs: bool) {
         self.ahead = self.ahead.saturating_add(1);
+        if departs {
+            self.patience = PATIENCE;
+        }
     }
 
     /// So many instructions were committed: the entries are of use.
@@ -55,8 +58,17 @@ impl Lookahead {
         self.widen();
     }
 
-    /// More entries may be made, since some are of use, or the side has nothing else to do.
-    pub fn widen(&mut self) {
+    /// There was nothing to do in a turn: the order that is waited for may not come, or else more
+    /// entries may be made.
+    pub fn note_idle(&mut self) {
+        if self.patience > 0 {
+            self.patience -= 1;
+        } else {
+            self.widen();
+        }
+    }
+
+    fn widen(&mut self) {
         let allowed = if self.allowed < KNEE {
             self.allowed * 2
         } else {

@@ -1,5 +1,9 @@
+use Rattle.mono_model.proofs.Sound.{setup_facts}
 use Rattle.fast_threads.proofs.Functional.{func_starts, func_same}
 use Rattle.fast_threads.proofs.func_worker.FuncWorker.new.Goals as goal
+
+pub new-requires-2 : goal.new-requires-2
+new-requires-2 g c = record { in_range = (setup_facts c.args.setup.now c.requires.sound).predictor }
 
 pub invariant_of-result : goal.invariant_of-result
 invariant_of-result g c =
