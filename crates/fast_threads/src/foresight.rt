@@ -12,6 +12,9 @@ use trace_entry::Entry;
 /// predictor learns of others in their stead.
 const KEPT: usize = 512;
 
+/// An opcode is the lowest seven bits of a word.
+const OPCODES: u32 = 128;
+
 /// The opcodes of the instructions that may go elsewhere.
 const BRANCH: u32 = 0x63;
 
@@ -95,7 +98,7 @@ impl Foresight {
 fn place_of(number: u64) -> usize
     ensures within { result < 512 }
 {
-    (number % 512) as usize
+    (number % KEPT as u64) as usize
 }
 
 /// How an entry's instruction goes on, as a predictor learns it: by its opcode. Of one that traps
@@ -104,7 +107,7 @@ fn flow_of(entry: &Entry) -> Flow {
     if entry.cause.is_some() {
         return Flow::Plain;
     }
-    match entry.word % 128 {
+    match entry.word % OPCODES {
         BRANCH => Flow::Branch,
         JALR | JAL => Flow::Jump,
         _ if entry.word == MRET => Flow::Jump,
