@@ -116,6 +116,17 @@ impl<D: Device, K: Named> FuncWorker<D, K> {
         true
     }
 
+    /// What is done in a turn in which no entry may be made. An order that is foreseen is waited for as
+    /// long as the timing side has entries left, since it may come behind the last of them.
+    fn hold_back(&mut self)
+        ensures same { self.new ≡ self.old }
+    {
+        let is_over = self.lookahead.note_idle();
+        if is_over && !self.end.is_drained() {
+            self.lookahead.wait_on();
+        }
+    }
+
     /// Computes the next entry, if the side may run ahead and isn't at rest. Where it may not run
     /// ahead, there is nothing else to do.
     fn compute(&mut self)
@@ -123,7 +134,7 @@ impl<D: Device, K: Named> FuncWorker<D, K> {
         ensures setup { self.new.setup ≡ self.old.setup }
     {
         if !self.lookahead.may_run_ahead() {
-            self.lookahead.note_idle();
+            self.hold_back();
             return;
         }
         self.is_computed = self.side.produce_into(&mut self.entry);

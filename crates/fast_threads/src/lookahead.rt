@@ -9,8 +9,8 @@ const KNEE: u64 = 64;
 /// these may wait for the commit of the oldest.
 const MOST: u64 = 512;
 
-/// So many idle turns are given to an order that is foreseen. Where none comes, the timing side lacks
-/// entries meanwhile.
+/// So many idle turns are given to an order that is foreseen, and as many again while the timing side
+/// has entries left.
 const PATIENCE: u32 = 64;
 
 /// How far the functional side runs ahead of what it knows to be committed.
@@ -48,7 +48,7 @@ impl Lookahead {
     pub fn note_entry(&mut self, departs: bool) {
         self.ahead = self.ahead.saturating_add(1);
         if departs {
-            self.patience = PATIENCE;
+            self.wait_on();
         }
     }
 
@@ -58,14 +58,20 @@ impl Lookahead {
         self.widen();
     }
 
-    /// There was nothing to do in a turn: the order that is waited for may not come, or else more
-    /// entries may be made.
-    pub fn note_idle(&mut self) {
-        if self.patience > 0 {
-            self.patience -= 1;
-        } else {
+    /// There was nothing to do in a turn: more entries may be made, unless an order is waited for. Says
+    /// whether such a wait is over.
+    pub fn note_idle(&mut self) -> bool {
+        if self.patience == 0 {
             self.widen();
+            return false;
         }
+        self.patience -= 1;
+        self.patience == 0
+    }
+
+    /// The order that was waited for may still come.
+    pub fn wait_on(&mut self) {
+        self.patience = PATIENCE;
     }
 
     fn widen(&mut self) {

@@ -67,6 +67,14 @@ impl<K: Named> FuncEnd<K> {
         }
     }
 
+    /// Whether the timing thread has taken all entries out of the ring, as far as is seen now, which
+    /// no clause says. Both threads pay for the look: it takes a line of memory from the other one.
+    pub fn is_drained(&mut self) -> bool
+        ensures same { self.new ≡ self.old }
+    {
+        self.entries.slots() == self.entries.capacity()
+    }
+
     /// The next order, in its place; None where there is none now, which no clause says.
     pub fn next(&mut self) -> Option<Order>
         ensures order { IfSome result (λ o. IsInPlace self.old.setup self.old.taken o) }

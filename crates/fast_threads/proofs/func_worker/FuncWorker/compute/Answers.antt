@@ -10,8 +10,8 @@ produce_into-self-inside-requires g c =
     let may = func_may_produce old.end old.side (entry_if old.is_computed old.entry) c.self.invariant in
     record { position = may.position; epoch = may.epoch }
 
-pub invariant_of-self-then-self : goal.invariant_of-self-then-self
-invariant_of-self-then-self g c =
+pub invariant_of-self : goal.invariant_of-self
+invariant_of-self g c =
     let old = c.self.inside in
     let made = c.produce_into-self-inside in
     func_computed old.end old.side
