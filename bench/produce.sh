@@ -1,5 +1,6 @@
 #!/bin/sh
-# Entries in a second of FuncSide::produce with a Commit for every eight of them, on the loops of bench/func.sh:
+# Milliseconds of FuncSide::produce_into, with an undo step for each entry and a Commit for every 64 of them, on the loops of
+# bench/func.sh:
 # bench/produce.sh [MILLIONS of entries, 10 if left out]
 # Makes a program over the repository's crates in a folder of its own, builds it by rt, and runs it. Not part of the gate.
 set -e
@@ -7,7 +8,8 @@ here=$(cd "$(dirname "$0")/.." && pwd)
 millions=${1:-10}
 work=$(mktemp -d)
 trap 'rm -rf "$work"' EXIT
-mkdir -p "$work/crates/entry_speed/src" "$work/crates/entry_speed/specs" "$work/crates/entry_speed/proofs/trace/Trace/has_room"
+mkdir -p "$work/crates/entry_speed/src" "$work/crates/entry_speed/specs" "$work/crates/entry_speed/proofs/trace/Trace/has_room" \
+    "$work/crates/entry_speed/proofs/trace/make"
 # the crates that func_model stands on, and itself
 needed=$(awk -F: '
     function visit(crate,    below, number, place) {
@@ -26,7 +28,7 @@ for crate in $needed; do
     done
     grep "^$crate[: ]" "$here/crates.txt" >>"$work/crates.txt"
 done
-echo 'entry_speed: func_model undo_journal mono_model elf_image device_bus branch_predictor rollback_cmds fsim_base anyhow' >>"$work/crates.txt"
+echo 'entry_speed: func_model undo_journal mono_model elf_image device_bus branch_predictor trace_entry rollback_cmds fsim_base anyhow' >>"$work/crates.txt"
 echo '/out/' >"$work/.gitignore"
 (cd "$work" && git init -q)
 : >"$work/crates/entry_speed/specs/Lib.antt"
@@ -55,8 +57,17 @@ returns g c = record {
       (subst (λ (xs : List ℕ). length xs ≤ now.side.limit) c.output.ensures.output within);
 }
 EOF
+cat >"$work/crates/entry_speed/proofs/trace/make/Invariants.antt" <<EOF
+use Rattle.std.proofs.Common.{◌≡◌, ◌+◌}
+use Rattle.entry_speed.proofs.trace.make.Given as goal
+
+abbrev pub invariant-loop-made : goal.invariant-loop-made
+invariant-loop-made g l =
+    (l.side.position ≡ l.fn.side.position + l.made) × (l.side.epoch ≡ l.fn.side.epoch)
+    × (l.side.journal.room ≡ l.fn.side.journal.room) × (l.side.limit ≡ l.fn.side.limit)
+EOF
 cat >"$work/crates/entry_speed/src/trace.rt" <<EOF
-ghost use Rattle.std.specs.Prelude.{◌≡◌, ◌≤◌, true, map};
+ghost use Rattle.std.specs.Prelude.{◌≡◌, ◌≤◌, ◌<◌, ◌+◌, ◌^◌, true, map};
 ghost use Rattle.device_bus.specs.Bus.{device_order};
 ghost use Rattle.mono_model.specs.Setup.{is_setup};
 ghost use Rattle.func_model.specs.Walk.{bytes_before};
@@ -67,11 +78,16 @@ use func_model::FuncSide;
 use mono_model::Setup;
 use rollback_cmds::Order;
 use std::alloc::Global;
+use trace_entry::Entry;
 
-/// A functional side whose entries are taken eight by eight, and committed.
+/// How many entries are made for a Commit.
+const TOGETHER: u64 = 64;
+
+/// A functional side whose entries are made one over the other, and committed.
 #[derive(Drop)]
 pub struct Trace<D: Device> {
     side: FuncSide<D>,
+    entry: Entry,
     position: u64,
     epoch: u64,
     room: u64,
@@ -80,6 +96,25 @@ pub struct Trace<D: Device> {
     ghost epoch_is: { side.epoch ≡ epoch },
     ghost room_is: { side.journal.room ≡ room },
     ghost limit_is: { side.limit ≡ limit },
+}
+
+/// Makes so many entries, or fewer where the side is at rest before; how many.
+fn make<D: Device>(side: &mut FuncSide<D>, entry: &mut Entry, count: u64) -> u64
+    requires few { count ≤ 64 }
+    requires position { side.old.position + 64 < 2 ^ 62 }
+    requires epoch { side.old.epoch < 2 ^ 62 }
+    ensures made { side.new.position ≡ side.old.position + result }
+    ensures within { result ≤ count }
+    ensures epoch { side.new.epoch ≡ side.old.epoch }
+    ensures room { side.new.journal.room ≡ side.old.journal.room }
+    ensures limit { side.new.limit ≡ side.old.limit }
+{
+    for made in 0..count {
+        if !side.produce_into(entry) {
+            return made;
+        }
+    }
+    count
 }
 
 impl<D: Device> Trace<D> {
@@ -91,6 +126,7 @@ impl<D: Device> Trace<D> {
         let window = u64::from(setup.params.core_window);
         Ok(Trace {
             side,
+            entry: Entry::BLANK,
             position: 0,
             epoch: 0,
             room: window + u64::from(setup.ring) + 2,
@@ -98,18 +134,9 @@ impl<D: Device> Trace<D> {
         })
     }
 
-    /// The number of the next entry, where there is one.
-    fn next(&mut self) -> bool {
-        if self.position >= 1 << 62 || self.epoch >= 1 << 62 {
-            return false;
-        }
-        match self.side.produce() {
-            Some(_) => {
-                self.position += 1;
-                true
-            }
-            None => false,
-        }
+    /// The number of the entry made last.
+    pub fn last(&self) -> u64 {
+        self.entry.number
     }
 
     fn has_room(&self) -> bool
@@ -118,16 +145,20 @@ impl<D: Device> Trace<D> {
         self.side.output().len() <= self.limit as usize
     }
 
-    /// Takes eight entries, and commits them; false where that can't be.
+    /// Makes 64 entries, and commits them; false where that can't be.
     pub fn turn(&mut self) -> bool {
-        for _ in 0..8 {
-            if !self.next() {
-                return false;
-            }
+        if self.position >= 1 << 61 || self.epoch >= 1 << 61 {
+            return false;
+        }
+        let Trace { side, entry, .. } = self;
+        let made = make(side, entry, TOGETHER);
+        self.position += made;
+        if made < TOGETHER {
+            return false;
         }
         let n = self.position;
         let done = self.side.committed();
-        if n >= 1 << 62 || self.epoch >= 1 << 62 || self.side.stopped() || done > n || n - done > self.room {
+        if self.side.stopped() || done > n || n - done > self.room {
             return false;
         }
         if !self.has_room() {
@@ -158,7 +189,7 @@ use std::alloc::Global;
 use std::time::Instant;
 use trace::Trace;
 
-const TURNS: u64 = ${millions}_000_000 / 8;
+const TURNS: u64 = ${millions}_000_000 / 64;
 
 fn params() -> Params {
     Params {
@@ -205,7 +236,7 @@ fn follow<D: Device>(rt: &HostRuntime, name: &str, setup: &Setup, devices: Vec<D
     let start = Instant::now(rt).context("the clock")?;
     let made = turns(&mut trace);
     let time = start.elapsed(rt).context("the clock")?.as_millis();
-    println!(rt; "{name}: {made} times eight entries in {time} ms")?;
+    println!(rt; "{name}: {made} times 64 entries in {time} ms, the last one {}", trace.last())?;
     Ok(())
 }
 
