@@ -136,6 +136,20 @@ fn full_ring_hands_an_entry_back(rt: HostRuntime) -> Result<(), Fail> {
     Ok(())
 }
 
+#[test]
+fn ring_is_drained_once_its_entries_are_taken(rt: HostRuntime) -> Result<(), Fail> {
+    let setup = setup(rt.alloc());
+    assert!(rt; setup.sound());
+    let (mut func, mut time) = rings::<Trial>(rt.alloc(), &setup)?;
+    push_first(&rt, &mut func, 2);
+    assert!(rt; func.is_drained());
+    func.flush();
+    assert!(rt; !func.is_drained());
+    expect_entries(&rt, &mut time, 0, 2);
+    assert!(rt; func.is_drained());
+    Ok(())
+}
+
 /// Pushes the order in a place, and says whether it had room.
 #[tactic(auto, using(crate::proofs::Trials::order_named))]
 fn push_order(end: &mut TimeEnd<Trial>, place: u32) -> bool
