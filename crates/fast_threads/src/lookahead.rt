@@ -9,8 +9,8 @@ const KNEE: u64 = 64;
 /// these may wait for the commit of the oldest.
 const MOST: u64 = 512;
 
-/// So many idle turns are given to an order that is foreseen, and as many again while the timing side
-/// has entries left.
+/// So many idle turns are given to an order that is foreseen, and as many again while the timing
+/// side has entries left.
 const PATIENCE: u32 = 64;
 
 /// How far the functional side runs ahead of what it knows to be committed.
@@ -58,8 +58,8 @@ impl Lookahead {
         self.widen();
     }
 
-    /// There was nothing to do in a turn: more entries may be made, unless an order is waited for. Says
-    /// whether such a wait is over.
+    /// There was nothing to do in a turn: more entries may be made, unless an order is waited for.
+    /// Says whether such a wait is over.
     pub fn note_idle(&mut self) -> bool {
         if self.patience == 0 {
             self.widen();

@@ -145,7 +145,7 @@ impl<D: Device> Contents<D> {
         ensures unchanged { result ≡ false → self.new ≡ self.old }
         ensures room { self.new.hart.room ≡ self.old.hart.room }
     {
-        self.advance_computed() || self.advance_load() || self.advance_store()
+        self.advance_computed() || self.advance_access()
     }
 
     /// Executes it where it changes at most a register and the next address.
@@ -170,9 +170,20 @@ impl<D: Device> Contents<D> {
         true
     }
 
-    /// The same where it is a load of RAM. It stays a call: beside it the loop of a run alone would
-    /// keep less in the host's registers.
+    /// The same where it is a load or a store of RAM. It stays a call: beside it the loop of a run
+    /// alone would keep less in the host's registers.
     #[inline(never)]
+    fn advance_access(&mut self) -> bool
+        requires count { retired_in self.old < 2 ^ 64 - 1 }
+        ensures on { result ≡ true → GoesOn self.old self.new }
+        ensures unchanged { result ≡ false → self.new ≡ self.old }
+        ensures room { self.new.hart.room ≡ self.old.hart.room }
+    {
+        self.advance_load() || self.advance_store()
+    }
+
+    /// The same where it is a load.
+    #[inline(always)]
     fn advance_load(&mut self) -> bool
         requires count { retired_in self.old < 2 ^ 64 - 1 }
         ensures on { result ≡ true → GoesOn self.old self.new }
@@ -190,8 +201,8 @@ impl<D: Device> Contents<D> {
         true
     }
 
-    /// The same where it is a store to RAM.
-    #[inline(never)]
+    /// The same where it is a store.
+    #[inline(always)]
     fn advance_store(&mut self) -> bool
         requires count { retired_in self.old < 2 ^ 64 - 1 }
         ensures on { result ≡ true → GoesOn self.old self.new }

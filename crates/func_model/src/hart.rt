@@ -331,8 +331,10 @@ impl Hart {
             ≡ with_register destination value (λ r. slice_index self.old.regs r) }
         ensures others { self.new ≡ record self.old { regs = self.new.regs } }
     {
-        if let Some(register) = destination {
-            self.regs[register as usize] = value;
+        // Asked as `before` asks it, so that the host tests it once for both.
+        match destination {
+            None => {}
+            Some(register) => self.regs[register as usize] = value,
         }
     }
 

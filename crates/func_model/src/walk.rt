@@ -110,7 +110,7 @@ impl<D: Device> Walk<D> {
         ensures position { self.new.position ≡ self.old.position + 1 }
         ensures others { IsSameBut self.old self.new }
     {
-        if self.compute_into(to) || self.load_into(to) || self.store_into(to) {
+        if self.compute_into(to) || self.access_into(to) {
             return;
         }
         self.carry_out(to);
@@ -138,9 +138,25 @@ impl<D: Device> Walk<D> {
         true
     }
 
-    /// The same where the next instruction is kept and is a load of RAM. It stays a call, as does
-    /// what carries out all others: a computed step needs no frame of theirs.
+    /// The same where the next instruction is kept and is a load or a store of RAM. It stays a call
+    /// for both, as does what carries out all others: a computed step needs no frame of theirs.
     #[inline(never)]
+    fn access_into(&mut self, to: &mut Entry) -> bool
+        requires standing { IsStanding self.old }
+        requires running { self.old.is_stopped ≡ false }
+        requires room { self.old.position < self.old.committed + self.old.journal.room }
+        requires bounded { self.old.position < 2 ^ 63 }
+        ensures produced { result ≡ true → (s : RunSetup) (os : List SpecOrder)
+            → WalkStandsFor s os self.old → IsProduced s os self.old self.new (Some to.new) }
+        ensures forward { result ≡ true → IsForward self.old self.new }
+        ensures unchanged { result ≡ false → self.new ≡ self.old }
+        ensures unwritten { result ≡ false → to.new ≡ to.old }
+    {
+        self.load_into(to) || self.store_into(to)
+    }
+
+    /// The same where it is a load.
+    #[inline(always)]
     fn load_into(&mut self, to: &mut Entry) -> bool
         requires standing { IsStanding self.old }
         requires running { self.old.is_stopped ≡ false }
@@ -161,8 +177,8 @@ impl<D: Device> Walk<D> {
         true
     }
 
-    /// The same where it is a store to RAM.
-    #[inline(never)]
+    /// The same where it is a store.
+    #[inline(always)]
     fn store_into(&mut self, to: &mut Entry) -> bool
         requires standing { IsStanding self.old }
         requires running { self.old.is_stopped ≡ false }
@@ -238,8 +254,8 @@ impl<D: Device> Walk<D> {
         self.position -= count as u64;
     }
 
-    /// Takes the instruction back that was executed last, whatever it changed. It stays a call: what
-    /// most instructions changed needs no frame of it.
+    /// Takes the instruction back that was executed last, whatever it changed. It stays a call:
+    /// what most instructions changed needs no frame of it.
     #[inline(never)]
     fn step_back_by_call(&mut self)
         requires holding { IsOnSomePath self.old }
@@ -256,8 +272,8 @@ impl<D: Device> Walk<D> {
         self.position -= 1;
     }
 
-    /// Takes instructions back, at least one, and none below instruction `n`. What is committed isn't
-    /// taken back.
+    /// Takes instructions back, at least one, and none below instruction `n`. What is committed
+    /// isn't taken back.
     #[inline(always)]
     fn step_back(&mut self, n: u64)
         requires holding { IsOnSomePath self.old }

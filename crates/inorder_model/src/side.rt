@@ -99,8 +99,8 @@ impl InorderSide {
     }
 
     /// Takes the entry that arrives next, where one is needed, and makes the try that needs it: an
-    /// [`InorderSide::take`], and a step behind it. The result is what the step did: where the entry
-    /// was dropped, [`Turn::Want`].
+    /// [`InorderSide::take`], and a step behind it. The result is what the step did: where the
+    /// entry was dropped, [`Turn::Want`].
     #[inline(always)]
     pub fn feed(&mut self, entry: &Entry) -> Turn
         requires wants { wants_in self.old ≡ true }

@@ -28,7 +28,8 @@ impl<K: Named> Model for FuncEnd<K> {
 
     ghost Value = { FuncAt };
 
-    ghost view = { λ end. func_at K.setup (sent end.entries ++ end.outgoing) (received end.orders) };
+    ghost view = { λ end.
+        func_at K.setup (sent end.entries ++ end.outgoing) (received end.orders) };
 
     ghost invariant = { λ end.
         IsFuncEnd K.setup (sent end.entries) end.outgoing (producer_capacity end.entries) };
@@ -67,8 +68,9 @@ impl<K: Named> FuncEnd<K> {
         }
     }
 
-    /// Whether the timing thread has taken all entries out of the ring, as far as is seen now, which
-    /// no clause says. Both threads pay for the look: it takes a line of memory from the other one.
+    /// Whether the timing thread has taken all entries out of the ring, as far as is seen now,
+    /// which no clause says. Both threads pay for the look: it takes a line of memory from the other
+    /// one.
     pub fn is_drained(&mut self) -> bool
         ensures same { self.new ≡ self.old }
     {

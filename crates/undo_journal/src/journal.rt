@@ -1,24 +1,37 @@
 use crate::past::Past;
-use circular_buffer::HeapCircularBuffer;
+use crate::place::behind;
 use fsim_base::NoMemory;
 use std::alloc::Global;
 use std::marker::Model;
 
+/// The greatest room.
+const MOST: u32 = 1 << 30;
+
 /// Undo steps, the oldest first, with rising numbers and a fixed room.
 #[derive(Debug, Drop)]
 pub struct Journal {
-    steps: HeapCircularBuffer<Past>,
+    /// What holds the steps, one behind the other, and the first one again behind the last: as many
+    /// places as a power of two.
+    places: Vec<Past>,
+    /// How many places there are, less one.
+    mask: u32,
+    /// How many steps have room.
+    room: u32,
+    /// The place of the oldest step.
+    first: u32,
+    /// How many steps there are.
+    count: u32,
 }
 
 impl Model for Journal {
-    ghost use Rattle.std.specs.Prelude.{◌<◌, ◌^◌};
-    ghost use Rattle.undo_journal.specs.Journal.{Log, IsRising};
+    ghost use Rattle.undo_journal.specs.Journal.{Log};
+    ghost use Rattle.undo_journal.specs.Ring.{held, IsRing};
 
     ghost Value = { Log };
 
-    ghost view = { λ j. record { room = j.steps.capacity; steps = j.steps.items } };
+    ghost view = { λ j. record { room = j.room; steps = held j.places.items j.first j.count } };
 
-    ghost invariant = { λ j. (j.steps.capacity < 2 ^ 32) × IsRising j.steps.items };
+    ghost invariant = { λ j. IsRing j.places.items j.mask j.room j.first j.count };
 }
 
 impl Journal {
@@ -27,14 +40,25 @@ impl Journal {
     ghost use Rattle.std.specs.List.{prefix_len};
     ghost use Rattle.undo_journal.specs.Journal.{IsRising, newest, from_number};
 
-    /// An empty journal with room for `capacity` steps. All its memory is taken here.
+    /// An empty journal with room for `capacity` steps. All its memory is taken here. More than 2^30
+    /// steps are refused as if there were no memory for them.
     pub fn with_room(alloc: Global, capacity: u32) -> Result<Journal, NoMemory>
         ensures opening { IfOk result (λ j. j ≡ record { room = capacity; steps = [] }) }
     {
-        match HeapCircularBuffer::with_capacity(alloc, capacity as usize) {
-            Ok(steps) => Ok(Journal { steps }),
-            Err(_) => Err(NoMemory),
+        if capacity > MOST {
+            return Err(NoMemory);
         }
+        let size = capacity.next_power_of_two();
+        let Ok(places) = vec![in alloc; Past::BLANK; size as usize] else {
+            return Err(NoMemory);
+        };
+        Ok(Journal {
+            places,
+            mask: size - 1,
+            room: capacity,
+            first: 0,
+            count: 0,
+        })
     }
 
     /// How many steps the journal holds.
@@ -42,7 +66,7 @@ impl Journal {
         ensures count { result ≡ length self.now.steps }
         ensures rising { IsRising self.now.steps }
     {
-        self.steps.len() as u32
+        self.count
     }
 
     /// Whether there is no room for a further step.
@@ -50,29 +74,34 @@ impl Journal {
         ensures full { IsTrue result ↔ (length self.now.steps ≡ self.now.room) }
         ensures within { length self.now.steps ≤ self.now.room }
     {
-        self.steps.len() == self.steps.capacity()
+        self.count == self.room
     }
 
     /// Adds a step, whose number is above the newest one's.
-    #[tactic(auto, using(crate::proofs::Steps::rising_with_one_more))]
+    #[inline(always)]
     pub fn note(&mut self, p: Past)
         requires room { length self.old.steps < self.old.room }
         requires above { IfSome (newest self.old.steps) (λ q. q.number < p.number) }
         ensures noted { self.new ≡ record self.old { steps = self.old.steps ++ p ∷ [] } }
     {
-        // There is room, so this is Ok.
-        let _ = self.steps.try_push_back(p);
+        let place = behind(self.first, self.count, self.mask);
+        self.places[place as usize] = p;
+        self.count += 1;
     }
 
     /// Removes the newest step and gives it; None where there is none.
-    #[tactic(auto, using(crate::proofs::Steps::split_newest, crate::proofs::Steps::split_empty))]
     pub fn back(&mut self) -> Option<Past>
         ensures empty { IsNone result ↔ (self.old.steps ≡ []) }
         ensures newest { IfSome result (λ p. self.old ≡ record self.new
             { steps = self.new.steps ++ p ∷ [] }) }
         ensures none { IfNone result (self.new ≡ self.old) }
     {
-        self.steps.pop_back()
+        if self.count == 0 {
+            return None;
+        }
+        self.count -= 1;
+        let place = behind(self.first, self.count, self.mask);
+        Some(self.places[place as usize])
     }
 
     /// The newest steps, at most so many, as far as they stand side by side. None only where the
@@ -85,47 +114,52 @@ impl Journal {
         ensures most { length result.now ≤ most }
         ensures some { 0 < most → 0 < length self.now.steps → 0 < length result.now }
     {
-        let (earlier, later) = self.steps.as_slices();
-        let run = if later.is_empty() { earlier } else { later };
-        let count = most.min(run.len() as u64) as usize;
-        &run[run.len() - count..]
+        if self.count == 0 {
+            return &[];
+        }
+        let end = behind(self.first, self.count - 1, self.mask) + 1;
+        let count = most.min(u64::from(self.count.min(end))) as u32;
+        &self.places[(end - count) as usize..end as usize]
     }
 
     /// Removes so many of the newest steps, or all where there are fewer.
     #[inline(always)]
-    #[tactic(auto, using(crate::proofs::Steps::rising_front))]
     pub fn drop_newest(&mut self, count: usize)
         ensures kept { self.new ≡ record self.old
             { steps = take (length self.old.steps - count) self.old.steps } }
     {
-        let kept = self.steps.len().saturating_sub(count);
-        self.steps.truncate_back(kept);
+        self.count -= count.min(self.count as usize) as u32;
     }
 
     /// Removes the steps whose numbers are below `n`.
-    #[tactic(auto, using(crate::proofs::Steps::rising_from))]
     pub fn drop_below(&mut self, n: u64)
         ensures kept { self.new ≡ record self.old { steps = from_number n self.old.steps } }
     {
         let below = self.count_below(n);
-        self.steps.truncate_front(self.steps.len() - below);
+        self.drop_oldest(u64::from(below));
     }
 
     /// Removes so many of the oldest steps, or all where there are fewer.
-    #[tactic(auto, using(crate::proofs::Steps::rising_without, crate::proofs::Steps::keep_newest))]
     pub fn drop_oldest(&mut self, count: u64)
         ensures kept { self.new ≡ record self.old { steps = drop count self.old.steps } }
     {
-        let held = self.steps.len();
-        let gone = count.min(held as u64) as usize;
-        self.steps.truncate_front(held - gone);
+        let gone = count.min(u64::from(self.count)) as u32;
+        self.first = behind(self.first, gone, self.mask);
+        self.count -= gone;
     }
 
     /// How many steps have numbers below `n`. They stand first.
-    fn count_below(&self, n: u64) -> usize
+    fn count_below(&self, n: u64) -> u32
         ensures count { result ≡ prefix_len (λ p. nat_lt p.number n) self.now.steps }
         ensures within { result ≤ length self.now.steps }
+        ensures rising { IsRising self.now.steps }
     {
-        self.steps.iter().take_while(|p| p.number < n).count()
+        for below in 0..self.count {
+            let place = behind(self.first, below, self.mask);
+            if self.places[place as usize].number >= n {
+                return below;
+            }
+        }
+        self.count
     }
 }

@@ -3,6 +3,7 @@
 
 mod journal;
 mod past;
+mod place;
 
 pub use journal::Journal;
 pub use past::{Change, OldCsr, OldRegister, OldTrap, Past};

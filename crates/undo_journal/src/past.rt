@@ -62,16 +62,30 @@ pub struct Past {
     pub number: u64,
     /// The instruction's address.
     pub addr: u32,
-    /// Whether it sent a byte to the output.
-    pub out: bool,
     /// The register that it writes, with its value before, also where it traps; x0 where it has
     /// none.
     pub reg: OldRegister,
+    // The fields from here on are empty for most instructions: they stand side by side, so that the
+    // host writes them together.
+    /// Whether it sent a byte to the output.
+    pub out: bool,
     /// What else it changed.
     pub change: Change,
 }
 
 impl Past {
+    /// What stands in a place that no step was written to yet.
+    pub const BLANK: Past = Past {
+        number: 0,
+        addr: 0,
+        reg: OldRegister {
+            register: 0,
+            value: 0,
+        },
+        out: false,
+        change: Change::Nothing,
+    };
+
     /// Whether the instruction changed nothing beside its register and the count of retired
     /// instructions.
     #[inline(always)]

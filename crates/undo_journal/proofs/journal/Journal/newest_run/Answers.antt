@@ -1,22 +1,14 @@
-use Rattle.std.proofs.Common.{◌≡◌, ◌++◌, [], List, ap, ◌∙◌, sym, arith}
-use Rattle.std.specs.Borrow.{Bor}
-use Rattle.undo_journal.specs.declared.past.Past.{Past}
-use Rattle.undo_journal.specs.Journal.{Log}
-use Rattle.undo_journal.proofs.Steps.{run_newest, none_behind}
+use Rattle.std.proofs.Common.{◌≡◌, ◌-◌, ◌+◌, ◌≤◌, min, take, drop, arith}
+use Rattle.undo_journal.proofs.Ring.{run_newest}
 use Rattle.undo_journal.proofs.journal.Journal.newest_run.Goals as goal
-use Rattle.undo_journal.proofs.journal.Journal.newest_run.Goals.{then-is_empty, else-is_empty}
 
 pub returns-clause-newest : goal.returns-clause-newest
 returns-clause-newest c =
-    let steps = c.args.self.now.steps in
-    let run = c.if-is_empty.run.now in
-    let earlier = c.as_slices.result.0.now in
-    let later = c.as_slices.result.1.now in
-    let both : earlier ++ later ≡ steps = c.as_slices.ensures ∙ ap (λ (log : Log). log.steps) c.self.view_is in
-    let last = λ (front : List Past) (is : front ++ run ≡ steps). run_newest front run steps c.min-count.result is (omega (arith, c.min-count.ensures)) in
-    elim c.if-is_empty.branch [
-      | then-is_empty w ↦
-          let is : run ≡ earlier = ap (λ (b : Bor (List Past)). b.now) w.run-is in
-          last [] (is ∙ sym (none_behind earlier later (sym c.is_empty.ensures ∙ w.if-is_empty.true)) ∙ both)
-      | else-is_empty w ↦ last earlier (ap (λ (b : Bor (List Past)). earlier ++ b.now) w.run-is ∙ both)
-    ]
+    let now = c.self.inside in
+    let end = c.behind-end.result + 1 in
+    let k = c.min-count.result in
+    let few : k ≤ min now.count end = omega (arith, c.min-count.ensures, c.from.ensures, c.min.ensures) in
+    let count : end - (end - k) ≡ k = omega arith in
+    run_newest now.places.items now.mask now.room now.first now.count c.self.invariant c.args.self.now c.self.view_is end k
+    (take (end - (end - k)) (drop (end - k) c.deref.result.now)) (omega (arith, c.if-self-eq0.false)) (omega (arith, c.behind-end.ensures.place)) (omega (arith, few)) (omega (arith, few))
+    (λ i. take (count i) (drop (end - k) (c.deref.ensures.value i)))
