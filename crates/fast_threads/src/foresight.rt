@@ -1,29 +1,17 @@
 ghost use Rattle.std.specs.Prelude.{◌≡◌, ◌<◌};
 ghost use Rattle.branch_predictor.specs.Params.{IsInRange};
-ghost use Rattle.mono_model.specs.Setup.{predictor_params};
+ghost use Rattle.mono_model.specs.Setup.{predictor_params as sizes_of};
 
-use branch_predictor::{PredParams, Predictor};
+use branch_predictor::Predictor;
 use fsim_base::{Flow, NoMemory};
 use mono_model::Params;
 use std::alloc::Global;
+use timing_core::{flow_of, predictor_params};
 use trace_entry::Entry;
 
 /// So many of the last entries are kept until they are committed. Where more are under way, the
 /// predictor learns of others in their stead.
 const KEPT: usize = 512;
-
-/// An opcode is the lowest seven bits of a word.
-const OPCODES: u32 = 128;
-
-/// The opcodes of the instructions that may go elsewhere.
-const BRANCH: u32 = 0x63;
-
-const JALR: u32 = 0x67;
-
-const JAL: u32 = 0x6f;
-
-/// The word of MRET.
-const MRET: u32 = 0x3020_0073;
 
 /// What the predictor learns of an instruction that is committed.
 #[derive(Clone, Copy, Debug)]
@@ -58,15 +46,9 @@ pub struct Foresight {
 impl Foresight {
     /// Foresight that has learnt nothing. It takes its memory here and none later.
     pub fn new(alloc: Global, params: &Params) -> Result<Foresight, NoMemory>
-        requires in_range { IsInRange (predictor_params params.now) }
+        requires in_range { IsInRange (sizes_of params.now) }
     {
-        let sizes = PredParams {
-            kind: params.predictor_kind,
-            counters: params.predictor_counters,
-            history: params.predictor_history,
-            targets: params.predictor_targets,
-        };
-        let predictor = Predictor::new(alloc, sizes)?;
+        let predictor = Predictor::new(alloc, predictor_params(params))?;
         Ok(Foresight {
             predictor,
             outcomes: [Outcome::NONE; KEPT],
@@ -79,7 +61,7 @@ impl Foresight {
         self.outcomes[place_of(entry.number)] = Outcome {
             addr: entry.addr,
             next: entry.next,
-            flow: flow_of(entry),
+            flow: flow_behind(entry),
         };
         self.predictor.predict(entry.addr) != entry.next
     }
@@ -101,16 +83,10 @@ fn place_of(number: u64) -> usize
     (number % KEPT as u64) as usize
 }
 
-/// How an entry's instruction goes on, as a predictor learns it: by its opcode. Of one that traps
-/// nothing is learnt, as of one that only computes.
-fn flow_of(entry: &Entry) -> Flow {
-    if entry.cause.is_some() {
-        return Flow::Plain;
-    }
-    match entry.word % OPCODES {
-        BRANCH => Flow::Branch,
-        JALR | JAL => Flow::Jump,
-        _ if entry.word == MRET => Flow::Jump,
-        _ => Flow::Plain,
+/// What a predictor learns from an entry's instruction: of one that traps nothing.
+fn flow_behind(entry: &Entry) -> Flow {
+    match entry.cause {
+        Some(_) => Flow::Plain,
+        None => flow_of(entry.word),
     }
 }

@@ -17,5 +17,7 @@ mod units;
 
 pub use fetch::Tried;
 pub use orders::Orders;
+pub use retire::flow_of;
+pub use sizes::predictor_params;
 pub use state::TimingCore;
 pub use units::latency_of;

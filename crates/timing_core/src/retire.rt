@@ -30,7 +30,7 @@ const MRET: u32 = 0x3020_0073;
 
 /// What a predictor may learn from the instruction of a word, which isn't decoded for it. A word
 /// that is none is plain.
-fn flow_of(word: u32) -> Flow
+pub fn flow_of(word: u32) -> Flow
     ensures flow { result ≡ flow_in (found_word word (decode_of word)) }
 {
     match bits(word, 6, 0) {

@@ -7,7 +7,7 @@ use cache_timing::{AllCaches, CacheParams};
 use mono_model::Params;
 
 /// The sizes of the predictor.
-pub(crate) fn predictor_params(p: &Params) -> PredParams
+pub fn predictor_params(p: &Params) -> PredParams
     ensures sizes { result ≡ predictor_params p.now }
 {
     PredParams {
