@@ -1,6 +1,6 @@
 ghost use Rattle.std.specs.Prelude.{◌≡◌, ◌<◌};
 ghost use Rattle.branch_predictor.specs.Params.{IsInRange};
-ghost use Rattle.mono_model.specs.Setup.{predictor_params as sizes_of};
+ghost use Rattle.mono_model.specs.Setup.{predictor_params};
 
 use branch_predictor::Predictor;
 use fsim_base::{Flow, NoMemory};
@@ -46,7 +46,7 @@ pub struct Foresight {
 impl Foresight {
     /// Foresight that has learnt nothing. It takes its memory here and none later.
     pub fn new(alloc: Global, params: &Params) -> Result<Foresight, NoMemory>
-        requires in_range { IsInRange (sizes_of params.now) }
+        requires in_range { IsInRange (predictor_params params.now) }
     {
         let predictor = Predictor::new(alloc, predictor_params(params))?;
         Ok(Foresight {

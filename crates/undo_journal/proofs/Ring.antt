@@ -113,10 +113,12 @@ module _ (places : List Past) (n : ℕ) (long : length places ≡ n) (first coun
   long_written = length-set places place p ∙ long
 
   others : (i : ℕ) → i < count → (first + i) % n ≢ place
-  others i lt e = elim (around n (first + i) (omega arith)) [
-    | inl a ↦ elim (around n (first + count) (omega arith)) [ inl b ↦ absurd (let here : (first + i) % n ≡ (first + count) % n = e in omega (arith, here, a.0, a.1, b.0, b.1)) | inr b ↦ absurd (let here : (first + i) % n ≡ (first + count) % n = e in omega (arith, here, a.0, a.1, b.0, b.1)) ]
-    | inr a ↦ elim (around n (first + count) (omega arith)) [ inl b ↦ absurd (let here : (first + i) % n ≡ (first + count) % n = e in omega (arith, here, a.0, a.1, b.0, b.1)) | inr b ↦ absurd (let here : (first + i) % n ≡ (first + count) % n = e in omega (arith, here, a.0, a.1, b.0, b.1)) ]
-  ]
+  others i lt same =
+      let here : (first + i) % n ≡ (first + count) % n = same in
+      elim (around n (first + i) (omega arith)) [
+        | inl a ↦ elim (around n (first + count) (omega arith)) [ inl b ↦ absurd (omega (arith, here, a.0, a.1, b.0, b.1)) | inr b ↦ absurd (omega (arith, here, a.0, a.1, b.0, b.1)) ]
+        | inr a ↦ elim (around n (first + count) (omega arith)) [ inl b ↦ absurd (omega (arith, here, a.0, a.1, b.0, b.1)) | inr b ↦ absurd (omega (arith, here, a.0, a.1, b.0, b.1)) ]
+      ]
 
   stays : held written first count ≡ held places first count
   stays =
@@ -134,6 +136,12 @@ module _ (places : List Past) (n : ℕ) (long : length places ≡ n) (first coun
 
 -- what holds of the places still holds behind each call
 module _ (places : List Past) (mask room first count : ℕ) (ring : IsRing places mask room first count) where
+  at_first : first < mask + 1
+  at_first = omega (arith, ring.oldest)
+
+  few : count ≤ mask + 1
+  few = omega (arith, ring.newest, ring.within)
+
   pub fewer_kept : (k : ℕ) → k ≤ count → IsRing places mask room first k
   fewer_kept k le = record {
     size = ring.size;
@@ -146,39 +154,29 @@ module _ (places : List Past) (mask room first count : ℕ) (ring : IsRing place
   }
 
   pub later_kept : (gone : ℕ) → gone ≤ count → IsRing places mask room ((first + gone) % (mask + 1)) (count - gone)
-  later_kept gone le =
-      let at : first < mask + 1 = omega (arith, ring.oldest) in
-      let within : count ≤ mask + 1 = omega (arith, ring.newest, ring.within) in
-      record {
-        size = ring.size;
-        masks = ring.masks;
-        bound = ring.bound;
-        within = ring.within;
-        oldest = omega (arith, below places (mask + 1) ring.size (first + gone) (omega arith));
-        newest = omega (arith, ring.newest);
-        rising = subst IsRising (sym (held_later places (mask + 1) ring.size first count gone at within le)) (rising_without gone (held places first count) ring.rising);
-      }
+  later_kept gone le = record {
+    size = ring.size;
+    masks = ring.masks;
+    bound = ring.bound;
+    within = ring.within;
+    oldest = omega (arith, below places (mask + 1) ring.size (first + gone) (omega (arith, at_first, few)));
+    newest = omega (arith, ring.newest);
+    rising = subst IsRising (sym (held_later places (mask + 1) ring.size first count gone at_first few le)) (rising_without gone (held places first count) ring.rising);
+  }
 
   pub noted_kept : (p : Past) → count < room → IfSome (newest (held places first count)) (λ q. q.number < p.number)
       → IsRing (set places ((first + count) % (mask + 1)) p) mask room first (count + 1)
   noted_kept p lt above =
-      let at : first < mask + 1 = omega (arith, ring.oldest) in
       let free : count < mask + 1 = omega (arith, ring.within) in
       record {
-        size = long_written places (mask + 1) ring.size first count p at free;
+        size = long_written places (mask + 1) ring.size first count p at_first free;
         masks = ring.masks;
         bound = ring.bound;
         within = ring.within;
         oldest = ring.oldest;
         newest = omega arith;
-        rising = subst IsRising (sym (held_noted places (mask + 1) ring.size first count p at free)) (rising_with_one_more (held places first count) p ring.rising above);
+        rising = subst IsRising (sym (held_noted places (mask + 1) ring.size first count p at_first free)) (rising_with_one_more (held places first count) p ring.rising above);
       }
-
-  at_first : first < mask + 1
-  at_first = omega (arith, ring.oldest)
-
-  few : count ≤ mask + 1
-  few = omega (arith, ring.newest, ring.within)
 
   -- what a call behind them gives
   pub noted_steps : (p : Past) → count < room → held (set places ((first + count) % (mask + 1)) p) first (count + 1) ≡ held places first count ++ p ∷ []

@@ -1,7 +1,6 @@
 -- A list of steps with rising numbers: its newest step, one step more, and the steps from a number on.
 use Rattle.std.proofs.Common.{◌≡◌, ℕ, zero, suc, ◌+◌, ◌-◌, ◌<◌, ◌≤◌, nat_lt, nat_le, List, [], ◌∷◌, ◌++◌, length, get_or, take, drop, refl, arith, Some, IfSome, All, inl, inr}
 use Rattle.std.specs.List.{prefix_len}
-use Rattle.std.proofs.lemmas.List.Kept.{AllPairs-filter}
 use Rattle.std.proofs.lemmas.List.Quantifiers.{all_pairs_push}
 use Rattle.std.proofs.lemmas.Option.{slice_get-get_or}
 use Rattle.std.proofs.lemmas.Bool.{cases_lt}
@@ -36,9 +35,6 @@ drop_below n (p ∷ ps) rising =
     let later : All (λ q. p.number < q.number) ps = first_below p ps rising in
     let all : n ≤ p.number → from_number n ps ≡ ps = λ from. all_from n ps (λ k d within. omega (arith, later k d within)) in
     grind (arith, rest, all, skip_one)
-
-pub rising_from : (n : ℕ) (ps : List Past) → IsRising ps → IsRising (from_number n ps)
-rising_from n ps rising = AllPairs-filter (λ p q. p.number < q.number) (λ p. nat_le n p.number) ps rising
 
 -- without the oldest ones
 pub rising_without : (n : ℕ) (ps : List Past) → IsRising ps → IsRising (drop n ps)
