@@ -1,12 +1,12 @@
 -- What evaluation tells of an instruction's access and destination.
-use Rattle.std.proofs.Common.{◌≡◌, ℕ, ◌%◌, ◌==◌, Bool, true, false, if◌then◌else◌, Option, Some, None, refl, sym, subst, arith}
+use Rattle.std.proofs.Common.{◌≡◌, ℕ, ◌%◌, ◌==◌, Bool, true, false, if◌then◌else◌, Option, Some, None, unwrap_or, refl, sym, subst, ◌∙◌, arith}
 use Rattle.std.proofs.lemmas.Grind.{common_steps}
 use Rattle.fsim_base.specs.declared.access.Width.{Width}
 use Rattle.fsim_base.specs.Width.{width_bytes}
 use Rattle.fsim_base.specs.declared.cause.Cause.{Cause}
 use Rattle.rv_decode.specs.declared.insn.Insn.{Insn}
 use Rattle.rv_decode.specs.declared.insn.Insn.TheVariants as insn
-use Rattle.rv_decode.specs.Class.{dest_of}
+use Rattle.rv_decode.specs.Class.{sources_of, dest_of}
 use Rattle.rv_exec.specs.declared.outcome.Outcome.{Outcome}
 use Rattle.rv_exec.specs.declared.outcome.Reach.{Reach}
 use Rattle.rv_exec.specs.declared.outcome.Reach.TheVariants as reach
@@ -14,8 +14,9 @@ use Rattle.rv_exec.specs.Eval.{eval_of, branched}
 use Rattle.rv_exec.specs.Branch.{branch_taken}
 use Rattle.fsim_base.specs.Number.{wrap_sum}
 use Rattle.machine_csr.specs.Csr.{reads_time_of}
+use Rattle.mono_model.specs.Arch.{register_value}
 use Rattle.mono_model.specs.Found.{known, is_csr_insn, is_mret_insn, is_fence_i}
-use Rattle.func_model.specs.Steps.{AlignedBy, IsAlignedReach, is_load, is_store}
+use Rattle.func_model.specs.Steps.{AlignedBy, IsAlignedReach, is_load, is_store, outcome_at}
 
 aligned_zero : (n : ℕ) → (n == 0) ≡ true → n ≡ 0
 aligned_zero n is = grind (arith, common_steps)
@@ -125,3 +126,30 @@ store_no_fence word i is = refl
 pub store_no_register : (i : Insn) → is_store i ≡ true → dest_of i ≡ None
 store_no_register (insn.Store kind rs1 rs2 imm) is = refl
 store_no_register i is = cc
+
+-- a register that isn't read doesn't matter
+read_alone : (i : Insn) (addr : ℕ) (regs : ℕ → ℕ) →
+    eval_of i addr (regs (unwrap_or (sources_of i).0 0)) (regs (unwrap_or (sources_of i).1 0)) ≡ outcome_at i addr regs
+unfolding eval_of
+read_alone (insn.Lui rd imm) addr regs = refl
+read_alone (insn.Auipc rd imm) addr regs = refl
+read_alone (insn.Jal rd imm) addr regs = refl
+read_alone (insn.Jalr rd rs1 imm) addr regs = refl
+read_alone (insn.Branch kind rs1 rs2 imm) addr regs = refl
+read_alone (insn.Load kind rd rs1 imm) addr regs = refl
+read_alone (insn.Store kind rs1 rs2 imm) addr regs = refl
+read_alone (insn.OpImm kind alt rd rs1 imm) addr regs = refl
+read_alone (insn.Op kind alt rd rs1 rs2) addr regs = refl
+read_alone (insn.MulDiv kind rd rs1 rs2) addr regs = refl
+read_alone (insn.Fence rd rs1 upper fetch) addr regs = refl
+read_alone insn.Ecall addr regs = refl
+read_alone insn.Ebreak addr regs = refl
+read_alone insn.Mret addr regs = refl
+read_alone insn.Wfi addr regs = refl
+read_alone (insn.Csr kind rd rs1 csr) addr regs = refl
+
+-- the outcome by the registers that are kept with an instruction
+pub read_outcome : (o : Outcome) (i : Insn) (addr first second : ℕ) (regs : ℕ → ℕ) → first ≡ unwrap_or (sources_of i).0 0 → second ≡ unwrap_or (sources_of i).1 0 →
+    o ≡ eval_of i addr (regs first) (regs second) → o ≡ outcome_at i addr regs
+read_outcome o i addr first second regs first_is second_is is =
+    is ∙ (λ j. eval_of i addr (regs (first_is j)) (regs (second_is j))) ∙ read_alone i addr regs

@@ -1,4 +1,5 @@
 pub mod Advance
+pub mod Bare
 pub mod Bending
 pub mod Compared
 pub mod Computed

@@ -1,10 +1,11 @@
 -- What the parts of the functional side stand for.
-use Rattle.std.specs.Prelude.{◌≡◌, ℕ, Bool, ◌&&◌, ◌%◌, ◌+◌, ◌==◌, if◌then◌else◌, Option, Some, None, slice_index, ◌<◌}
+use Rattle.std.specs.Prelude.{◌≡◌, ℕ, Bool, ◌&&◌, ◌%◌, ◌+◌, ◌==◌, if◌then◌else◌, Option, Some, None, slice_index, unwrap_or, ◌<◌}
 use Rattle.fsim_base.specs.Memory.{from_bytes}
 use Rattle.fsim_base.specs.declared.cause.Cause.TheVariants.{InstructionMisaligned, InstructionAccess}
 use Rattle.rv_decode.specs.Decode.{decode_of}
 use Rattle.rv_decode.specs.Fits.{Fits}
 use Rattle.rv_decode.specs.Class.{sources_of, dest_of, class_of}
+use Rattle.rv_exec.specs.Bare.{bare_of, insn_in}
 use Rattle.device_bus.specs.Bus.{Devices}
 use Rattle.mono_model.specs.Arch.{Arch}
 use Rattle.mono_model.specs.Found.{Found, refused, unknown, known, found_word}
@@ -23,7 +24,11 @@ found_in (code.Known decoded) = known decoded.word decoded.insn
 -- an instruction is one that some word spells, and what is kept with it is what is read off it
 pub record DecodedFits (decoded : Decoded) : Type 0 where
   pub fits : Fits decoded.insn
-  pub sources : decoded.sources ≡ sources_of decoded.insn
+  pub bare : insn_in decoded.bare ≡ bare_of decoded.insn
+  pub first : decoded.first ≡ unwrap_or (sources_of decoded.insn).0 0
+  pub second : decoded.second ≡ unwrap_or (sources_of decoded.insn).1 0
+  pub first_exists : decoded.first < 32
+  pub second_exists : decoded.second < 32
   pub destination : decoded.destination ≡ dest_of decoded.insn
   pub class : decoded.class ≡ class_of decoded.insn
 

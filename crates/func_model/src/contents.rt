@@ -159,9 +159,6 @@ impl<D: Device> Contents<D> {
         let Some(decoded) = self.hart.known() else {
             return false;
         };
-        if decoded.is_fence_i() {
-            return false;
-        }
         let Some(outcome) = self.hart.computed(decoded) else {
             return false;
         };

@@ -1,5 +1,7 @@
-ghost use Rattle.std.specs.Prelude.{◌≡◌};
+ghost use Rattle.std.specs.Prelude.{◌≡◌, ◌<◌, unwrap_or};
 ghost use Rattle.rv_decode.specs.Class.{sources_of, dest_of, class_of};
+ghost use Rattle.rv_decode.specs.Fits.{Fits};
+ghost use Rattle.rv_exec.specs.Bare.{bare_of, insn_in};
 ghost use Rattle.mono_model.specs.Found.{destination_in, word_in, class_in, is_fence_i, known};
 ghost use Rattle.mono_model.specs.Result.{is_time_csr};
 ghost use Rattle.func_model.specs.Hart.{found_in, FetchedFits};
@@ -7,14 +9,19 @@ ghost use Rattle.func_model.specs.Hart.{found_in, FetchedFits};
 use fsim_base::{Cause, Class};
 use machine_csr::reads_time;
 use rv_decode::Insn;
+use rv_exec::BareInsn;
 
 /// An instruction with its word and what is read off it, found out once.
 #[derive(Clone, Copy, Debug, PartialEq, Eq)]
 pub struct Decoded {
     pub word: u32,
     pub insn: Insn,
-    /// The registers that it reads.
-    pub sources: (Option<u8>, Option<u8>),
+    /// It without its registers, where it only computes.
+    pub bare: BareInsn,
+    /// The first register that it reads, and x0 where it reads none.
+    pub first: u8,
+    /// The second one, and x0 where it reads none.
+    pub second: u8,
     /// The register that it writes.
     pub destination: Option<u8>,
     /// The unit that it waits for.
@@ -24,16 +31,22 @@ pub struct Decoded {
 impl Decoded {
     /// An instruction with its word.
     pub fn new(word: u32, insn: Insn) -> Decoded
+        requires fits { Fits insn }
         ensures word { result.word ≡ word }
         ensures insn { result.insn ≡ insn }
-        ensures sources { result.sources ≡ sources_of insn }
+        ensures bare { insn_in result.bare ≡ bare_of insn }
+        ensures first { result.first ≡ unwrap_or (sources_of insn).0 0 }
+        ensures second { result.second ≡ unwrap_or (sources_of insn).1 0 }
         ensures destination { result.destination ≡ dest_of insn }
         ensures class { result.class ≡ class_of insn }
     {
+        let (first, second) = insn.sources();
         Decoded {
             word,
             insn,
-            sources: insn.sources(),
+            bare: BareInsn::of(insn),
+            first: first.unwrap_or(0),
+            second: second.unwrap_or(0),
             destination: insn.dest(),
             class: insn.class(),
         }

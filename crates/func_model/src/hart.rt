@@ -1,12 +1,12 @@
 ghost use Rattle.std.specs.Prelude.{◌≡◌, ◌≤◌, ◌<◌, ◌^◌, ◌+◌, ◌-◌, ◌%◌, ℕ, None, Some};
 ghost use Rattle.std.specs.Prelude.{slice_index, vec_capacity, unwrap_or, if◌then◌else◌};
-ghost use Rattle.std.specs.Prelude.{Option, IfSome, IfNone, true, length, drop};
+ghost use Rattle.std.specs.Prelude.{Option, IfSome, IfNone, true, false, length, drop};
 ghost use Rattle.std.specs.List.{All};
 ghost use Rattle.mono_model.specs.Arch.{compare_of};
-ghost use Rattle.mono_model.specs.Found.{is_csr_insn, is_mret_insn};
+ghost use Rattle.mono_model.specs.Found.{is_csr_insn, is_mret_insn, is_fence_i};
 ghost use Rattle.mono_model.specs.Result.{attempted, csr_value};
 ghost use Rattle.mono_model.specs.Sequence.{byte_in};
-ghost use Rattle.func_model.specs.Steps.{plain_with, reaches_out, is_load, is_store};
+ghost use Rattle.func_model.specs.Steps.{plain_with, is_load, is_store};
 ghost use Rattle.func_model.specs.Undo.{csr_back, flags_before, trap_before};
 ghost use Rattle.machine_csr.specs.Csr.{csr_written};
 ghost use Rattle.rv_exec.specs.Load.{loaded_value};
@@ -83,16 +83,6 @@ fn is_mret(insn: Insn) -> bool
     ensures mret { result ≡ is_mret_insn insn }
 {
     matches!(insn, Insn::Mret)
-}
-
-/// Whether the instruction may reach memory, or is about control and status registers.
-fn reaches_out(insn: Insn) -> bool
-    ensures out { result ≡ reaches_out insn }
-{
-    matches!(
-        insn,
-        Insn::Load { .. } | Insn::Store { .. } | Insn::Csr { .. } | Insn::Mret
-    )
 }
 
 /// Whether the instruction is a load.
@@ -276,6 +266,14 @@ impl Hart {
         ensures fits { IfSome result (λ decoded. DecodedFits decoded.now) }
     {
         self.memory.known(self.pc)
+    }
+
+    /// The value of a register.
+    fn register(&self, number: u8) -> u32
+        requires exists { number < 32 }
+        ensures value { result ≡ slice_index self.now.regs number }
+    {
+        self.regs[number as usize]
     }
 
     /// The value of a source register, and 0 where there is none.
@@ -707,24 +705,21 @@ impl Hart {
         plain(Change::Csr(before))
     }
 
-    /// The outcome of an instruction that changes at most a register and the next address. None of
-    /// any other, and where it traps.
+    /// The outcome of an instruction that changes at most a register and the next address, and lets
+    /// fetch see nothing. None of any other, and where it traps.
     #[inline(always)]
     pub fn computed(&self, decoded: &Decoded) -> Option<Outcome>
         requires fits { DecodedFits decoded.now }
-        ensures outcome { result ≡ plain_outcome decoded.now.insn self.now.pc
-            (λ r. slice_index self.now.regs r) }
+        ensures outcome { IfSome result (λ outcome. Some outcome
+            ≡ plain_outcome decoded.now.insn self.now.pc (λ r. slice_index self.now.regs r)) }
+        ensures no_fence { IfSome result (λ outcome.
+            is_fence_i (known decoded.now.word decoded.now.insn) ≡ false) }
     {
-        if reaches_out(decoded.insn) {
-            return None;
-        }
-        let (first, second) = decoded.sources;
-        let outcome = eval(
-            decoded.insn,
+        let outcome = decoded.bare.eval(
             self.pc,
-            self.operand(first),
-            self.operand(second),
-        );
+            self.register(decoded.first),
+            self.register(decoded.second),
+        )?;
         match outcome.cause {
             None => Some(outcome),
             Some(_) => None,
@@ -750,12 +745,11 @@ impl Hart {
         if !is_load(decoded.insn) {
             return None;
         }
-        let (first, second) = decoded.sources;
         let outcome = eval(
             decoded.insn,
             self.pc,
-            self.operand(first),
-            self.operand(second),
+            self.register(decoded.first),
+            self.register(decoded.second),
         );
         if outcome.cause.is_some() {
             return None;
@@ -792,12 +786,11 @@ impl Hart {
         if !is_store(decoded.insn) {
             return None;
         }
-        let (first, second) = decoded.sources;
         let outcome = eval(
             decoded.insn,
             self.pc,
-            self.operand(first),
-            self.operand(second),
+            self.register(decoded.first),
+            self.register(decoded.second),
         );
         if outcome.cause.is_some() {
             return None;
@@ -842,8 +835,8 @@ impl Hart {
         ensures exec { exec_of self.new.memory ≡ exec_of self.old.memory }
         ensures room { self.new.room ≡ self.old.room }
     {
-        let (first, second) = decoded.sources;
         let insn = decoded.insn;
+        let (first, second) = insn.sources();
         let x = self.operand(first);
         if is_csr(insn) {
             return self.access_csr(decoded.word, insn, x, time, compare(bus));

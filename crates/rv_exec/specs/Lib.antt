@@ -5,3 +5,4 @@ pub mod Laws
 pub mod Branch
 pub mod Load
 pub mod Eval
+pub mod Bare

@@ -47,7 +47,7 @@ pub fn eval(insn: Insn, addr: u32, a: u32, b: u32) -> Outcome
 }
 
 /// A value, and on to the next word.
-fn compute(addr: u32, value: u32) -> Outcome
+pub fn compute(addr: u32, value: u32) -> Outcome
     ensures outcome { result ≡ computed addr value }
 {
     Outcome {
@@ -85,7 +85,7 @@ fn redirect(addr: u32, target: u32) -> Outcome
     }
 }
 
-fn jump(addr: u32, target: u32) -> Outcome
+pub fn jump(addr: u32, target: u32) -> Outcome
     ensures outcome { result ≡ jumped addr target }
 {
     Outcome {
@@ -94,7 +94,7 @@ fn jump(addr: u32, target: u32) -> Outcome
     }
 }
 
-fn branch(addr: u32, taken: bool, target: u32) -> Outcome
+pub fn branch(addr: u32, taken: bool, target: u32) -> Outcome
     ensures outcome { result ≡ branched addr taken target }
 {
     if taken {

@@ -3,6 +3,7 @@
 #![tactic(auto)]
 
 mod alu;
+mod bare;
 mod branch;
 mod evaluation;
 mod law;
@@ -10,6 +11,7 @@ mod muldiv;
 mod outcome;
 mod transfer;
 
+pub use bare::{BareInsn, Operation};
 pub use evaluation::eval;
 pub use law::{division_law, product_law};
 pub use outcome::{Outcome, Reach};

@@ -1,21 +1,34 @@
-use Rattle.std.proofs.Common.{rules, ◌≡◌, ◌<◌, ◌^◌, ◌∙◌, Some, ap, sym, subst}
+use Rattle.std.proofs.Common.{rules, ◌≡◌, ◌<◌, ◌^◌, ◌∙◌, ℕ, Option, Some, unwrap_or, ap, sym, subst}
+use Rattle.rv_decode.specs.declared.insn.Insn.{Insn}
+use Rattle.rv_exec.specs.Bare.{bare_of}
 use Rattle.rv_decode.specs.Class.{sources_of, dest_of, class_of}
 use Rattle.rv_decode.specs.Decode.{decode_of}
 use Rattle.rv_decode.specs.Fits.{Fits}
 use Rattle.rv_decode.proofs.Spelled.{spelled_fits}
 use Rattle.func_model.specs.Hart.{found_by}
+use Rattle.func_model.proofs.Bare.{registers_exist}
 use Rattle.func_model.proofs.memory.keep.Goals as goal
+
+-- a word spells the instruction that was decoded
+spelled : (word : ℕ) (insn : Insn) (decoded : Option Insn) → word < 2 ^ 32 → decoded ≡ decode_of word → decoded ≡ Some insn → Fits insn
+spelled word insn decoded below row is = spelled_fits insn (word, below, sym row ∙ is)
+
+pub new-requires : goal.new-requires
+new-requires c = record { fits = spelled c.in-Some.word c.in-Some-decode.insn c.decode.result (search rules) c.decode.ensures.row c.in-Some-decode.is }
 
 pub returns-clause-text : goal.returns-clause-text
 unfolding found_by
 returns-clause-text c = λ was.
-    let below : c.in-Some.word < 2 ^ 32 = search rules in
-    let spelled : decode_of c.in-Some.word ≡ Some c.in-Some-decode.insn = sym c.decode.ensures.row ∙ c.in-Some-decode.is in
+    let fits : Fits c.in-Some-decode.insn = spelled c.in-Some.word c.in-Some-decode.insn c.decode.result (search rules) c.decode.ensures.row c.in-Some-decode.is in
     record {
       found = λ within. rw (c.from.ensures, c.new.ensures.word, c.new.ensures.insn) (search rules);
       fits = λ within. record {
-        fits = subst Fits (sym c.new.ensures.insn) (spelled_fits c.in-Some-decode.insn (c.in-Some.word, below, spelled));
-        sources = c.new.ensures.sources ∙ ap sources_of (sym c.new.ensures.insn);
+        fits = subst Fits (sym c.new.ensures.insn) fits;
+        bare = c.new.ensures.bare ∙ ap bare_of (sym c.new.ensures.insn);
+        first = c.new.ensures.first ∙ ap (λ (i : Insn). unwrap_or (sources_of i).0 0) (sym c.new.ensures.insn);
+        second = c.new.ensures.second ∙ ap (λ (i : Insn). unwrap_or (sources_of i).1 0) (sym c.new.ensures.insn);
+        first_exists = subst (λ n. n < 32) (sym c.new.ensures.first) (registers_exist c.in-Some-decode.insn fits).first;
+        second_exists = subst (λ n. n < 32) (sym c.new.ensures.second) (registers_exist c.in-Some-decode.insn fits).second;
         destination = c.new.ensures.destination ∙ ap dest_of (sym c.new.ensures.insn);
         class = c.new.ensures.class ∙ ap class_of (sym c.new.ensures.insn);
       };

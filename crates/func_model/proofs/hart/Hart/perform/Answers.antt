@@ -16,14 +16,14 @@ unfolding arch_of
 returns-then-is_csr-clause-told g c =
     told_same c.args.limit _ _ (arch_of c.args.self.now c.args.bus.now) c.access_csr.result
     (csr_result_by (range_of c.args.self.now.memory) c.args.decoded.word c.args.decoded.insn c.operand-x.result c.compare.result c.args.time (arch_of c.args.self.now c.args.bus.now) (sym c.is_csr.ensures.csr ∙ c.if-is_csr.true)
-    (c.operand-x.ensures.value ∙ ap (λ s. register_value (λ r. slice_index c.args.self.now.regs r) s.0) c.requires.fits.sources) c.compare.ensures.compare)
+    (c.operand-x.ensures.value ∙ ap (λ s. register_value (λ r. slice_index c.args.self.now.regs r) s.0) c.sources-first.ensures.registers) c.compare.ensures.compare)
     (c.access_csr.ensures.told c.args.limit c.args.bus.now)
 
 pub returns-then-is_csr-clause-arch : goal.returns-then-is_csr-clause-arch
 unfolding arch_of
 returns-then-is_csr-clause-arch g c =
     csr_behind_by (range_of c.args.self.now.memory) c.args.limit c.args.decoded.word c.args.decoded.insn c.operand-x.result c.compare.result c.args.time (arch_of c.args.self.now c.args.bus.now) _ (sym c.is_csr.ensures.csr ∙ c.if-is_csr.true)
-    (c.operand-x.ensures.value ∙ ap (λ s. register_value (λ r. slice_index c.args.self.now.regs r) s.0) c.requires.fits.sources) c.compare.ensures.compare (c.access_csr.ensures.arch c.args.bus.now)
+    (c.operand-x.ensures.value ∙ ap (λ s. register_value (λ r. slice_index c.args.self.now.regs r) s.0) c.sources-first.ensures.registers) c.compare.ensures.compare (c.access_csr.ensures.arch c.args.bus.now)
 
 pub returns-then-is_mret-clause-told : goal.returns-then-is_mret-clause-told
 returns-then-is_mret-clause-told g c =
@@ -45,8 +45,8 @@ returns-clause-told g c =
     told_same c.args.limit _ _ (arch_of c.args.self.now c.args.bus.now) c.reach.result
     (evaluated_result (range_of c.args.self.now.memory) c.args.decoded.word c.args.decoded.insn c.operand-x.result c.operand-y.result c.args.time c.eval-outcome.result (arch_of c.args.self.now c.args.bus.now)
     (sym c.is_csr.ensures.csr ∙ c.if-is_csr.false) (sym c.is_mret.ensures.mret ∙ c.if-is_mret.false) c.eval-outcome.ensures.outcome
-    (c.operand-x.ensures.value ∙ ap (λ s. register_value (λ r. slice_index c.args.self.now.regs r) s.0) c.requires.fits.sources)
-    (c.operand-y.ensures.value ∙ ap (λ s. register_value (λ r. slice_index c.args.self.now.regs r) s.1) c.requires.fits.sources))
+    (c.operand-x.ensures.value ∙ ap (λ s. register_value (λ r. slice_index c.args.self.now.regs r) s.0) c.sources-first.ensures.registers)
+    (c.operand-y.ensures.value ∙ ap (λ s. register_value (λ r. slice_index c.args.self.now.regs r) s.1) c.sources-first.ensures.registers))
     c.reach.ensures.told
 
 pub returns-clause-arch : goal.returns-clause-arch
@@ -54,8 +54,8 @@ unfolding arch_of
 returns-clause-arch g c =
     evaluated_behind (range_of c.args.self.now.memory) c.args.limit c.args.decoded.word c.args.decoded.insn c.operand-x.result c.operand-y.result c.args.time c.eval-outcome.result c.args.decoded.destination (arch_of c.args.self.now c.args.bus.now) _
     (sym c.is_csr.ensures.csr ∙ c.if-is_csr.false) (sym c.is_mret.ensures.mret ∙ c.if-is_mret.false) c.eval-outcome.ensures.outcome c.requires.fits.destination
-    (c.operand-x.ensures.value ∙ ap (λ s. register_value (λ r. slice_index c.args.self.now.regs r) s.0) c.requires.fits.sources)
-    (c.operand-y.ensures.value ∙ ap (λ s. register_value (λ r. slice_index c.args.self.now.regs r) s.1) c.requires.fits.sources)
+    (c.operand-x.ensures.value ∙ ap (λ s. register_value (λ r. slice_index c.args.self.now.regs r) s.0) c.sources-first.ensures.registers)
+    (c.operand-y.ensures.value ∙ ap (λ s. register_value (λ r. slice_index c.args.self.now.regs r) s.1) c.sources-first.ensures.registers)
     c.reach.ensures.arch
 
 pub returns-then-is_csr-clause-back : goal.returns-then-is_csr-clause-back
