@@ -1,6 +1,5 @@
 -- An instruction that is evaluated without its registers.
 use Rattle.std.proofs.Common.{◌≡◌, ℕ, ◌<◌, ◌&&◌, Bool, true, false, not, nat_lt, if◌then◌else◌, Option, Some, None, is_none, option_map, unwrap_or, refl, sym, ap, ◌∙◌, arith}
-use Rattle.fsim_base.specs.declared.cause.Cause.{Cause}
 use Rattle.rv_decode.specs.declared.insn.Insn.{Insn}
 use Rattle.rv_decode.specs.declared.insn.Insn.TheVariants as insn
 use Rattle.rv_decode.specs.Class.{sources_of}

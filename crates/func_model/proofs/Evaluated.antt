@@ -14,7 +14,6 @@ use Rattle.rv_exec.specs.Eval.{eval_of, branched}
 use Rattle.rv_exec.specs.Branch.{branch_taken}
 use Rattle.fsim_base.specs.Number.{wrap_sum}
 use Rattle.machine_csr.specs.Csr.{reads_time_of}
-use Rattle.mono_model.specs.Arch.{register_value}
 use Rattle.mono_model.specs.Found.{known, is_csr_insn, is_mret_insn, is_fence_i}
 use Rattle.func_model.specs.Steps.{AlignedBy, IsAlignedReach, is_load, is_store, outcome_at}
 

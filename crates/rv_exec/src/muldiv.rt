@@ -19,7 +19,9 @@ pub fn muldiv(kind: u8, a: u32, b: u32) -> u32
     }
 }
 
-/// The upper half of signed by signed.
+/// The upper half of signed by signed. It stays a call, as the next one: inline, the operands of
+/// each instruction would be widened for it.
+#[inline(never)]
 fn mulh(a: u32, b: u32) -> u32
     ensures value { result ≡ upper_half (signed_of a *ℤ signed_of b) }
 {
@@ -27,6 +29,7 @@ fn mulh(a: u32, b: u32) -> u32
 }
 
 /// The upper half of signed by unsigned.
+#[inline(never)]
 fn mulhsu(a: u32, b: u32) -> u32
     ensures value { result ≡ upper_half (signed_of a *ℤ pos b) }
 {

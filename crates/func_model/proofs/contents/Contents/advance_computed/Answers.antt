@@ -12,7 +12,7 @@ use Rattle.func_model.proofs.contents.Contents.advance_computed.Goals as goal
 
 -- what was evaluated
 plain : (g : given.Over) (c : goal.After-finish g) → IsPlain c.in-Some.decoded.now.insn c.args.self.now.hart.pc (λ r. slice_index c.args.self.now.hart.regs r) c.in-Some-computed.outcome
-plain g c = is_plain c.in-Some.decoded.now.insn c.args.self.now.hart.pc (λ r. slice_index c.args.self.now.hart.regs r) c.in-Some-computed.outcome 
+plain g c = is_plain c.in-Some.decoded.now.insn c.args.self.now.hart.pc (λ r. slice_index c.args.self.now.hart.regs r) c.in-Some-computed.outcome
     (subst (λ (r : Option Outcome). IfSome r (λ o. Some o ≡ plain_outcome c.in-Some.decoded.now.insn c.args.self.now.hart.pc (λ r. slice_index c.args.self.now.hart.regs r))) c.in-Some-computed.is c.computed.ensures.outcome)
 
 pub returns-clause-on : goal.returns-clause-on

@@ -1,4 +1,4 @@
-use Rattle.std.proofs.Common.{◌≡◌, ℕ, slice_index, option_map, ap, ◌∙◌}
+use Rattle.std.proofs.Common.{ℕ, slice_index, option_map, ap, ◌∙◌}
 use Rattle.rv_exec.specs.Eval.{eval_of}
 use Rattle.func_model.proofs.Bare.{OnlyComputes, only_computes, plain_is}
 use Rattle.func_model.proofs.Evaluated.{read_outcome}

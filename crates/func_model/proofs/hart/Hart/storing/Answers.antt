@@ -1,4 +1,4 @@
-use Rattle.std.proofs.Common.{◌≡◌, ℕ, true, None, slice_index, refl, sym, ap, ◌∙◌}
+use Rattle.std.proofs.Common.{◌≡◌, ℕ, true, None, slice_index, refl, sym, ◌∙◌}
 use Rattle.mono_model.specs.Arch.{register_value}
 use Rattle.mono_model.specs.Sequence.{seen_in}
 use Rattle.rv_decode.specs.Class.{sources_of}
