@@ -133,8 +133,8 @@ impl<D: Device> Walk<D> {
         let Some((made, past)) = self.contents.compute(self.position, self.epoch) else {
             return false;
         };
-        self.note(past);
         *to = made;
+        self.note(past);
         true
     }
 
@@ -172,8 +172,8 @@ impl<D: Device> Walk<D> {
         let Some((made, past)) = self.contents.load(self.position, self.epoch, time) else {
             return false;
         };
-        self.note(past);
         *to = made;
+        self.note(past);
         true
     }
 
@@ -193,8 +193,8 @@ impl<D: Device> Walk<D> {
         let Some((made, past)) = self.contents.store(self.position, self.epoch) else {
             return false;
         };
-        self.note(past);
         *to = made;
+        self.note(past);
         true
     }
 
@@ -229,10 +229,11 @@ impl<D: Device> Walk<D> {
             → IfSome (newest self.old.journal.steps) (λ q. q.number < past.number) }
         ensures noted { self.new ≡ noted_in past self.old }
     {
-        if self.position >= self.committed {
+        let position = self.position;
+        self.position = position + 1;
+        if position >= self.committed {
             self.journal.note(past);
         }
-        self.position += 1;
     }
 
     /// Takes back, of the instructions that were executed last and not below instruction `n`, those
