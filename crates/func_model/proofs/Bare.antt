@@ -1,5 +1,6 @@
 -- An instruction that is evaluated without its registers.
 use Rattle.std.proofs.Common.{◌≡◌, ℕ, ◌<◌, ◌&&◌, Bool, true, false, not, nat_lt, if◌then◌else◌, Option, Some, None, is_none, option_map, unwrap_or, refl, sym, ap, ◌∙◌, arith}
+use Rattle.fsim_base.specs.declared.cause.Cause.{Cause}
 use Rattle.rv_decode.specs.declared.insn.Insn.{Insn}
 use Rattle.rv_decode.specs.declared.insn.Insn.TheVariants as insn
 use Rattle.rv_decode.specs.Class.{sources_of}
@@ -84,3 +85,42 @@ plain_is i addr regs o is inside none =
     let caused : (outcome_at i addr regs).cause ≡ None = sym (ap (λ (x : Outcome). x.cause) is) ∙ none in
     let tests : (not (reaches_out i) && is_none (outcome_at i addr regs).cause) ≡ true = λ j. not (inside j) && is_none (caused j) in
     ap Some is ∙ chosen (not (reaches_out i) && is_none (outcome_at i addr regs).cause) (outcome_at i addr regs) tests
+
+unchosen : (test : Bool) (o : Outcome) → test ≡ false → (if test then Some o else None) ≡ None
+unchosen true o is = cc
+unchosen false o is = refl
+
+-- what only computes and lets fetch see nothing, as it is evaluated
+abbrev pub quiet_outcome : ℕ → Insn → ℕ → (ℕ → ℕ) → Option Outcome
+quiet_outcome word i addr regs = if is_fence_i (known word i) then None else plain_outcome i addr regs
+
+-- there is none where there is no instruction without registers
+pub none_quiet : (word : ℕ) (i : Insn) (addr a b : ℕ) (regs : ℕ → ℕ) → None ≡ option_map (λ bare. eval_of bare addr a b) (bare_of i) →
+    quiet_outcome word i addr regs ≡ None
+unfolding eval_of
+none_quiet word (insn.Lui rd imm) addr a b regs is = absurd (none_found _ (sym is))
+none_quiet word (insn.Auipc rd imm) addr a b regs is = absurd (none_found _ (sym is))
+none_quiet word (insn.Jal rd imm) addr a b regs is = absurd (none_found _ (sym is))
+none_quiet word (insn.Jalr rd rs1 imm) addr a b regs is = absurd (none_found _ (sym is))
+none_quiet word (insn.Branch kind rs1 rs2 imm) addr a b regs is = absurd (none_found _ (sym is))
+none_quiet word (insn.OpImm kind alt rd rs1 imm) addr a b regs is = absurd (none_found _ (sym is))
+none_quiet word (insn.Op kind alt rd rs1 rs2) addr a b regs is = absurd (none_found _ (sym is))
+none_quiet word (insn.MulDiv kind rd rs1 rs2) addr a b regs is = absurd (none_found _ (sym is))
+none_quiet word (insn.Fence rd rs1 upper true) addr a b regs is = refl
+none_quiet word (insn.Fence rd rs1 upper false) addr a b regs is = absurd (none_found _ (sym is))
+none_quiet word insn.Wfi addr a b regs is = absurd (none_found _ (sym is))
+none_quiet word (insn.Load kind rd rs1 imm) addr a b regs is = refl
+none_quiet word (insn.Store kind rs1 rs2 imm) addr a b regs is = refl
+none_quiet word insn.Ecall addr a b regs is = refl
+none_quiet word insn.Ebreak addr a b regs is = refl
+none_quiet word insn.Mret addr a b regs is = refl
+none_quiet word (insn.Csr kind rd rs1 csr) addr a b regs is = refl
+
+-- nor where it traps
+pub caused_quiet : (word : ℕ) (i : Insn) (addr : ℕ) (regs : ℕ → ℕ) (o : Outcome) (why : Cause × ℕ) → o ≡ outcome_at i addr regs → reaches_out i ≡ false →
+    is_fence_i (known word i) ≡ false → o.cause ≡ Some why → quiet_outcome word i addr regs ≡ None
+caused_quiet word i addr regs o why is inside no_fence caused =
+    let there : (outcome_at i addr regs).cause ≡ Some why = sym (ap (λ (x : Outcome). x.cause) is) ∙ caused in
+    let tests : (not (reaches_out i) && is_none (outcome_at i addr regs).cause) ≡ false = λ j. not (inside j) && is_none (there j) in
+    ap (λ (fence : Bool). if fence then None else plain_outcome i addr regs) no_fence
+    ∙ unchosen (not (reaches_out i) && is_none (outcome_at i addr regs).cause) (outcome_at i addr regs) tests

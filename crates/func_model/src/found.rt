@@ -1,4 +1,4 @@
-ghost use Rattle.std.specs.Prelude.{◌≡◌, ◌<◌, unwrap_or};
+ghost use Rattle.std.specs.Prelude.{◌≡◌, unwrap_or};
 ghost use Rattle.rv_decode.specs.Class.{sources_of, dest_of, class_of};
 ghost use Rattle.rv_decode.specs.Fits.{Fits};
 ghost use Rattle.rv_exec.specs.Bare.{bare_of, insn_in};

@@ -714,6 +714,9 @@ impl Hart {
             ≡ plain_outcome decoded.now.insn self.now.pc (λ r. slice_index self.now.regs r)) }
         ensures no_fence { IfSome result (λ outcome.
             is_fence_i (known decoded.now.word decoded.now.insn) ≡ false) }
+        ensures none { IfNone result ((if is_fence_i (known decoded.now.word decoded.now.insn)
+            then None else plain_outcome decoded.now.insn self.now.pc
+            (λ r. slice_index self.now.regs r)) ≡ None) }
     {
         let outcome = decoded.bare.eval(
             self.pc,
