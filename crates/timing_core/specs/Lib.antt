@@ -5,3 +5,4 @@ pub mod CoreStandsFor
 pub mod Leaving
 pub mod Retiring
 pub mod Units
+pub mod Idle

@@ -6,6 +6,7 @@ mod complete;
 mod counts;
 mod cycle_end;
 mod fetch;
+mod idle;
 mod interrupt;
 mod issue;
 mod loads;
