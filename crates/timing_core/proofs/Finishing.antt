@@ -98,3 +98,19 @@ redirects cycle zero (x ∷ rest) slot is due wrong =
     ∙ ap (λ (b : Bool). complete_next slot b (completes cycle rest)) due
     ∙ ap (λ (b : Bool). if b then record { slots = finished slot ∷ []; redirect = Some slot.next } else in_front (finished slot) (completes cycle rest)) wrong
 redirects cycle (suc place) (x ∷ rest) slot is due wrong = ap (in_front x) (redirects cycle place rest slot is due wrong)
+
+-- where no latency is over nothing is done
+none_due_from : (cycle count place : ℕ) (slots : List Slot) → ((k : ℕ) (slot : Slot) → slice_get slots k ≡ Some slot → is_finishing cycle slot.state ≡ false) →
+    completed_from cycle place slots ≡ completed_from cycle (place + count) slots
+none_due_from cycle zero place slots later = ap (λ n. completed_from cycle n slots) (let e : place ≡ place + 0 = omega arith in e)
+none_due_from cycle (suc count) place slots later =
+    (elim (slice_get_cases slots place).1 [
+      | inl there ↦ passes cycle place slots there.0 there.2 (later place there.0 there.2)
+      | inr over ↦ completed_all cycle place slots over.0 ∙ sym (completed_all cycle (suc place) slots (omega (arith, over.0)))
+    ])
+    ∙ none_due_from cycle count (suc place) slots later
+    ∙ ap (λ n. completed_from cycle n slots) (let e : suc place + count ≡ place + suc count = omega arith in e)
+
+pub none_due : (cycle : ℕ) (slots : List Slot) → ((k : ℕ) (slot : Slot) → slice_get slots k ≡ Some slot → is_finishing cycle slot.state ≡ false) →
+    completes cycle slots ≡ record { slots = slots; redirect = None }
+none_due cycle slots later = none_due_from cycle (length slots) 0 slots later ∙ completed_all cycle (0 + length slots) slots (omega arith)

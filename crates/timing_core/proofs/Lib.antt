@@ -7,5 +7,6 @@ pub mod Finishing
 pub mod Fetching
 pub mod Walks
 pub mod Issuing
+pub mod Idling
 pub mod Opcodes
 pub mod Retiring

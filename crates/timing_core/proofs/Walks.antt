@@ -162,3 +162,22 @@ module _ (s : Setup) (cycle busy : ℕ) where
       rests_early slots place used caches (λ slot there. late place slot (omega arith) there)
       ∙ rests_all count slots (suc place) used caches (λ k slot above there. late k slot (omega arith) there)
       ∙ ap (λ (k : ℕ). walk_from slots k used caches) e
+
+  -- past places whose slots don't begin
+  rests_here : (slots : List Slot) (place : ℕ) (used : Used) (caches : CachesState) →
+      ((slot : Slot) → slice_get slots place ≡ Some slot → may_begin s.params cycle busy (older_at slots place) slot used ≡ false) →
+      walk_from slots place used caches ≡ walk_from slots (suc place) used caches
+  rests_here slots place used caches not = elim (slice_get_cases slots place).1 [
+    | inl there ↦ passes_rest slots place there.0 used caches there.2 (not there.0 there.2)
+    | inr over ↦ walk_ends slots place used caches over.0 ∙ sym (walk_ends slots (suc place) used caches (omega arith))
+  ]
+
+  pub rests_some : (count : ℕ) (slots : List Slot) (place : ℕ) (used : Used) (caches : CachesState) →
+      ((k : ℕ) (slot : Slot) → place ≤ k → slice_get slots k ≡ Some slot → may_begin s.params cycle busy (older_at slots k) slot used ≡ false) →
+      walk_from slots place used caches ≡ walk_from slots (place + count) used caches
+  rests_some zero slots place used caches not = ap (λ (k : ℕ). walk_from slots k used caches) (sym (add-zero place))
+  rests_some (suc count) slots place used caches not =
+      let e : suc place + count ≡ place + suc count = omega arith in
+      rests_here slots place used caches (λ slot there. not place slot (omega arith) there)
+      ∙ rests_some count slots (suc place) used caches (λ k slot above there. not k slot (omega arith) there)
+      ∙ ap (λ (k : ℕ). walk_from slots k used caches) e
