@@ -5,6 +5,7 @@ pub mod Bounded
 pub mod Small
 pub mod Steps
 pub mod Striding
+pub mod Idling
 pub mod Sides
 pub mod Turns
 pub mod NextNumber

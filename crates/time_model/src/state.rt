@@ -506,4 +506,11 @@ impl Stepping for TimeState {
     fn has_stride(&self) -> bool {
         matches!(self.at, At::Ending)
     }
+
+    #[inline(always)]
+    fn pass_idle(&mut self) {
+        if matches!(self.at, At::Ending) && self.telling.owed.is_none() {
+            self.core.pass_idle();
+        }
+    }
 }

@@ -6,6 +6,10 @@ use rollback_cmds::Order;
 /// No run of a timing side makes more strides in one call.
 pub const STRIDES: u32 = 64;
 
+/// From so few strides left on, none of the ones before told an order, and a run looks for cycles
+/// in which nothing happens.
+const PATIENT: u32 = STRIDES - 3;
+
 /// A timing side that makes its turns one by one, each behind what the last one still has to tell.
 /// A step and a run are the same of every such side.
 pub trait Stepping: Drop {
@@ -64,6 +68,13 @@ pub trait Stepping: Drop {
     /// Whether a stride begins with the turn that comes next. A run is right whatever this says.
     fn has_stride(&self) -> bool;
 
+    /// Passes over cycles behind this one in which nothing happens, where it stands at the end of
+    /// one. Which it passes no clause says.
+    fn pass_idle(&mut self)
+        requires standing { stands self.old }
+        ensures silent { IsSilent steps self.old self.new }
+        ensures standing { stands self.new };
+
     /// Makes one step of the demand run, if the entry that it needs is held. The result is what it
     /// did, and None where it was made and told no order.
     final fn step(&mut self) -> Option<Turn>
@@ -112,6 +123,9 @@ pub trait Stepping: Drop {
                     return Turn::Ordered(order);
                 }
                 if self.has_stride() {
+                    if left < PATIENT {
+                        self.pass_idle();
+                    }
                     continue;
                 }
             }

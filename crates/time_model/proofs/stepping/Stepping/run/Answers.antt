@@ -1,5 +1,5 @@
 use Rattle.std.proofs.Common.{◌-◌, true, false, sym, subst, arith}
-use Rattle.time_model.proofs.Running.{HasRun, run_start, run_strides, run_steps, run_ends, run_untold, run_on}
+use Rattle.time_model.proofs.Running.{HasRun, run_start, run_strides, run_steps, run_ends, run_untold, silent_on, run_on}
 use Rattle.time_model.proofs.stepping.Stepping.run.Given as given
 use Rattle.time_model.proofs.stepping.Stepping.run.Goals as goal
 use Rattle.time_model.proofs.stepping.Stepping.run.Goals.{then-left-gt0+in_default+else-has_stride, else-left-gt0, After-step}
@@ -11,8 +11,13 @@ pub returns-in-Some-clause-made : goal.returns-in-Some-clause-made
 returns-in-Some-clause-made g c =
     run_on g.Self.Stepping.steps c.loop-left.invariant.silent c.in-Some.ensures.told
 
-pub loop-left-preserved-then-has_stride : goal.loop-left-preserved-then-has_stride
-loop-left-preserved-then-has_stride g c =
+pub loop-left-preserved-then-left-lt-PATIENT : goal.loop-left-preserved-then-left-lt-PATIENT
+loop-left-preserved-then-left-lt-PATIENT g c =
+    run_strides g.Self.Stepping.steps g.Self.Stepping.stands c.args.strides c.loop-left.left c.args.self.now c.loop-left.self c.pass_idle.new.self (omega (arith, c.if-left-gt0.true)) c.loop-left.invariant
+    (silent_on g.Self.Stepping.steps c.in_default.ensures.untold c.pass_idle.ensures.silent) c.pass_idle.ensures.standing
+
+pub loop-left-preserved-else-left-lt-PATIENT : goal.loop-left-preserved-else-left-lt-PATIENT
+loop-left-preserved-else-left-lt-PATIENT g c =
     run_strides g.Self.Stepping.steps g.Self.Stepping.stands c.args.strides c.loop-left.left c.args.self.now c.loop-left.self c.stride.new.self (omega (arith, c.if-left-gt0.true)) c.loop-left.invariant
     c.in_default.ensures.untold c.in_default.ensures.standing
 
