@@ -519,4 +519,8 @@ impl Stepping for InorderState {
     fn has_stride(&self) -> bool {
         self.ends_cycle()
     }
+
+    // It passes over none: nothing here looks for them.
+    #[inline(always)]
+    fn pass_idle(&mut self) {}
 }
