@@ -68,8 +68,8 @@ impl TimeSide {
     }
 
     /// Makes steps of the demand run, up to the first that tells an order, needs an entry that
-    /// isn't held, or finds the run over; and at most 64 strides, with one step behind each at
-    /// most. The result is what the last step did.
+    /// isn't held, or finds the run over; and at most 64 strides, behind each of them one step at
+    /// most, or cycles in which nothing happens. The result is what the last step did.
     #[inline(always)]
     pub fn run(&mut self) -> Turn
         ensures made { IsRun Steps self.old self.new result }

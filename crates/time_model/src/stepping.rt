@@ -106,8 +106,9 @@ pub trait Stepping: Drop {
     }
 
     /// Makes steps of the demand run, up to the first that isn't made or tells an order: at most so
-    /// many strides, with at most one step behind each. Of no strides it makes one step. It goes
-    /// inline where a run is played: an order ends it, and most cycles tell one.
+    /// many strides, behind each of them at most one step, or cycles in which nothing happens. Of
+    /// no strides it makes one step. It goes inline where a run is played: an order ends it, and
+    /// most cycles tell one.
     #[inline(always)]
     final fn run(&mut self, strides: u32) -> Turn
         requires standing { stands self.old }

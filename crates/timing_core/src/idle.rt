@@ -31,7 +31,7 @@ impl TimingCore {
             → cycle ≤ self.new.cycle
             → CoreStandsFor s t (record self.old { cycle = cycle }) → IsIdle s t }
     {
-        if self.is_held_up() {
+        if self.is_stalled() {
             self.cycle = self.last_idle();
         }
     }
@@ -39,7 +39,7 @@ impl TimingCore {
     /// Whether the oldest slot executes for some cycles more, or there is none and fetch waits for
     /// some more.
     #[inline(always)]
-    fn is_held_up(&self) -> bool
+    fn is_stalled(&self) -> bool
         ensures held { result ≡ true → is_held_up self.now.flight.slots ≡ true }
     {
         let soon = self.cycle.saturating_add(2);
