@@ -507,7 +507,8 @@ impl Stepping for TimeState {
         matches!(self.at, At::Ending)
     }
 
-    #[inline(always)]
+    // It stays a call: inline a run would be so large that the kit's compiler leaves it a call.
+    #[inline(never)]
     fn pass_idle(&mut self) {
         if matches!(self.at, At::Ending) && self.telling.owed.is_none() {
             self.core.pass_idle();
