@@ -19,7 +19,7 @@ at_sizes it p back sets Q keeps f =
     let K : CacheParams → Type 0 = λ q. CacheStandsFor it q back sets in subst Q keeps.sizes (f (subst K (sym keeps.sizes) keeps))
 
 -- the line of an access is the first of its set then
-first_after : (ways number : ℕ) (writes : Bool) (set : List Line) → 0 < ways → IsFirst (take ways (fronted number writes set)) number
+pub first_after : (ways number : ℕ) (writes : Bool) (set : List Line) → 0 < ways → IsFirst (take ways (fronted number writes set)) number
 first_after zero number writes set some = absurd (omega arith)
 first_after (suc ways) number writes set some = refl
 
@@ -35,7 +35,7 @@ hit_here old new back sets way held writes keeps put within here there =
     (IsUpdate-put old new set way (line_of held.number (writes || held.dirty)) put here within) (keeps.lists set within) there)
     (first_after old.params.ways held.number writes (sets set) (omega (arith, here)))
 
-touch_hit : (p : CacheParams) (number : ℕ) (writes : Bool) (sets : ℕ → List Line) → holds number (sets (number % p.sets)) ≡ true →
+pub touch_hit : (p : CacheParams) (number : ℕ) (writes : Bool) (sets : ℕ → List Line) → holds number (sets (number % p.sets)) ≡ true →
     (touched_line p number writes sets).touch ≡ touch.Hit
 touch_hit p number writes sets h = rw h refl
 
@@ -159,7 +159,7 @@ nothing_touched : (p : CacheParams) (back : Bool) (sets : ℕ → List Line) (ad
 unfolding touched
 nothing_touched p back sets addr write none = grind (arith, none)
 
-line_touched : (p : CacheParams) (back : Bool) (sets : ℕ → List Line) (addr : ℕ) (write : Bool) → p.ways ≢ 0 →
+pub line_touched : (p : CacheParams) (back : Bool) (sets : ℕ → List Line) (addr : ℕ) (write : Bool) → p.ways ≢ 0 →
     touched p back sets addr write ≡ touched_line p (addr / p.line) (back && write) sets
 unfolding touched
 line_touched p back sets addr write some = grind (arith, some)

@@ -66,7 +66,7 @@ IsSet-same p line line' age age' set old lines ages = record {
 pub put_at-same : (set i : ℕ) (lines : List Line) (sets : ℕ → List Line) → i ≡ set → put_at set lines sets i ≡ lines
 put_at-same set i lines sets e = grind (arith, e)
 
-put_at-other : (set i : ℕ) (lines : List Line) (sets : ℕ → List Line) → i ≢ set → put_at set lines sets i ≡ sets i
+pub put_at-other : (set i : ℕ) (lines : List Line) (sets : ℕ → List Line) → i ≢ set → put_at set lines sets i ≡ sets i
 put_at-other set i lines sets e = grind (arith, e)
 
 -- the set that was used stands for its new list, and each other one for its old list

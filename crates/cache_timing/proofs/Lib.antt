@@ -5,6 +5,7 @@ pub mod Places
 pub mod Sets
 pub mod Touches
 pub mod Powers
+pub mod SameLine
 pub mod Start
 pub mod Kept
 pub mod Latest

@@ -36,7 +36,7 @@ length_after : (ways number : ℕ) (writes : Bool) (set : List Line) → length 
 length_after ways number writes set = omega (arith, length-take ways (fronted number writes set))
 
 -- a hit brings the line to the front
-fronted-hit : (set : List Line) (place : ℕ) (line : Line) (writes : Bool) → Distinct set → slice_get set place ≡ Some line →
+pub fronted-hit : (set : List Line) (place : ℕ) (line : Line) (writes : Bool) → Distinct set → slice_get set place ≡ Some line →
     fronted line.number writes set ≡ line_of line.number (writes || line.dirty) ∷ remove set place
 fronted-hit set place line writes d at =
     ap (λ dirty. line_of line.number (writes || dirty) ∷ without line.number set) (holds_dirty-at set place line d at)
@@ -54,7 +54,7 @@ fronted-miss number set writes a =
     ∙ ap (λ lines. line_of number writes ∷ lines) (without-absent number set a)
 
 -- what was in the list fits it with the line in front
-hit_fits : (ways : ℕ) (set : List Line) (place : ℕ) (line front : Line) → length set ≤ ways → slice_get set place ≡ Some line →
+pub hit_fits : (ways : ℕ) (set : List Line) (place : ℕ) (line front : Line) → length set ≤ ways → slice_get set place ≡ Some line →
     take ways (front ∷ remove set place) ≡ front ∷ remove set place
 hit_fits ways set place line front within at =
     let inside : place < length set = slice_get_within set place line at in

@@ -3,6 +3,7 @@ ghost use Rattle.cache_timing.specs.Params.{IsInRange};
 ghost use Rattle.cache_timing.specs.declared.ages.TheConstants.{START};
 
 use crate::ages::{START, after_use, oldest};
+use crate::last_line::LastLine;
 use crate::number::{exponent, place_in};
 use crate::params::CacheParams;
 use fsim_base::NoMemory;
@@ -283,6 +284,15 @@ impl Cache {
             CacheStandsFor self.now p back (touched p back sets addr false).sets }
     {
         self.is_latest_line(addr >> self.line_bits)
+    }
+
+    /// The line that an address lies in.
+    #[inline(always)]
+    pub(crate) fn line_around(&self, addr: u32) -> LastLine
+        ensures addr { result.addr ≡ addr }
+        ensures length { result.length ≡ self.now.params.line }
+    {
+        LastLine::around(addr, self.params.line)
     }
 
     /// An access to an address. `Touch::None` comes exactly where the cache has no ways. An access

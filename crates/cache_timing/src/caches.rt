@@ -1,5 +1,6 @@
 use crate::cache::{Cache, Touch};
 use crate::counts::CacheCounts;
+use crate::last_line::LastLine;
 use crate::params::AllCaches;
 use fsim_base::NoMemory;
 use std::alloc::Global;
@@ -12,10 +13,12 @@ pub struct Caches {
     dcache: Cache,
     l2: Cache,
     counts: CacheCounts,
+    /// The line of the last fetch: most fetches are of it again.
+    fetched: LastLine,
 }
 
 impl Caches {
-    ghost use Rattle.std.specs.Prelude.{◌≡◌, ℕ, false, IfOk};
+    ghost use Rattle.std.specs.Prelude.{◌≡◌, ◌≢◌, ℕ, false, IfOk};
     ghost use Rattle.cache_timing.specs.Params.{AreInRange};
     ghost use Rattle.cache_timing.specs.Caches.{CachesState, cold, icache_touched, dcache_touched};
     ghost use Rattle.cache_timing.specs.Caches.{l2_touched, missed, drained, followed, fetched};
@@ -34,6 +37,7 @@ impl Caches {
             dcache: Cache::new(alloc, p.dcache, p.back)?,
             l2: Cache::new(alloc, p.l2, false)?,
             counts: CacheCounts::new(),
+            fetched: LastLine::none(),
         })
     }
 
@@ -45,8 +49,9 @@ impl Caches {
         self.counts
     }
 
-    /// An access to the instruction cache alone.
+    /// An access to the instruction cache alone, where there is one.
     fn touch_icache(&mut self, addr: u32) -> Touch
+        requires some_way { self.old.icache.params.ways ≢ 0 }
         ensures touch { (p : AllCaches) (s : CachesState) → CachesStandFor self.old p s →
             result ≡ (touched p.icache false s.icache addr false).touch }
         ensures state { (p : AllCaches) (s : CachesState) → CachesStandFor self.old p s →
@@ -54,6 +59,7 @@ impl Caches {
             (icache_touched s (touched p.icache false s.icache addr false)) }
     {
         let touch = self.icache.access(addr, false);
+        self.fetched = self.icache.line_around(addr);
         self.counts.count_icache(touch);
         touch
     }
@@ -127,8 +133,7 @@ impl Caches {
     }
 
     /// The fetch of an instruction. The result is the cycles that it adds. It goes inline: most
-    /// fetches are of the line used last in their set, and a machine without the cache makes no
-    /// call.
+    /// fetches are of the line fetched last, and a machine without the cache makes no call.
     #[inline(always)]
     #[tactic(auto, unfolding(crate::specs::Caches::fetched))]
     pub fn fetch(&mut self, addr: u32) -> u32
@@ -137,20 +142,40 @@ impl Caches {
         ensures state { (p : AllCaches) (s : CachesState) → CachesStandFor self.old p s →
             CachesStandFor self.new p (fetched p s addr).state }
     {
-        if self.icache.is_latest(addr) {
-            self.counts.count_icache(Touch::Hit);
+        if self.fetched.holds(addr) {
+            self.counts.count_icache_hit();
             return 0;
         }
         if self.icache.is_absent() {
             return 0;
         }
+        self.fetch_elsewhere(addr)
+    }
+
+    /// The same, of another line than the last, which may be the one used last in its set. It stays
+    /// a call: few fetches come to it.
+    #[inline(never)]
+    #[tactic(auto, unfolding(crate::specs::Caches::fetched))]
+    fn fetch_elsewhere(&mut self, addr: u32) -> u32
+        requires some_way { self.old.icache.params.ways ≢ 0 }
+        ensures cycles { (p : AllCaches) (s : CachesState) → CachesStandFor self.old p s →
+            result ≡ (fetched p s addr).cycles }
+        ensures state { (p : AllCaches) (s : CachesState) → CachesStandFor self.old p s →
+            CachesStandFor self.new p (fetched p s addr).state }
+    {
+        if self.icache.is_latest(addr) {
+            self.fetched = self.icache.line_around(addr);
+            self.counts.count_icache_hit();
+            return 0;
+        }
         self.fetch_by_search(addr)
     }
 
-    /// The same, with the search through a set. It stays a call: few fetches come to it.
+    /// The same, with the search through a set.
     #[inline(never)]
     #[tactic(auto, unfolding(crate::specs::Caches::fetched))]
     fn fetch_by_search(&mut self, addr: u32) -> u32
+        requires some_way { self.old.icache.params.ways ≢ 0 }
         ensures cycles { (p : AllCaches) (s : CachesState) → CachesStandFor self.old p s →
             result ≡ (fetched p s addr).cycles }
         ensures state { (p : AllCaches) (s : CachesState) → CachesStandFor self.old p s →
@@ -170,7 +195,7 @@ impl Caches {
             CachesStandFor self.new p (loaded p s addr).state }
     {
         if self.dcache.is_latest(addr) {
-            self.counts.count_dcache(Touch::Hit);
+            self.counts.count_dcache_hit();
             return 0;
         }
         if self.dcache.is_absent() {

@@ -1,3 +1,6 @@
+ghost use Rattle.std.specs.Prelude.{◌≡◌, ◌-◌, ◌^◌};
+ghost use Rattle.cache_timing.specs.Caches.{risen};
+
 use crate::cache::Touch;
 
 /// What the caches of a machine counted. A count stands still at its largest value.
@@ -19,8 +22,27 @@ pub struct CacheCounts {
     pub writebacks: u64,
 }
 
+/// Lets a count stand at its largest value.
+#[inline(never)]
+fn stand_still(count: &mut u64)
+    ensures { count.new ≡ 2 ^ 64 - 1 }
+{
+    *count = u64::MAX;
+}
+
+/// Counts one more. The rare end is a call, so that what is left is an addition to memory and a
+/// jump that isn't taken.
+#[inline(always)]
+fn rise(count: &mut u64)
+    ensures { count.new ≡ risen count.old }
+{
+    *count = count.wrapping_add(1);
+    if *count == 0 {
+        stand_still(count);
+    }
+}
+
 impl CacheCounts {
-    ghost use Rattle.std.specs.Prelude.{◌≡◌};
     ghost use Rattle.cache_timing.specs.Caches.{cold, accesses_after, misses_after, icache_counted};
     ghost use Rattle.cache_timing.specs.Caches.{dcache_counted, l2_counted, writeback_counted};
 
@@ -57,6 +79,22 @@ impl CacheCounts {
             Touch::None | Touch::Hit => count,
             Touch::Miss { .. } => count.saturating_add(1),
         }
+    }
+
+    /// Counts a hit of the instruction cache.
+    #[inline(always)]
+    pub(crate) fn count_icache_hit(&mut self)
+        ensures { self.new ≡ icache_counted Touch.Hit self.old }
+    {
+        rise(&mut self.icache_accesses);
+    }
+
+    /// Counts a hit of the data cache.
+    #[inline(always)]
+    pub(crate) fn count_dcache_hit(&mut self)
+        ensures { self.new ≡ dcache_counted Touch.Hit self.old }
+    {
+        rise(&mut self.dcache_accesses);
     }
 
     /// Counts an access to the instruction cache.

@@ -5,6 +5,7 @@ mod ages;
 mod cache;
 mod caches;
 mod counts;
+mod last_line;
 mod number;
 mod params;
 #[cfg(test)]

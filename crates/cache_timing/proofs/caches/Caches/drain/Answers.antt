@@ -14,4 +14,5 @@ returns-in-Some c = λ p s k.
       dcache = k.dcache;
       l2 = k.l2;
       counts = c.count_writeback.ensures ∙ ap writeback_counted k.counts;
+      fetched = k.fetched;
     }))

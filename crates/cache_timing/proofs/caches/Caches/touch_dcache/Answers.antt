@@ -11,4 +11,5 @@ returns-clause-state c = λ p s k. record {
   counts =
       c.count_dcache.ensures ∙ ap (dcache_counted c.access-touch.result) k.counts
       ∙ ap (λ touch. dcache_counted touch s.counts) (c.access-touch.ensures.touch p.dcache p.back s.dcache k.dcache);
+  fetched = k.fetched;
 }

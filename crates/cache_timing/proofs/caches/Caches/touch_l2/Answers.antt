@@ -11,4 +11,5 @@ returns-clause-state c = λ p s k. record {
   counts =
       c.count_l2.ensures ∙ ap (l2_counted c.access-touch.result) k.counts
       ∙ ap (λ touch. l2_counted touch s.counts) (c.access-touch.ensures.touch p.l2 false s.l2 k.l2);
+  fetched = k.fetched;
 }
