@@ -1,5 +1,5 @@
 -- The number of the history is kept by a shift, a sum and a remainder.
-use Rattle.std.proofs.Common.{◌≡◌, ℕ, zero, suc, ◌+◌, ◌*◌, ◌%◌, ◌^◌, ◌/◌, ◌<◌, ◌≤◌, arith, lit<, ap, sym, ◌∙◌, add-one, Bool, List, [], ◌∷◌, if◌then◌else◌}
+use Rattle.std.proofs.Common.{◌≡◌, ℕ, zero, suc, ◌+◌, ◌*◌, ◌%◌, ◌^◌, ◌/◌, ◌<◌, ◌≤◌, arith, lit<, refl, ap, sym, ◌∙◌, add-one, Bool, List, [], ◌∷◌, if◌then◌else◌}
 use Rattle.std.proofs.Math.Nat.{pow-le-pow_right}
 use Rattle.std.proofs.lemmas.Nat.{pow_pos, mod-pow-add, one_shl}
 use Rattle.branch_predictor.specs.Predictor.{history_number}
@@ -23,6 +23,11 @@ history_number-mod (suc bits) [] = omega (arith, pow_pos (suc bits))
 history_number-mod (suc bits) (taken ∷ older) =
     bit_below taken (history_number (suc bits) older) bits ∙ ap (λ n. bit taken + 2 * n) (history_number-mod bits older)
 
+-- no outcome
+pub history_number-none : (bits : ℕ) → history_number bits [] ≡ 0
+history_number-none zero = refl
+history_number-none (suc bits) = refl
+
 -- one more outcome
 pub history_number-next : (bits : ℕ) (taken : Bool) (older : List Bool) → history_number bits (taken ∷ older) ≡ (history_number bits older * 2 + bit taken) % 2 ^ bits
 history_number-next zero taken older = omega arith
@@ -33,6 +38,3 @@ history_number-next (suc bits) taken older =
 -- a history has at most 16 bits
 pub power_within : (bits : ℕ) → bits ≤ 16 → (2 ^ bits ≤ 65536) × (0 < 2 ^ bits) × (1 * 2 ^ bits % 4294967296 ≡ 2 ^ bits)
 power_within bits few = (pow-le-pow_right (lit< tt) few, pow_pos bits, one_shl bits 32 (omega arith))
-
-pub remainder_within : (n bits : ℕ) → bits ≤ 16 → n % 2 ^ bits < 65536
-remainder_within n bits few = let p = power_within bits few in omega (arith, p.0, p.1)

@@ -1,1 +1,3 @@
 pub mod History
+pub mod Kept
+pub mod Masks

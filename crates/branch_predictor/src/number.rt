@@ -1,26 +1,31 @@
-ghost use Rattle.std.specs.Prelude.{◌≡◌, ◌+◌, ◌*◌, ◌%◌, ◌^◌, ◌<◌, ◌≤◌, IsTrue, if◌then◌else◌};
+ghost use Rattle.std.specs.Prelude.{◌≡◌, ℕ, ◌+◌, ◌*◌, ◌%◌, ◌^◌, ◌<◌, ◌≤◌, IsTrue};
+ghost use Rattle.std.specs.Prelude.{if◌then◌else◌};
 ghost use Rattle.std.specs.Int.{is_power_of_two};
-ghost use Rattle.branch_predictor.specs.Predictor.{moved as moved_by, selector as selector_by};
+ghost use Rattle.branch_predictor.specs.Predictor.{moved as moved_by};
+ghost use Rattle.branch_predictor.specs.PredictorStandsFor.{bits_kept};
 
 use crate::params::PredKind;
 
-/// The place of a number in a table of so many entries.
-#[tactic(auto, using(fsim_base::proofs::Powers::and_power, fsim_base::proofs::Powers::power_positive))]
-pub fn place_in(entries: u32, number: u32) -> usize
-    requires power { IsTrue (is_power_of_two entries) }
-    ensures remainder { result ≡ number % entries }
-    ensures within { result < entries }
+/// The place of a number in a table of a power of two of entries, one more than the mask.
+#[tactic(auto, using(crate::proofs::Masks::and_mask, crate::proofs::Masks::and_within))]
+pub fn place_in(mask: u32, number: u32) -> usize
+    requires power { IsTrue (is_power_of_two (mask + 1)) }
+    ensures remainder { result ≡ number % (mask + 1) }
+    ensures within { result ≤ mask }
 {
-    (number & (entries - 1)) as usize
+    (number & mask) as usize
 }
 
-/// What selects the counter of the instruction of this number, by the history of outcomes.
-pub fn selector(kind: PredKind, number: u32, history: u32) -> u32
-    ensures { result ≡ selector_by kind number history }
+/// The mask of the outcomes that select counters together with an address.
+#[tactic(auto, using(crate::proofs::History::power_within))]
+pub fn history_mask(kind: PredKind, bits: u32) -> u32
+    requires few { bits ≤ 16 }
+    ensures power { result + 1 ≡ 2 ^ bits_kept kind bits }
+    ensures limit { result < 65536 }
 {
     match kind {
-        PredKind::Static | PredKind::Bimodal => number,
-        PredKind::Gshare => number ^ history,
+        PredKind::Static | PredKind::Bimodal => 0,
+        PredKind::Gshare => (1 << bits) - 1,
     }
 }
 
@@ -29,19 +34,20 @@ pub fn moved(taken: bool, counter: u8) -> u8
     ensures { result ≡ moved_by taken counter }
 {
     if taken {
-        counter.saturating_add(1).min(3)
+        counter.min(2) + 1
     } else {
         counter.saturating_sub(1)
     }
 }
 
-/// A history of so many bits after one more outcome.
-#[tactic(auto, using(crate::proofs::History::power_within, crate::proofs::History::remainder_within))]
-pub fn longer(history: u32, bits: u32, taken: bool) -> u32
-    requires few { bits ≤ 16 }
-    requires kept { history < 65536 }
-    ensures newest { result ≡ (history * 2 + (if taken then 1 else 0)) % 2 ^ bits }
-    ensures within { result < 65536 }
+/// A history of the outcomes that a mask leaves, after one more outcome.
+#[tactic(auto, using(crate::proofs::Masks::and_power_mask, crate::proofs::Masks::and_within))]
+pub fn longer(history: u32, mask: u32, taken: bool) -> u32
+    requires limit { mask < 65536 }
+    requires kept { history ≤ mask }
+    ensures newest { (bits : ℕ) → mask + 1 ≡ 2 ^ bits →
+        result ≡ (history * 2 + (if taken then 1 else 0)) % 2 ^ bits }
+    ensures within { result ≤ mask }
 {
-    (history * 2 + u32::from(taken)) % (1 << bits)
+    (history * 2 + u32::from(taken)) & mask
 }

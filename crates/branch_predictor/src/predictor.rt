@@ -1,31 +1,54 @@
-ghost use Rattle.std.specs.Prelude.{◌≡◌, ◌<◌, vec_len};
+ghost use Rattle.std.specs.Prelude.{◌≡◌, ◌+◌, ◌<◌, ◌≤◌, vec_len, IsTrue};
+ghost use Rattle.std.specs.Int.{is_power_of_two};
 ghost use Rattle.branch_predictor.specs.Params.{IsInRange};
 
-use crate::number::{longer, moved, place_in, selector};
+use crate::number::{history_mask, longer, moved, place_in};
 use crate::params::{PredKind, PredParams, Target};
 use fsim_base::{Flow, NoMemory, wrap_add};
 use std::alloc::Global;
 
-/// A branch predictor: what fetch takes for the next address.
+/// Where the instruction goes that a place of the target buffer knows of.
+#[derive(Clone, Copy, Debug)]
+struct Way {
+    /// `Flow::Branch` where a counter tells whether it goes there.
+    flow: Flow,
+    /// For `Flow::Plain` the address behind it.
+    next: u32,
+}
+
+/// A branch predictor: what fetch takes for the next address. A mask is one less than the power of
+/// two that it takes the remainder by.
 #[derive(Debug, Drop)]
 pub struct Predictor {
     params: PredParams,
+    /// Those of a static predictor stay as they were made, and predict no branch taken.
     counters: Vec<u8>,
-    targets: Vec<Option<Target>>,
-    /// The latest outcomes, the newest in bit 0, 1 for taken.
+    counter_mask: u32,
+    /// The address of the instruction that each place knows of. One that knows nothing knows that
+    /// a plain instruction is at 0; without a target buffer there is one place, which stays so.
+    addrs: Vec<u32>,
+    /// Apart from their addresses, which most predictions read alone.
+    ways: Vec<Way>,
+    place_mask: u32,
+    /// The latest outcomes, the newest in bit 0, 1 for taken; 0 where they select no counter.
     history: u32,
-    ghost in_range: { IsInRange params },
-    ghost every_counter: { vec_len counters ≡ params.counters },
-    ghost every_target: { vec_len targets ≡ params.targets },
-    ghost history_limit: { history < 65536 },
+    history_mask: u32,
+    ghost every_counter: { vec_len counters ≡ counter_mask + 1 },
+    ghost every_addr: { vec_len addrs ≡ place_mask + 1 },
+    ghost every_way: { vec_len ways ≡ place_mask + 1 },
+    ghost counters_power: { IsTrue (is_power_of_two (counter_mask + 1)) },
+    ghost places_power: { IsTrue (is_power_of_two (place_mask + 1)) },
+    ghost history_limit: { history ≤ history_mask },
+    ghost history_mask_limit: { history_mask < 65536 },
 }
 
 impl Predictor {
-    ghost use Rattle.std.specs.Prelude.{ℕ, IfOk};
+    ghost use Rattle.std.specs.Prelude.{ℕ, ◌≢◌, IfOk};
     ghost use Rattle.branch_predictor.specs.Predictor.{Predicting, untrained, counter_index};
-    ghost use Rattle.branch_predictor.specs.Predictor.{is_taken, target_of, predicted, counted};
+    ghost use Rattle.branch_predictor.specs.Predictor.{is_taken, predicted, counted};
     ghost use Rattle.branch_predictor.specs.Predictor.{placed, trained};
     ghost use Rattle.branch_predictor.specs.PredictorStandsFor.{PredictorStandsFor};
+    ghost use Rattle.fsim_base.specs.declared.instruction.Flow.TheVariants.{Plain};
 
     /// A predictor of these sizes that has learnt nothing. It takes its memory here and none later.
     pub fn new(alloc: Global, p: PredParams) -> Result<Predictor, NoMemory>
@@ -35,14 +58,26 @@ impl Predictor {
         let Ok(counters) = vec![in alloc; 1u8; p.counters as usize] else {
             return Err(NoMemory);
         };
-        let Ok(targets) = vec![in alloc; None; p.targets as usize] else {
+        let places = p.targets.max(1);
+        let Ok(addrs) = vec![in alloc; 0u32; places as usize] else {
+            return Err(NoMemory);
+        };
+        let nothing = Way {
+            flow: Flow::Plain,
+            next: 4,
+        };
+        let Ok(ways) = vec![in alloc; nothing; places as usize] else {
             return Err(NoMemory);
         };
         Ok(Predictor {
             params: p,
             counters,
-            targets,
+            counter_mask: p.counters - 1,
+            addrs,
+            ways,
+            place_mask: places - 1,
             history: 0,
+            history_mask: history_mask(p.kind, p.history),
         })
     }
 
@@ -52,8 +87,7 @@ impl Predictor {
         ensures index { (p : PredParams) (s : Predicting) → PredictorStandsFor self.now p s →
             result ≡ counter_index p s addr }
     {
-        let selector = selector(self.params.kind, addr / 4, self.history);
-        place_in(self.params.counters, selector)
+        place_in(self.counter_mask, (addr / 4) ^ self.history)
     }
 
     /// Whether the branch at an address is predicted taken.
@@ -61,21 +95,7 @@ impl Predictor {
         ensures { (p : PredParams) (s : Predicting) → PredictorStandsFor self.now p s →
             result ≡ is_taken p s addr }
     {
-        self.params.kind != PredKind::Static && self.counters[self.counter_index(addr)] >= 2
-    }
-
-    /// What the target buffer knows of an address.
-    fn target_of(&self, addr: u32) -> Option<Target>
-        ensures { (p : PredParams) (s : Predicting) → PredictorStandsFor self.now p s →
-            result ≡ target_of p s addr }
-    {
-        if self.params.targets == 0 {
-            return None;
-        }
-        match self.targets[place_in(self.params.targets, addr / 4)] {
-            Some(target) if target.addr == addr => Some(target),
-            _ => None,
-        }
+        self.counters[self.counter_index(addr)] >= 2
     }
 
     /// The address that is taken to follow the instruction at an address.
@@ -85,35 +105,43 @@ impl Predictor {
             result ≡ predicted p s addr }
     {
         let behind = wrap_add(addr, 4);
-        match self.target_of(addr) {
-            None => behind,
-            Some(target) => match target.flow {
-                Flow::Plain => behind,
-                Flow::Branch if self.is_taken(addr) => target.next,
-                Flow::Branch => behind,
-                Flow::Jump => target.next,
-            },
+        let place = place_in(self.place_mask, addr / 4);
+        if self.addrs[place] != addr {
+            return behind;
+        }
+        let way = self.ways[place];
+        match way.flow {
+            Flow::Branch if !self.is_taken(addr) => behind,
+            _ => way.next,
         }
     }
 
-    /// Learns the outcome of the branch at an address.
+    /// Learns the outcome of the branch at an address. A static predictor has nothing to learn.
     fn count(&mut self, addr: u32, taken: bool)
         ensures { (p : PredParams) (s : Predicting) → PredictorStandsFor self.old p s →
             PredictorStandsFor self.new p (counted p addr taken s) }
     {
+        if self.params.kind == PredKind::Static {
+            return;
+        }
         let index = self.counter_index(addr);
         self.counters[index] = moved(taken, self.counters[index]);
-        self.history = longer(self.history, self.params.history, taken);
+        self.history = longer(self.history, self.history_mask, taken);
     }
 
     /// Writes a target to its place.
     fn place(&mut self, target: Target)
+        requires goes { target.flow ≢ Plain }
         ensures { (p : PredParams) (s : Predicting) → PredictorStandsFor self.old p s →
             PredictorStandsFor self.new p (placed p target s) }
     {
         if self.params.targets != 0 {
-            let index = place_in(self.params.targets, target.addr / 4);
-            self.targets[index] = Some(target);
+            let index = place_in(self.place_mask, target.addr / 4);
+            self.addrs[index] = target.addr;
+            self.ways[index] = Way {
+                flow: target.flow,
+                next: target.next,
+            };
         }
     }
 
