@@ -33,7 +33,8 @@ use Rattle.inorder_model.specs.LaneStandsFor.{LaneStandsFor}
 use Rattle.inorder_model.specs.Standing.{IsInorder, InorderStandsFor, IsStanding, wants_in, IsMade, IsStep}
 use Rattle.inorder_model.specs.Running.{Steps}
 use Rattle.inorder_model.specs.Turning.{IsTurned, IsTold, over_in, turned_by}
-use Rattle.inorder_model.proofs.Owing.{stands_owed, stands_wants, stands_over}
+use Rattle.inorder_model.specs.OwingLaws.{stands_owed, stands_wants}
+use Rattle.inorder_model.proofs.Owing.{stands_over}
 use Rattle.inorder_model.proofs.Steps.{none_appended, due_lane, told_side, step_made}
 
 -- the start of a run

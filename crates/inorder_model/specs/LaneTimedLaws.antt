@@ -20,6 +20,7 @@ use Rattle.lane_laws.proofs.Arriving.{comes_to_lane_boundary}
 use Rattle.split_core.specs.Along.{At, start_at, stepped_to, event_on, played_on, IsReachedOn, round_on, rounds_on}
 use Rattle.split_core.specs.Timed.{IsTimed}
 use Rattle.inorder_model.specs.Standing.{IsInorder}
+use Rattle.inorder_model.specs.OwingLaws.{stands_wants}
 use Rattle.inorder_model.specs.LaneTimed.{lane_timed, lane_at}
 
 -- Along its demand run the split state is that of the in-order machine's split run.
@@ -110,6 +111,7 @@ lane_timed_laws = record {
   sound = λ s sound. sound.sound;
   start = starts;
   epoch = λ s k side h. h.epoch;
+  needs = stands_wants;
   law = law;
   ranged = ranged;
   arrives = arrives;

@@ -6,5 +6,6 @@ pub mod Turning
 pub mod Running
 pub mod Feeding
 pub mod LaneTimed
+pub mod OwingLaws
 pub mod LaneTimedLaws
 pub mod Core

@@ -64,6 +64,7 @@ impl InorderSide {
     #[inline(always)]
     pub fn run(&mut self) -> Turn
         ensures made { IsRun Steps self.old self.new result }
+        ensures waiting { result ≡ Turn.Want → wants_in self.new ≡ true }
     {
         self.state.run(STRIDES)
     }
@@ -106,6 +107,7 @@ impl InorderSide {
         requires wants { wants_in self.old ≡ true }
         requires right { IsRight entry.now self.old }
         ensures fed { IsFed entry.now self.old self.new result }
+        ensures waiting { result ≡ Turn.Want → wants_in self.new ≡ true }
     {
         if entry.epoch == self.state.telling.epoch {
             self.state.feed(entry)

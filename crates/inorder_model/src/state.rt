@@ -1,4 +1,4 @@
-ghost use Rattle.std.specs.Prelude.{◌≡◌, ◌&&◌, ℕ, true, false, Some, None, IfOk};
+ghost use Rattle.std.specs.Prelude.{◌≡◌, ◌≢◌, ◌&&◌, ℕ, true, false, Some, None, IfOk};
 ghost use Rattle.std.specs.Prelude.{is_none, IfSome, IfNone};
 
 use crate::at::At;
@@ -430,6 +430,7 @@ impl InorderState {
         requires wants { wants_in self.old ≡ true }
         requires standing { IsStanding (holding entry.now self.old) }
         ensures made { IsRun Steps (holding entry.now self.old) self.new result }
+        ensures gone { result ≢ Turn.Want }
         ensures standing { IsStanding self.new }
     {
         let orders = self.attempt_at_once(entry);

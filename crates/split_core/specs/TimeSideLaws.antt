@@ -17,6 +17,7 @@ use Rattle.machine_laws.proofs.SplitReached.{reached_run}
 use Rattle.machine_laws.proofs.SplitRanges.{run_ranged}
 use Rattle.machine_laws.proofs.SplitArriving.{comes_to_boundary}
 use Rattle.machine_laws.proofs.Stopping.{stop_told}
+use Rattle.time_model.proofs.Owing.{stands_wants}
 use Rattle.split_core.specs.Along.{At, start_at, stepped_to, event_on, played_on, IsReachedOn, round_on, rounds_on}
 use Rattle.split_core.specs.AlongLaws.{Sees, event_sees, played_sees, start_sees}
 use Rattle.split_core.specs.Timed.{IsTimed}
@@ -126,6 +127,7 @@ mono_laws = record {
   sound = λ s sound. sound;
   start = place_starts;
   epoch = λ s k side h. h.epoch;
+  needs = stands_wants;
   law = λ s x sound reached. reached_run s x.split (mono_reached s x reached);
   ranged = ranged;
   arrives = arrives;

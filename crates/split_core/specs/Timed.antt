@@ -71,6 +71,8 @@ pub record IsTimed {T : Type 0} (timed : Timed T) : Type 0 where
   pub sound : (s : Setup) → timed.allows s → is_setup s ≡ true
   pub start : (s : Setup) → (timed.run s).places 0 ≡ place_start s
   pub epoch : (s : Setup) (k : ℕ) (side : T) → timed.stands s k side → timed.epoch side ≡ openings (told ((timed.run s).places k))
+  -- it wants an entry where its place needs one and none is held
+  pub needs : (s : Setup) (k : ℕ) (side : T) → timed.stands s k side → timed.wants side ≡ (needs_entry ((timed.run s).places k) && is_none (timed.held side))
   -- the law of the split state
   pub law : (s : Setup) (x : At) → timed.allows s → IsReachedOn s (timed.run s) x → IsRunIn s (timed.run s) x.split
   pub ranged : (s : Setup) (x : At) → timed.allows s → IsReachedOn s (timed.run s) x → IsRanged x.split

@@ -96,19 +96,15 @@ impl<D: Device, T: Timing> SplitState<D, T> {
 
     /// Hands the timing side one entry after the other as it is computed, each written over the one
     /// before it, as long as it wants the next one: as where they go through the list of entries,
-    /// with none before them. An order that the steps with an entry tell is obeyed at once. Behind
-    /// a turn that wants an entry neither of the two tests fails: they are there for the conditions
-    /// of the calls.
+    /// with none before them. An order that the steps with an entry tell is obeyed at once.
     fn hand_over_wanted(&mut self, entry: &mut Entry)
         requires standing { IsStandingOn T.timed self.old }
         requires clear { IsClear self.old }
+        requires wants { T.timed.wants self.old.time ≡ true }
         ensures plays { Plays T.timed self.old self.new }
         ensures clear { IsClear self.new }
     {
         for _ in 0..self.steps {
-            if !self.time.wants() {
-                return;
-            }
             if !self.func.produce_into(entry) {
                 return;
             }

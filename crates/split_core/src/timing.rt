@@ -44,7 +44,8 @@ pub trait Timing: Drop {
     /// Makes steps up to one that tells an order, needs an entry that isn't held or finds the run
     /// over; or fewer. The result is what the last one did.
     fn run(&mut self) -> Turn
-        ensures made { IsRun (StepsOn timed) self.old self.new result };
+        ensures made { IsRun (StepsOn timed) self.old self.new result }
+        ensures waiting { result ≡ Turn.Want → timed.wants self.new ≡ true };
 
     /// Whether the next step needs the entry of the instruction to fetch next, and none is held.
     fn wants(&self) -> bool
@@ -70,7 +71,8 @@ pub trait Timing: Drop {
     fn feed(&mut self, entry: &Entry) -> Turn
         requires wants { timed.wants self.old ≡ true }
         requires right { IsRightOn timed entry.now self.old }
-        ensures fed { IsFedOn timed entry.now self.old self.new result };
+        ensures fed { IsFedOn timed entry.now self.old self.new result }
+        ensures waiting { result ≡ Turn.Want → timed.wants self.new ≡ true };
 
     /// How the run stands or ended.
     fn end(&self) -> End

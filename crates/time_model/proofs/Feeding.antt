@@ -57,6 +57,12 @@ wanting side wants =
     let rest = and_parts (is_none side.telling.owed) (is_try (at_in side.at)) parts.0 in
     record { try = rest.1; told = empty side.telling.owed rest.0; none = empty side.telling.held parts.1 }
 
+pub wants_by : (side : TimeState) → side.telling.owed ≡ None → is_try (at_in side.at) ≡ true → side.telling.held ≡ None → wants_in side ≡ true
+unfolding wants_in
+wants_by side told try none =
+    ap (λ (o : Option Order). is_none o && is_try (at_in side.at) && is_none side.telling.held) told
+    ∙ ap (λ (b : Bool). b && is_none side.telling.held) try ∙ ap (λ (o : Option Entry). is_none o) none
+
 -- with the entry held it wants none
 and_none : (b : Bool) → (b && false) ≡ false
 and_none true = refl

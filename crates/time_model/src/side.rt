@@ -73,6 +73,7 @@ impl TimeSide {
     #[inline(always)]
     pub fn run(&mut self) -> Turn
         ensures made { IsRun Steps self.old self.new result }
+        ensures waiting { result ≡ Turn.Want → wants_in self.new ≡ true }
     {
         self.state.run(STRIDES)
     }
@@ -113,6 +114,7 @@ impl TimeSide {
         requires wants { wants_in self.old ≡ true }
         requires right { IsRight entry.now self.old }
         ensures fed { IsFed entry.now self.old self.new result }
+        ensures waiting { result ≡ Turn.Want → wants_in self.new ≡ true }
     {
         if entry.epoch == self.state.telling.epoch {
             self.state.feed(entry)

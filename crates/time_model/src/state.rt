@@ -1,5 +1,5 @@
 ghost use Rattle.std.specs.Prelude.{◌≡◌, ◌&&◌, ℕ, true, false, if◌then◌else◌, Some, None, IfOk};
-ghost use Rattle.std.specs.Prelude.{is_none, IfSome, IfNone};
+ghost use Rattle.std.specs.Prelude.{is_none, unwrap_or, IfSome, IfNone};
 
 use crate::at::At;
 use crate::stepping::Stepping;
@@ -24,7 +24,7 @@ pub struct TimeState {
 }
 
 impl TimeState {
-    ghost use Rattle.std.specs.Prelude.{◌<◌};
+    ghost use Rattle.std.specs.Prelude.{◌<◌, ◌-◌};
     ghost use Rattle.mono_model.specs.declared.setup.Setup.{Setup as RunSetup};
     ghost use Rattle.trace_entry.specs.declared.Entry.{Entry as SpecEntry};
     ghost use Rattle.mono_model.specs.Setup.{is_setup};
@@ -92,6 +92,21 @@ impl TimeState {
         }
     }
 
+    /// Whether the next try comes behind a try.
+    #[inline(always)]
+    fn tries_again(&self, goes_on: bool, allowed: u32) -> bool
+        ensures again { result ≡ true → (s : RunSetup) (t : Timing)
+            → CoreStandsFor s t self.now.core → trying (allowed - 1)
+            ≡ (if goes_on then try_or_end s allowed t else ending) }
+        ensures ends { result ≡ false → (s : RunSetup) (t : Timing)
+            → CoreStandsFor s t self.now.core → ending
+            ≡ (if goes_on then try_or_end s allowed t else ending) }
+        ensures goes { result ≡ true → goes_on ≡ true }
+        ensures some { result ≡ true → 0 < allowed }
+    {
+        goes_on && allowed > 0 && self.core.may_fetch()
+    }
+
     /// What comes behind commit: where the run has ended the other phases are left out.
     fn at_after_commit(&self) -> At
         ensures at { (s : RunSetup) (t : Timing) → CoreStandsFor s t self.now.core
@@ -144,17 +159,22 @@ impl TimeState {
     }
 
     /// Tries to fetch the instruction of an entry that isn't held yet, with so many tries allowed
-    /// behind it. It is held where it wasn't appended. It goes inline where a run is played, on one
-    /// thread and in two: as a call it takes a tenth of a run more.
+    /// behind it. The result is None where it made no order and the next try comes behind it, which
+    /// is told apart first: so most tries test nothing twice. The entry is held where it wasn't
+    /// appended. It goes inline where a run is played, on one thread and in two: as a call it takes
+    /// a tenth of a run more.
     #[inline(always)]
-    fn attempt_at_once(&mut self, entry: &Entry, allowed: u32) -> Orders
+    fn attempt_at_once(&mut self, entry: &Entry, allowed: u32) -> Option<Orders>
         requires none { self.old.telling.held ≡ None }
         requires tries { MayTry (holding entry.now self.old) }
         ensures made { (s : RunSetup) (t : Timing) → CoreStandsFor s t self.old.core → IsSmall t
-            → IsTurned s (timing_turn s entry.now (trying allowed) t) self.new result }
+            → IsTurned s (timing_turn s entry.now (trying allowed) t) self.new
+            (unwrap_or result (record { first = None; second = None })) }
         ensures held { (s : RunSetup) (t : Timing) → CoreStandsFor s t self.old.core → IsSmall t
             → self.new.telling.held
             ≡ held_by (timing_turn s entry.now (trying allowed) t).timing t (Some entry.now) }
+        ensures again { IfNone result (is_try (at_in self.new.at) ≡ true) }
+        ensures free { IfNone result (self.new.telling.held ≡ None) }
         ensures others { self.new
             ≡ record self.old {
               core = self.new.core;
@@ -163,11 +183,19 @@ impl TimeState {
             } }
     {
         let tried = self.core.fetch(entry);
-        self.at = self.at_after_try(tried.goes_on, allowed);
+        if tried.orders.first.is_none() {
+            if self.tries_again(tried.goes_on, allowed) {
+                self.at = At::Trying(allowed - 1);
+                return None;
+            }
+            self.at = At::Ending;
+        } else {
+            self.at = self.at_after_try(tried.goes_on, allowed);
+        }
         if !tried.appended {
             self.telling.held = Some(*entry);
         }
-        tried.orders
+        Some(tried.orders)
     }
 
     /// The first phase of a cycle, and what comes behind it.
@@ -411,20 +439,20 @@ impl TimeState {
         requires wants { wants_in self.old ≡ true }
         requires standing { IsStanding (holding entry.now self.old) }
         ensures made { IsRun Steps (holding entry.now self.old) self.new result }
+        ensures waiting { result ≡ Turn.Want → wants_in self.new ≡ true }
         ensures standing { IsStanding self.new }
     {
         // An entry is wanted before a try alone, so this is one.
         let At::Trying(allowed) = self.at else {
             return Turn::Want;
         };
-        let orders = self.attempt_at_once(entry, allowed);
-        if let Some(order) = self.telling.tell(orders) {
-            return Turn::Ordered(order);
-        }
-        if self.wants() {
+        let Some(orders) = self.attempt_at_once(entry, allowed) else {
             return Turn::Want;
+        };
+        match self.telling.tell(orders) {
+            Some(order) => Turn::Ordered(order),
+            None => Turn::Moved,
         }
-        Turn::Moved
     }
 }
 

@@ -1,4 +1,5 @@
-ghost use Rattle.std.specs.Prelude.{◌≡◌, Bool, true, false, unwrap_or, IfSome, IfNone};
+ghost use Rattle.std.specs.Prelude.{◌≡◌, ◌≢◌, Bool, true, false, unwrap_or, Some};
+ghost use Rattle.std.specs.Prelude.{IfSome, IfNone};
 
 use crate::turn::Turn;
 use rollback_cmds::Order;
@@ -6,15 +7,15 @@ use rollback_cmds::Order;
 /// No run of a timing side makes more strides in one call.
 pub const STRIDES: u32 = 64;
 
-/// From so few strides left on, none of the ones before told an order, and a run looks for cycles
-/// in which nothing happens.
+/// With fewer strides left than these, the ones before told no order, and a run looks for cycles in
+/// which nothing happens.
 const PATIENT: u32 = STRIDES - 3;
 
 /// A timing side that makes its turns one by one, each behind what the last one still has to tell.
 /// A step and a run are the same of every such side.
 pub trait Stepping: Drop {
     ghost use Rattle.time_model.specs.declared.turn.Turn.{Turn};
-    ghost use Rattle.time_model.specs.declared.turn.Turn.TheVariants.{Ordered};
+    ghost use Rattle.time_model.specs.declared.turn.Turn.TheVariants.{Ordered, Want};
     ghost use Rattle.time_model.specs.Turns.{told_or, untold_by};
     ghost use Rattle.time_model.specs.Running.{IsRun, IsSilent};
 
@@ -80,6 +81,7 @@ pub trait Stepping: Drop {
     final fn step(&mut self) -> Option<Turn>
         requires standing { stands self.old }
         ensures made { steps self.old self.new (unwrap_or result (untold_by (ends self.old))) }
+        ensures waiting { result ≡ Some Want → waits self.new ≡ true }
         ensures standing { stands self.new }
     {
         if self.wants() {
@@ -99,6 +101,7 @@ pub trait Stepping: Drop {
         requires holds { waits self.old ≡ false }
         requires goes { rests self.old ≡ false }
         ensures made { steps self.old self.new (unwrap_or result (untold_by (ends self.old))) }
+        ensures told { result ≢ Some Want }
         ensures standing { stands self.new }
     {
         let order = self.advance()?;
@@ -113,6 +116,7 @@ pub trait Stepping: Drop {
     final fn run(&mut self, strides: u32) -> Turn
         requires standing { stands self.old }
         ensures made { IsRun steps self.old self.new result }
+        ensures waiting { result ≡ Want → waits self.new ≡ true }
         ensures single { strides ≡ 0 → steps self.old self.new result }
         ensures standing { stands self.new }
     {

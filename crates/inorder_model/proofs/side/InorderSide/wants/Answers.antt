@@ -1,6 +1,6 @@
 use Rattle.std.proofs.Common.{◌∙◌, ap}
 use Rattle.inorder_model.specs.Standing.{wants_in}
-use Rattle.inorder_model.proofs.Owing.{stands_wants}
+use Rattle.inorder_model.specs.OwingLaws.{stands_wants}
 use Rattle.inorder_model.proofs.side.InorderSide.wants.Goals as goal
 
 pub returns-clause-needs : goal.returns-clause-needs

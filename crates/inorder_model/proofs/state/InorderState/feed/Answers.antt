@@ -1,7 +1,7 @@
 use Rattle.std.proofs.Common.{◌≡◌, Option, Some, None, ap, sym, ◌∙◌}
 use Rattle.rollback_cmds.specs.declared.order.Order.{Order}
 use Rattle.time_model.specs.declared.turn.Turn.{Turn}
-use Rattle.time_model.specs.declared.turn.Turn.TheVariants.{Moved, Ordered}
+use Rattle.time_model.specs.declared.turn.Turn.TheVariants.{Moved, Ordered, Want}
 use Rattle.lane_model.specs.Demand.{trying}
 use Rattle.inorder_model.specs.declared.state.InorderState.{InorderState}
 use Rattle.inorder_model.specs.At.{turn_told}
@@ -46,11 +46,18 @@ stepped c told first =
 stands : (c : After-tell) (turn : Turn) → Steps (holding c.args.entry.now c.args.self.now) (behind c) turn → IsStanding (behind c)
 stands c turn = stands_after (holding c.args.entry.now c.args.self.now) (behind c) turn c.requires.standing
 
+never_ordered : (o : Order) → Ordered o ≡ Want → ⊥
+never_ordered o is = cc
+
+never_moved : Moved ≡ Want → ⊥
+never_moved is = cc
+
 pub returns-in-Some : goal.returns-in-Some
 returns-in-Some c =
     let made = stepped (goal.at.returns-in-Some c).After-tell (Some c.in-Some.order) (sym c.in-Some.is ∙ c.tell.ensures.told) in
     record {
       made = run_once (holding c.args.entry.now c.args.self.now) (behind (goal.at.returns-in-Some c).After-tell) (Ordered c.in-Some.order) made;
+      gone = λ is. never_ordered c.in-Some.order is;
       standing = stands (goal.at.returns-in-Some c).After-tell (Ordered c.in-Some.order) made;
     }
 
@@ -59,5 +66,6 @@ returns-in-None c =
     let made = stepped (goal.at.returns-in-None c).After-tell None (sym c.in-None.is ∙ c.tell.ensures.told) in
     record {
       made = run_once (holding c.args.entry.now c.args.self.now) (behind (goal.at.returns-in-None c).After-tell) Moved made;
+      gone = λ is. never_moved is;
       standing = stands (goal.at.returns-in-None c).After-tell Moved made;
     }

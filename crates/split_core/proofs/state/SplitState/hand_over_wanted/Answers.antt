@@ -11,7 +11,7 @@ use Rattle.split_core.proofs.Feeding.{fed_right, fed_silent, fed_may, fed_obeyed
 use Rattle.split_core.proofs.state.SplitState.hand_over_wanted.Goals as goal
 
 pub loop-init : goal.loop-init
-loop-init g c = record { far = demand_start g.T.Timing.timed g.met.T.Timing.laws c.args.self.now c.requires.standing; clear = c.requires.clear }
+loop-init g c = record { far = demand_start g.T.Timing.timed g.met.T.Timing.laws c.args.self.now c.requires.standing; clear = c.requires.clear; wants = c.requires.wants }
 
 pub produce_into-requires-clause-position : goal.produce_into-requires-clause-position
 produce_into-requires-clause-position g c = position_small g.T.Timing.timed g.met.T.Timing.laws c.loop.self c.loop.invariant.far.standing
@@ -24,7 +24,7 @@ feed-requires-clause-right g c =
     let made : Made c.loop.self.func c.produce_into.new.self (entry_if c.produce_into.result c.produce_into.new.to) =
     record { produced = c.produce_into.ensures.produced; moved = c.produce_into.ensures.moved; none = c.produce_into.ensures.none; same = c.produce_into.ensures.same } in
     fed_right g.T.Timing.timed g.met.T.Timing.laws c.loop.self c.loop.invariant.clear c.produce_into.new.self c.produce_into.new.to c.produce_into.result c.if-not-produce_into.false made
-    (λ s k stands. sym c.if-not-wants.false ∙ c.wants.ensures.needs s k stands) c.loop.invariant.far.standing
+    (λ s k stands. sym c.loop.invariant.wants ∙ g.met.T.Timing.laws.needs s k c.loop.self.time stands) c.loop.invariant.far.standing
 
 pub obey-requires : goal.obey-requires
 obey-requires g c =
@@ -32,7 +32,7 @@ obey-requires g c =
     record { produced = c.produce_into.ensures.produced; moved = c.produce_into.ensures.moved; none = c.produce_into.ensures.none; same = c.produce_into.ensures.same } in
     let may : MayObey c.in-Ordered.order c.produce_into.new.self =
     fed_may g.T.Timing.timed g.met.T.Timing.laws c.loop.self c.loop.invariant.clear c.produce_into.new.self c.produce_into.new.to c.produce_into.result c.if-not-produce_into.false made
-    (λ s k stands. sym c.if-not-wants.false ∙ c.wants.ensures.needs s k stands)
+    (λ s k stands. sym c.loop.invariant.wants ∙ g.met.T.Timing.laws.needs s k c.loop.self.time stands)
     c.feed.new.self c.feed.result c.feed.ensures.fed c.in-Ordered.order c.in-Ordered.is c.loop.invariant.far.standing in
     record {
       reach = may.reach;
@@ -50,7 +50,7 @@ returns-in-Ordered g c =
     record { produced = c.produce_into.ensures.produced; moved = c.produce_into.ensures.moved; none = c.produce_into.ensures.none; same = c.produce_into.ensures.same } in
     let plays : Plays g.T.Timing.timed c.loop.self (record c.loop.self { func = c.obey.new.self; time = c.feed.new.self }) =
     fed_obeyed g.T.Timing.timed g.met.T.Timing.laws c.loop.self c.loop.invariant.clear c.produce_into.new.self c.produce_into.new.to c.produce_into.result c.if-not-produce_into.false made
-    (λ s k stands. sym c.if-not-wants.false ∙ c.wants.ensures.needs s k stands)
+    (λ s k stands. sym c.loop.invariant.wants ∙ g.met.T.Timing.laws.needs s k c.loop.self.time stands)
     c.feed.new.self c.feed.result c.feed.ensures.fed c.in-Ordered.order c.in-Ordered.is c.obey.new.self c.obey.ensures.stands c.obey.ensures.moved in
     let more = demand_more g.T.Timing.timed g.met.T.Timing.laws c.args.self.now c.loop.self (record c.loop.self { func = c.obey.new.self; time = c.feed.new.self }) c.loop.invariant.far plays in
     record { plays = more.plays; clear = clear_at c.loop.self c.loop.invariant.clear c.obey.new.self c.feed.new.self }
@@ -61,7 +61,7 @@ returns-in-Moved g c =
     record { produced = c.produce_into.ensures.produced; moved = c.produce_into.ensures.moved; none = c.produce_into.ensures.none; same = c.produce_into.ensures.same } in
     let plays : Plays g.T.Timing.timed c.loop.self (record c.loop.self { func = c.produce_into.new.self; time = c.feed.new.self }) =
     fed_silent g.T.Timing.timed g.met.T.Timing.laws c.loop.self c.loop.invariant.clear c.produce_into.new.self c.produce_into.new.to c.produce_into.result c.if-not-produce_into.false made
-    (λ s k stands. sym c.if-not-wants.false ∙ c.wants.ensures.needs s k stands)
+    (λ s k stands. sym c.loop.invariant.wants ∙ g.met.T.Timing.laws.needs s k c.loop.self.time stands)
     c.feed.new.self c.feed.result c.feed.ensures.fed (untold_or_over c.feed.result c.in-Moved.is) in
     let more = demand_more g.T.Timing.timed g.met.T.Timing.laws c.args.self.now c.loop.self (record c.loop.self { func = c.produce_into.new.self; time = c.feed.new.self }) c.loop.invariant.far plays in
     record { plays = more.plays; clear = clear_at c.loop.self c.loop.invariant.clear c.produce_into.new.self c.feed.new.self }
@@ -72,7 +72,7 @@ loop-preserved g c =
     record { produced = c.produce_into.ensures.produced; moved = c.produce_into.ensures.moved; none = c.produce_into.ensures.none; same = c.produce_into.ensures.same } in
     let plays : Plays g.T.Timing.timed c.loop.self (record c.loop.self { func = c.produce_into.new.self; time = c.feed.new.self }) =
     fed_silent g.T.Timing.timed g.met.T.Timing.laws c.loop.self c.loop.invariant.clear c.produce_into.new.self c.produce_into.new.to c.produce_into.result c.if-not-produce_into.false made
-    (λ s k stands. sym c.if-not-wants.false ∙ c.wants.ensures.needs s k stands)
+    (λ s k stands. sym c.loop.invariant.wants ∙ g.met.T.Timing.laws.needs s k c.loop.self.time stands)
     c.feed.new.self c.feed.result c.feed.ensures.fed (ap order_told c.in-Want.is) in
     let more = demand_more g.T.Timing.timed g.met.T.Timing.laws c.args.self.now c.loop.self (record c.loop.self { func = c.produce_into.new.self; time = c.feed.new.self }) c.loop.invariant.far plays in
-    record { far = more; clear = clear_at c.loop.self c.loop.invariant.clear c.produce_into.new.self c.feed.new.self }
+    record { far = more; clear = clear_at c.loop.self c.loop.invariant.clear c.produce_into.new.self c.feed.new.self; wants = c.feed.ensures.waiting c.in-Want.is }

@@ -21,6 +21,7 @@ hand_over_wanted-requires g c = record {
   standing = (demand_more g.T.Timing.timed g.met.T.Timing.laws c.args.self.now c.loop.self (record c.loop.self { time = c.run.new.self }) c.loop.invariant.far
       (run_silent g.T.Timing.timed g.met.T.Timing.laws c.loop.self c.loop.invariant.clear c.run.new.self c.run.result c.run.ensures.made (ap order_told c.in-Want.is))).standing;
   clear = clear_at c.loop.self c.loop.invariant.clear c.loop.self.func c.run.new.self;
+  wants = c.run.ensures.waiting c.in-Want.is;
 }
 
 pub obey-requires : goal.obey-requires

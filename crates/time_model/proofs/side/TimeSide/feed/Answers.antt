@@ -14,10 +14,12 @@ pub returns-then-entry-self : goal.returns-then-entry-self
 returns-then-entry-self c = record {
   fed = subst (λ (from : TimeState). IsFed c.args.entry.now from c.feed.new.self c.feed.result) c.self.view_is
       (fed_used c.args.entry.now c.self.inside.state c.feed.new.self c.feed.result c.if-entry-self.true c.feed.ensures.made);
+  waiting = c.feed.ensures.waiting;
 }
 
 pub returns-else-entry-self : goal.returns-else-entry-self
 returns-else-entry-self c = record {
   fed = subst (λ (from : TimeState). IsFed c.args.entry.now from from Want) c.self.view_is
       (fed_dropped c.args.entry.now c.self.inside.state (ap wants_in c.self.view_is ∙ c.requires.wants) c.if-entry-self.false);
+  waiting = λ is. c.requires.wants;
 }
