@@ -4,12 +4,11 @@ use Rattle.mono_model.specs.Demand.{trying}
 use Rattle.timing_core.specs.declared.orders.Orders.{Orders}
 use Rattle.time_model.specs.declared.state.TimeState.{TimeState}
 use Rattle.time_model.specs.declared.telling.Telling.{Telling}
-use Rattle.time_model.specs.declared.turn.Turn.{Turn}
 use Rattle.time_model.specs.declared.turn.Turn.TheVariants.{Moved, Ordered, Want}
 use Rattle.time_model.specs.At.{at_in}
 use Rattle.time_model.specs.Turns.{turn_told}
 use Rattle.time_model.specs.Running.{Steps}
-use Rattle.time_model.specs.Standing.{IsStanding, wants_in}
+use Rattle.time_model.specs.Standing.{wants_in}
 use Rattle.time_model.specs.Feeding.{holding}
 use Rattle.time_model.proofs.Sides.{may_try, stands_after}
 use Rattle.time_model.proofs.Feeding.{wanting, wants_by, holding_free, surely_tries, IsAttempted, fed_step, run_once, run_wants}
