@@ -112,9 +112,9 @@ impl TurnSet {
         ensures word { (k : ℕ) → k < 64
             → (bit_at result k == 1) ≡ holds self.now ((turn + k) % 256) }
     {
-        let word = self.words[(turn / 64) as usize];
-        let next = self.words[(turn / 64 + 1) as usize % 4];
-        joined(word, next, turn % 64)
+        let place = usize::from(turn) / 64;
+        let next = (place + 1) % 4;
+        joined(self.words[place], self.words[next], turn % 64)
     }
 }
 
