@@ -267,9 +267,10 @@ impl InFlight {
     {
         let reader = WordRegisters::of_word(self.window.slot(place).word).registers;
         let writer = WordRegisters::of_word(self.window.slot(other).word).registers;
-        match writer.destination {
+        let (first, second) = reader.sources;
+        match writer.destination.register() {
             Some(register) => {
-                reader.sources.0 == Some(register) || reader.sources.1 == Some(register)
+                first.register() == Some(register) || second.register() == Some(register)
             }
             None => false,
         }

@@ -1,7 +1,7 @@
 //! The registers of the instruction that a word spells.
 
 use known_words::OfWord;
-use reservation_stations::Registers;
+use reservation_stations::{Destination, Registers, Source};
 use rv_decode::decode;
 
 /// What a word tells by itself: the registers of its instruction.
@@ -18,14 +18,14 @@ impl OfWord for WordRegisters {
 
     fn of_word(word: u32) -> WordRegisters {
         let registers = match decode(word) {
-            Some(insn) => Registers {
-                sources: insn.sources(),
-                destination: insn.dest(),
-            },
-            None => Registers {
-                sources: (None, None),
-                destination: None,
-            },
+            Some(insn) => {
+                let (first, second) = insn.sources();
+                Registers {
+                    sources: (Source::of(first), Source::of(second)),
+                    destination: Destination::of(insn.dest()),
+                }
+            }
+            None => Registers::none(),
         };
         WordRegisters { registers }
     }

@@ -1,5 +1,5 @@
 -- A station enters.
-use Rattle.std.proofs.Common.{◌≡◌, ◌≢◌, ℕ, ◌+◌, ◌^◌, ◌<◌, ◌≤◌, ◌==◌, ◌||◌, Bool, true, false, if◌then◌else◌, Option, Some, None, List, [], ◌∷◌, ◌++◌, length, reverse, refl, ap, sym, ◌∙◌, inl, inr, arith, eq-eqb, subst}
+use Rattle.std.proofs.Common.{◌≡◌, ◌≢◌, ℕ, ◌+◌, ◌^◌, ◌<◌, ◌≤◌, ◌==◌, ◌||◌, Bool, true, false, if◌then◌else◌, Option, Some, None, List, [], ◌∷◌, ◌++◌, length, get_or, reverse, refl, ap, sym, ◌∙◌, inl, inr, arith, eq-eqb, subst}
 use Rattle.std.specs.Prelude.{slice_set, IsNone}
 use Rattle.std.specs.List.{AllByRecursion, IsDistinct, list_any}
 use Rattle.std.proofs.lemmas.Bool.{cases_eq, ne_eqb}
@@ -88,9 +88,9 @@ module _ (capacity : ℕ) (indices : List ℕ) (old : List Row) (producers : Lis
       map_push (λ s. station_in s (row_at (slice_set old index row) s)) indices index
       ∙ λ i. stations_stay i ++ station_in index (mine i) ∷ []
 
-  AreTables-pushed : is_waiting row.mark ≡ true →
+  AreTables-pushed : is_waiting row.mark ≡ true → get_or (with_producer row.registers.destination (Some index) producers) 256 None ≡ None →
       AreTables capacity (indices ++ index ∷ []) (slice_set old index row) (with_producer row.registers.destination (Some index) producers) (waiting + 1)
-  AreTables-pushed waits =
+  AreTables-pushed waits nothing =
       let at' = row_at (slice_set old index row) in
       let counted = waiting_count-push at' indices index in
       let same : waiting_count (stations_at at' indices) ≡ waiting = ap waiting_count stations_stay ∙ sym keeps.count in
@@ -102,11 +102,12 @@ module _ (capacity : ℕ) (indices : List ℕ) (old : List Row) (producers : Lis
         every_index = length-set old index row ∙ keeps.every_index;
         every_register = length-with_producer row.registers.destination (Some index) producers ∙ keeps.every_register;
         each_producer = λ register below.
-            get_or-with_producer row.registers.destination (Some index) producers register (omega (arith, keeps.every_register))
+            get_or-with_producer row.registers.destination (Some index) producers register keeps.every_register below
             ∙ ap (λ o. if is_register register row.registers.destination then Some index else o) (keeps.each_producer register below ∙ ap (λ xs. unfinished xs register) (sym older_stay))
             ∙ ap (λ b. if is_register register row.registers.destination then (if b then None else Some index) else unfinished (stations_at at' (reverse indices)) register) (sym (not_done row.mark waits))
             ∙ ap (λ (e : Row). if is_register register e.registers.destination then (if is_done e.mark then None else Some index) else unfinished (stations_at at' (reverse indices)) register) (sym mine)
             ∙ ap (λ xs. unfinished (stations_at at' xs) register) (sym (reverse-push indices index));
+        no_source = nothing;
         count = omega (arith, counted, same, one_more);
       }
 
@@ -129,8 +130,10 @@ module _ {capacity : ℕ} {indices : List ℕ} {rows : List Row} {producers : Li
 
   module _ (row : Row) where
     pub AreTables-entered : (table : List (Option ℕ)) → is_waiting row.mark ≡ true → table ≡ with_producer row.registers.destination (Some index) producers →
-        AreTables capacity (indices ++ index ∷ []) (slice_set rows index row) table (waiting + 1)
-    AreTables-entered table is_waits set = rw set (AreTables-pushed capacity indices rows producers waiting keeps index inside_window is_fresh row is_waits)
+        get_or table 256 None ≡ get_or producers 256 None → AreTables capacity (indices ++ index ∷ []) (slice_set rows index row) table (waiting + 1)
+    AreTables-entered table is_waits set apart =
+        rw set (AreTables-pushed capacity indices rows producers waiting keeps index inside_window is_fresh row is_waits
+        (ap (λ xs. get_or xs 256 None) (sym set) ∙ apart ∙ keeps.no_source))
 
     pub seen-entered : seen capacity (indices ++ index ∷ []) (slice_set rows index row) ≡ record w { stations = w.stations ++ station_in index row ∷ [] }
     seen-entered =

@@ -21,12 +21,12 @@ module _ (at_turn : List ℕ) (turn place : ℕ) (rows : List Row) (index : ℕ)
       let e : place + 1 ≡ suc place = omega arith in
       ap (indices_from at_turn turn) e ∙ indices_more at_turn turn place ∙ ap (λ s. indices_from at_turn turn place ++ s ∷ []) (sym read)
 
-  pub producers_more : (producers table : List (Option ℕ)) → length producers ≡ 256 → AreProducers producers (stations_at (row_at rows) (reverse (indices_from at_turn turn place))) →
+  pub producers_more : (producers table : List (Option ℕ)) → length producers ≡ 258 → AreProducers producers (stations_at (row_at rows) (reverse (indices_from at_turn turn place))) →
       table ≡ with_producer row.registers.destination (if is_done row.mark then None else Some index) producers → AreProducers table (stations_at (row_at rows) (reverse (indices_from at_turn turn (place + 1))))
   producers_more producers table every were set register within =
       let older = stations_at (row_at rows) (reverse (indices_from at_turn turn place)) in
       ap (λ xs. get_or xs register None) set
-      ∙ get_or-with_producer row.registers.destination (if is_done row.mark then None else Some index) producers register (omega (arith, every, within))
+      ∙ get_or-with_producer row.registers.destination (if is_done row.mark then None else Some index) producers register every within
       ∙ ap (λ o. if is_register register row.registers.destination then (if is_done row.mark then None else Some index) else o) (were register within)
       ∙ ap (λ (e : Row). if is_register register e.registers.destination then (if is_done e.mark then None else Some index) else unfinished older register) is
       ∙ ap (λ xs. unfinished (stations_at (row_at rows) xs) register) (sym (ap reverse one_more ∙ reverse-push (indices_from at_turn turn place) index))
@@ -62,15 +62,16 @@ Each-turn P at_turn turn (suc count) (suc place) before each =
 
 -- the tables of those that stay
 module _ {capacity : ℕ} {indices : List ℕ} {rows : List Row} {producers : List (Option ℕ)} {waiting : ℕ} (keeps : AreTables capacity indices rows producers waiting) (kept : ℕ) where
-  pub AreTables-kept : (table : List (Option ℕ)) (left : ℕ) → length table ≡ 256 → AreProducers table (stations_at (row_at rows) (reverse (take kept indices))) →
+  pub AreTables-kept : (table : List (Option ℕ)) (left : ℕ) → length table ≡ 258 → get_or table 256 None ≡ None → AreProducers table (stations_at (row_at rows) (reverse (take kept indices))) →
       left ≡ waiting_count (stations_at (row_at rows) (take kept indices)) → AreTables capacity (take kept indices) rows table left
-  AreTables-kept table left every are count = record {
+  AreTables-kept table left every nothing are count = record {
     limit = keeps.limit;
     within = Each-take (λ s. s < capacity) indices kept keeps.within;
     distinct = AreDistinct-take indices kept keeps.distinct;
     every_index = keeps.every_index;
     every_register = every;
     each_producer = are;
+    no_source = nothing;
     count = count;
   }
 

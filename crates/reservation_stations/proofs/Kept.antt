@@ -41,8 +41,8 @@ module _ (at at' : ℕ → Row) (lost : ℕ → Bool) where
 module _ (capacity : ℕ) (indices : List ℕ) (old new : List Row) (producers table : List (Option ℕ)) (waiting waiting' : ℕ) (lost : ℕ → Bool) where
   AreTables-changed : AreTables capacity indices old producers waiting → length new ≡ length old → Each (Changes (row_at old) (row_at new) lost) indices →
       length table ≡ length producers → ((register : ℕ) → register < 256 → get_or table register None ≡ dropped lost (get_or producers register None)) →
-      waiting' ≡ waiting_count (stations_at (row_at new) indices) → AreTables capacity indices new table waiting'
-  AreTables-changed keeps same each long are count =
+      get_or table 256 None ≡ None → waiting' ≡ waiting_count (stations_at (row_at new) indices) → AreTables capacity indices new table waiting'
+  AreTables-changed keeps same each long are nothing count =
       let at = row_at old in
       let at' = row_at new in
       let behind : Carries at at' lost (reverse indices) (reverse indices) =
@@ -54,6 +54,7 @@ module _ (capacity : ℕ) (indices : List ℕ) (old new : List Row) (producers t
         every_index = same ∙ keeps.every_index;
         every_register = long ∙ keeps.every_register;
         each_producer = λ register within. are register within ∙ ap (dropped lost) (keeps.each_producer register within) ∙ sym (behind.unfinished register);
+        no_source = nothing;
         count = count;
       }
 
@@ -144,14 +145,14 @@ module _ {capacity : ℕ} {indices : List ℕ} {rows : List Row} {producers : Li
 
     keeps_written : (table : List (Option ℕ)) (lost : ℕ → Bool) → ((other : ℕ) → other ≢ index → lost other ≡ false) → is_done next ≡ (is_done mark || lost index) →
         length table ≡ length producers → ((register : ℕ) → register < 256 → get_or table register None ≡ dropped lost (get_or producers register None)) →
-        (waiting' : ℕ) → waiting' ≡ waiting_count (stations_at (row_at new_rows) indices) → AreTables capacity indices new_rows table waiting'
-    keeps_written table lost others alike long are waiting' count =
-        AreTables-changed capacity indices rows new_rows producers table waiting waiting' lost keeps (length-set rows index (record row { mark = next })) (each_changed lost others alike) long are count
+        get_or table 256 None ≡ None → (waiting' : ℕ) → waiting' ≡ waiting_count (stations_at (row_at new_rows) indices) → AreTables capacity indices new_rows table waiting'
+    keeps_written table lost others alike long are nothing waiting' count =
+        AreTables-changed capacity indices rows new_rows producers table waiting waiting' lost keeps (length-set rows index (record row { mark = next })) (each_changed lost others alike) long are nothing count
 
     -- where none is lost, the producers stay
     keeps_producers : is_done next ≡ is_done mark → (waiting' : ℕ) → waiting' ≡ waiting_count (stations_at (row_at new_rows) indices) → AreTables capacity indices new_rows producers waiting'
     keeps_producers done waiting' count =
-        keeps_written producers none (λ other differ. refl) (done ∙ or_false (is_done mark)) refl (λ register within. sym (dropped_none (get_or producers register None))) waiting' count
+        keeps_written producers none (λ other differ. refl) (done ∙ or_false (is_done mark)) refl (λ register within. sym (dropped_none (get_or producers register None))) keeps.no_source waiting' count
 
     alike_by : (other : ℕ) → is_waiting next ≡ is_waiting mark → is_waiting (row_at new_rows other).mark ≡ is_waiting (row_at rows other).mark
     alike_by other alike =
@@ -175,14 +176,14 @@ module _ {capacity : ℕ} {indices : List ℕ} {rows : List Row} {producers : Li
     -- one that is done now is no producer
     pub AreTables-told : (table : List (Option ℕ)) →
         table ≡ with_producer (row_at rows index).registers.destination (without index (producer_at producers (row_at rows index).registers.destination)) producers →
-        is_done next ≡ (is_done mark || one index index) → is_waiting next ≡ is_waiting mark → AreTables capacity indices new_rows table waiting
-    AreTables-told table set done alike =
+        get_or table 256 None ≡ get_or producers 256 None → is_done next ≡ (is_done mark || one index index) → is_waiting next ≡ is_waiting mark → AreTables capacity indices new_rows table waiting
+    AreTables-told table set apart done alike =
         let mine = (row_at rows index).registers.destination in
         let dropped_of = get_or-dropped (row_at rows) (reverse indices) producers keeps.every_register keeps.each_producer index in
         keeps_written table (one index) (λ other differ. ne_eqb other index differ) done
         (ap length set ∙ length-with_producer mine (without index (producer_at producers mine)) producers)
         (λ register within. ap (λ xs. get_or xs register None) set ∙ dropped_of register within ∙ sym (dropped_one index (get_or producers register None)))
-        waiting (waits_alike alike)
+        (apart ∙ keeps.no_source) waiting (waits_alike alike)
 
     -- one fewer waits
     one_fewer : is_waiting next ≡ false → is_waiting mark ≡ true → waiting_count (stations_at (row_at new_rows) indices) + 1 ≡ waiting

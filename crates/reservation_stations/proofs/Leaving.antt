@@ -80,9 +80,10 @@ module _ (capacity : ℕ) (index : ℕ) (rest : List ℕ) (rows : List Row) (pro
       ∙ ap (λ xs. without index (unfinished (stations_at (row_at rows) xs) register)) (sym (reverse-cons index rest))
       ∙ ap (without index) (sym (keeps.each_producer register within))
 
-  AreTables-rest : waiting' + (if is_waiting (row_at rows index).mark then 1 else 0) ≡ waiting →
+  AreTables-rest : get_or (with_producer (row_at rows index).registers.destination (without index (producer_at producers (row_at rows index).registers.destination)) producers) 256 None ≡ None →
+      waiting' + (if is_waiting (row_at rows index).mark then 1 else 0) ≡ waiting →
       AreTables capacity rest rows (with_producer (row_at rows index).registers.destination (without index (producer_at producers (row_at rows index).registers.destination)) producers) waiting'
-  AreTables-rest left =
+  AreTables-rest nothing left =
       let mine = (row_at rows index).registers.destination in
       let value = without index (producer_at producers mine) in
       record {
@@ -94,6 +95,7 @@ module _ (capacity : ℕ) (index : ℕ) (rest : List ℕ) (rows : List Row) (pro
         each_producer = λ register within.
             get_or-dropped (row_at rows) (reverse (index ∷ rest)) producers keeps.every_register keeps.each_producer index register within
             ∙ sym (producer_behind register within);
+        no_source = nothing;
         count = omega (arith, keeps.count, left);
       }
 
@@ -110,6 +112,7 @@ module _ (capacity : ℕ) (index : ℕ) (rest : List ℕ) (rows : List Row) (pro
         each_producer = λ register within.
             let other = ap (is_index index) (keeps.each_producer register within) ∙ not_unfinished index (row_at rows) (reverse (index ∷ rest)) register done in
             sym (without-same index (get_or producers register None) other) ∙ sym (producer_behind register within);
+        no_source = keeps.no_source;
         count = omega (arith, keeps.count, none);
       }
 
@@ -142,10 +145,12 @@ module _ {capacity : ℕ} {indices : List ℕ} {rows : List Row} {producers : Li
 
     pub AreTables-retired : (table : List (Option ℕ)) (waiting' : ℕ) →
         table ≡ with_producer row.registers.destination (without index (producer_at producers row.registers.destination)) producers →
-        waiting' + (if is_waiting row.mark then 1 else 0) ≡ waiting → AreTables capacity (drop 1 indices) rows table waiting'
-    AreTables-retired table waiting' dropped left =
+        get_or table 256 None ≡ get_or producers 256 None → waiting' + (if is_waiting row.mark then 1 else 0) ≡ waiting → AreTables capacity (drop 1 indices) rows table waiting'
+    AreTables-retired table waiting' dropped apart left =
         let left_by : waiting' + (if is_waiting (row_at rows index).mark then 1 else 0) ≡ waiting = subst (λ (e : Row). waiting' + (if is_waiting e.mark then 1 else 0) ≡ waiting) retired_row left in
-        rw (dropped, retired_row) (AreTables-rest capacity index (drop 1 indices) rows producers waiting waiting' first_keeps left_by)
+        let mine : Row → List (Option ℕ) = λ e. with_producer e.registers.destination (without index (producer_at producers e.registers.destination)) producers in
+        let nothing : get_or (mine (row_at rows index)) 256 None ≡ None = ap (λ xs. get_or xs 256 None) (sym (dropped ∙ ap mine retired_row)) ∙ apart ∙ keeps.no_source in
+        rw (dropped, retired_row) (AreTables-rest capacity index (drop 1 indices) rows producers waiting waiting' first_keeps nothing left_by)
 
     pub AreTables-retired_done : is_done row.mark ≡ true → AreTables capacity (drop 1 indices) rows producers waiting
     AreTables-retired_done done =

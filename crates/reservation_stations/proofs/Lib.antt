@@ -13,6 +13,7 @@ pub mod Leaving
 pub mod Entering
 pub mod Places
 pub mod Missing
+pub mod Noted
 pub mod Standing
 pub mod Feeding
 pub mod OfStations

@@ -39,14 +39,15 @@ pushed_at (other ∷ indices) index zero s there = inl there
 pushed_at (other ∷ indices) index (suc p) s there = elim (pushed_at indices index p s there) [ inl was ↦ inl was | inr now ↦ inr (ap suc now.0, now.1) ]
 
 -- tables of no station
-pub Keeps_none : (capacity : ℕ) (row : Row) → capacity ≤ 256 → AreTables capacity [] (replicate capacity row) (replicate 256 None) 0
+pub Keeps_none : (capacity : ℕ) (row : Row) → capacity ≤ 256 → AreTables capacity [] (replicate capacity row) (replicate 258 None) 0
 Keeps_none capacity row limit = record {
   limit = limit;
   within = tt;
   distinct = tt;
   every_index = length-replicate capacity row;
-  every_register = length-replicate {A = Option ℕ} 256 None;
-  each_producer = λ register within. get_or-replicate {A = Option ℕ} 256 register None None within;
+  every_register = length-replicate {A = Option ℕ} 258 None;
+  each_producer = λ register within. get_or-replicate {A = Option ℕ} 258 register None None (omega (arith, within));
+  no_source = get_or-replicate {A = Option ℕ} 258 256 None None (omega arith);
   count = refl;
 }
 

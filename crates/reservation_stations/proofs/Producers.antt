@@ -1,5 +1,5 @@
 -- The table of producers: what is read of it, and how it changes.
-use Rattle.std.proofs.Common.{◌≡◌, ℕ, ◌<◌, Bool, true, false, if◌then◌else◌, Option, Some, None, IfSome, List, [], ◌∷◌, length, get_or, refl, ap, sym, ◌∙◌, inl, inr, eq-eqb, subst}
+use Rattle.std.proofs.Common.{◌≡◌, ℕ, ◌<◌, Bool, true, false, if◌then◌else◌, Option, Some, None, IfSome, List, [], ◌∷◌, length, get_or, refl, ap, sym, ◌∙◌, inl, inr, eq-eqb, subst, arith}
 use Rattle.std.specs.Option.{ForSome}
 use Rattle.std.proofs.lemmas.Bool.{cases_eq, ne_eqb, eqb-true, both_ways}
 use Rattle.std.proofs.lemmas.List.{get_or-set_same, get_or-set_other, length-set}
@@ -9,23 +9,24 @@ use Rattle.reservation_stations.specs.Readiness.{is_done, is_register}
 use Rattle.reservation_stations.specs.AreTables.{AreProducers, Each, stations_at, unfinished, awaited}
 use Rattle.reservation_stations.specs.Changes.{without, with_producer, producer_at}
 use Rattle.reservation_stations.specs.Places.{is_index}
+use Rattle.reservation_stations.specs.Numbers.{number_of}
 
 -- with another one of a register
 register_is : (register : ℕ) (destination : Option ℕ) → is_register register destination ≡ true → destination ≡ Some register
 register_is register None is = absurd cc
 register_is register (Some other) is = ap Some (eqb-true other register is)
 
-pub get_or-with_producer : (destination value : Option ℕ) (producers : List (Option ℕ)) (register : ℕ) → register < length producers →
+pub get_or-with_producer : (destination value : Option ℕ) (producers : List (Option ℕ)) (register : ℕ) → length producers ≡ 258 → register < 256 →
     get_or (with_producer destination value producers) register None ≡ (if is_register register destination then value else get_or producers register None)
-get_or-with_producer None value producers register within = refl
-get_or-with_producer (Some other) value producers register within = elim (cases_eq other register) [
-  | inl same ↦ rw (eq-eqb other register same, same) (get_or-set_same producers register value None within)
+get_or-with_producer None value producers register long within =
+    get_or-set_other producers 257 register value None (λ (e : register ≡ 257). absurd (omega (arith, e, within)))
+get_or-with_producer (Some other) value producers register long within = elim (cases_eq other register) [
+  | inl same ↦ rw (eq-eqb other register same, same) (get_or-set_same producers register value None (omega (arith, long, within)))
   | inr differ ↦ rw (ne_eqb other register differ) (get_or-set_other producers other register value None (λ e. differ (sym e)))
 ]
 
 pub length-with_producer : (destination value : Option ℕ) (producers : List (Option ℕ)) → length (with_producer destination value producers) ≡ length producers
-length-with_producer None value producers = refl
-length-with_producer (Some register) value producers = length-set producers register value
+length-with_producer destination value producers = length-set producers (number_of 257 destination) value
 
 -- what holds of each index holds of one that is awaited
 held_by : (P : ℕ → Type 0) (index : ℕ) (is done : Bool) (o : Option ℕ) → P index → IfSome o P → IfSome (if is then (if done then None else Some index) else o) P
@@ -68,7 +69,7 @@ without-other index (Some producer) other = elim (cases_eq producer index) [
   | inr differ ↦ rw (ne_eqb producer index differ) refl
 ]
 
-module _ (at : ℕ → Row) (indices : List ℕ) (producers : List (Option ℕ)) (long : length producers ≡ 256) (are : AreProducers producers (stations_at at indices)) (index : ℕ) where
+module _ (at : ℕ → Row) (indices : List ℕ) (producers : List (Option ℕ)) (long : length producers ≡ 258) (are : AreProducers producers (stations_at at indices)) (index : ℕ) where
   table_by : (register : ℕ) → register < 256 → (b : Bool) → is_register register (at index).registers.destination ≡ b →
       (if b then without index (producer_at producers (at index).registers.destination) else get_or producers register None) ≡ without index (get_or producers register None)
   table_by register within true is = ap (λ d. without index (producer_at producers d)) (register_is register (at index).registers.destination is)
@@ -79,7 +80,7 @@ module _ (at : ℕ → Row) (indices : List ℕ) (producers : List (Option ℕ))
   pub get_or-dropped : (register : ℕ) → register < 256 →
       get_or (with_producer (at index).registers.destination (without index (producer_at producers (at index).registers.destination)) producers) register None ≡ without index (get_or producers register None)
   get_or-dropped register within =
-      get_or-with_producer (at index).registers.destination (without index (producer_at producers (at index).registers.destination)) producers register (rw long within)
+      get_or-with_producer (at index).registers.destination (without index (producer_at producers (at index).registers.destination)) producers register long within
       ∙ table_by register within (is_register register (at index).registers.destination) refl
 
 -- none awaits one that is done

@@ -60,6 +60,8 @@ pub record AreTables (capacity : ℕ) (indices : List ℕ) (rows : List Row) (pr
   pub within : Each (λ index. index < capacity) indices
   pub distinct : AreDistinct indices
   pub every_index : length rows ≡ capacity
-  pub every_register : length producers ≡ 256
+  pub every_register : length producers ≡ 258
   pub each_producer : AreProducers producers (stations_at (row_at rows) (reverse indices))
+  -- where a source of no register reads
+  pub no_source : get_or producers 256 None ≡ None
   pub count : waiting ≡ waiting_count (stations_at (row_at rows) indices)

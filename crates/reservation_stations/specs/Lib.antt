@@ -4,7 +4,7 @@ pub mod PlaceSet
 pub mod AreTables
 pub mod Turns
 pub mod Changes
-pub mod Producer
+pub mod Numbers
 pub mod Places
 pub mod Noting
 pub mod AreSets

@@ -1,5 +1,5 @@
 //! The index of a register's producer.
-ghost use Rattle.std.specs.Prelude.{◌≡◌, ◌<◌, ◌||◌, IsTrue, Some, None, is_some};
+ghost use Rattle.std.specs.Prelude.{◌≡◌, ◌<◌, IsTrue, Some, None, is_some};
 ghost use Rattle.reservation_stations.specs.AreSets.{are_two};
 ghost use Rattle.reservation_stations.specs.Changes.{without};
 
@@ -15,17 +15,17 @@ pub struct Producer {
 
 impl Model for Producer {
     ghost use Rattle.std.specs.Prelude.{ℕ, ◌≤◌, Option};
-    ghost use Rattle.reservation_stations.specs.Producer.{producer_in, number_of, number_again};
+    ghost use Rattle.reservation_stations.specs.Numbers.{in_number, number_of, up_to_256};
 
     ghost Value = { Option ℕ };
 
-    ghost view = { λ p. producer_in p.number };
+    ghost view = { λ p. in_number p.number };
 
-    ghost inverse = { λ o. record { number = number_of o } };
+    ghost inverse = { λ o. record { number = number_of 256 o } };
 
     ghost invariant = { λ p. p.number ≤ 256 };
 
-    ghost inverse_ok = { λ p h i. record { number = number_again p.number h i } };
+    ghost inverse_ok = { λ p h i. record { number = up_to_256 p.number h i } };
 }
 
 impl Producer {
@@ -75,19 +75,11 @@ impl Producer {
         }
     }
 
-    /// Whether one of two is there: none is bit 8 alone, which only two of them share.
-    #[inline(always)]
-    pub fn is_either(self, other: Producer) -> bool
-        ensures either { result ≡ (is_some self || is_some other) }
-    {
-        self.number & other.number < 256
-    }
-
     /// Whether both are there, and differ.
     #[inline(always)]
     pub fn are_two(self, other: Producer) -> bool
         ensures two { result ≡ are_two self other }
     {
-        self.number | other.number < 256 && self.number != other.number
+        self.is_some() && other.is_some() && self.number != other.number
     }
 }

@@ -18,10 +18,7 @@ impl Row {
         ensures free { result ≡ free_row }
     {
         Row {
-            registers: Registers {
-                sources: (None, None),
-                destination: None,
-            },
+            registers: Registers::none(),
             mark: Mark::Done,
             turn: 0,
         }

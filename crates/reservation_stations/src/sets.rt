@@ -57,11 +57,18 @@ impl Sets {
             (put turn (record { first = first; second = second }) missed) self.new }
     {
         let at = bit_of(turn);
-        note(&mut self.dependents, first, at);
-        note(&mut self.dependents, second, at);
         self.idle.insert(at);
-        self.short.insert_if(at, first.is_either(second));
-        self.both.insert_if(at, first.are_two(second));
+        if first.is_some() {
+            self.short.insert(at);
+            if first.are_two(second) {
+                self.both.insert(at);
+                note(&mut self.dependents, second.index(), at);
+            }
+            note(&mut self.dependents, first.index(), at);
+        } else if second.is_some() {
+            self.short.insert(at);
+            note(&mut self.dependents, second.index(), at);
+        }
     }
 
     /// The station of a turn waits no longer, and executes.
@@ -154,17 +161,15 @@ impl Sets {
     }
 }
 
-/// Notes the turn of a bit among those that await the value of an index, if one is given.
+/// Notes the turn of a bit among those that await the value of an index.
 #[inline(always)]
-fn note(dependents: &mut Vec<TurnSet>, on: Producer, at: TurnBit)
-    requires inside { ForSome on (λ index. index < vec_len dependents.old) }
+fn note(dependents: &mut Vec<TurnSet>, on: u32, at: TurnBit)
+    requires inside { on < vec_len dependents.old }
     requires within { at.word < 4 }
     ensures noted { (turn : ℕ) → IsBitOf turn at
         → Notes on turn dependents.old.items dependents.new.items }
 {
-    if on.is_some() {
-        dependents[on.index() as usize].insert(at);
-    }
+    dependents[on as usize].insert(at);
 }
 
 /// Keeps these turns alone among those that await the value of each index.

@@ -1,3 +1,6 @@
+use crate::destination::Destination;
+use crate::source::Source;
+
 /// How far an instruction in the window has come.
 #[derive(Clone, Copy, Debug, PartialEq, Eq)]
 pub enum Mark {
@@ -34,9 +37,23 @@ impl Mark {
 #[derive(Clone, Copy, Debug, PartialEq, Eq)]
 pub struct Registers {
     /// Those that it reads.
-    pub sources: (Option<u8>, Option<u8>),
+    pub sources: (Source, Source),
     /// The one that it writes.
-    pub destination: Option<u8>,
+    pub destination: Destination,
+}
+
+impl Registers {
+    ghost use Rattle.std.specs.Prelude.{◌≡◌, None};
+
+    /// Those of an instruction that reads and writes none.
+    pub fn none() -> Registers
+        ensures none { result ≡ record { sources = (None, None); destination = None } }
+    {
+        Registers {
+            sources: (Source::none(), Source::none()),
+            destination: Destination::none(),
+        }
+    }
 }
 
 /// What the reservation stations keep of an instruction in the window: its index, its registers by

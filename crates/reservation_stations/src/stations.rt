@@ -26,7 +26,7 @@ pub struct Stations {
     /// What each index keeps of the station that holds it.
     rows: Vec<Row>,
     /// The index of each register's producer, where it has one that isn't done.
-    producers: [Producer; 256],
+    producers: [Producer; 258],
     /// How many wait.
     waiting: u32,
     /// By their turns, which wait, which execute and which miss operands.
@@ -86,7 +86,7 @@ impl Stations {
             at_turn: [0; 256],
             count: 0,
             rows,
-            producers: [Producer::none(); 256],
+            producers: [Producer::none(); 258],
             waiting: 0,
             sets,
             retired: 0,
@@ -123,16 +123,19 @@ impl Stations {
               registers.now.sources.1 registers.now.destination ∷ [];
         } }
     {
-        let first = awaited(&self.producers, registers.sources.0);
-        let second = awaited(&self.producers, registers.sources.1);
-        let turn = self.retired.wrapping_add(self.count as u8);
-        set_producer(
-            &mut self.producers,
-            registers.destination,
-            Producer::of(index),
-        );
+        let Registers {
+            sources: (first_source, second_source),
+            destination,
+        } = *registers;
+        let first = awaited(&self.producers, first_source);
+        let second = awaited(&self.producers, second_source);
+        let turn = ((u32::from(self.retired) + self.count) % 256) as u8;
+        set_producer(&mut self.producers, destination, Producer::of(index));
         self.rows[index as usize] = Row {
-            registers: *registers,
+            registers: Registers {
+                sources: (first_source, second_source),
+                destination,
+            },
             mark: Mark::Waiting,
             turn,
         };

@@ -1,6 +1,6 @@
 //! What is read of the rows and by turns, and the table of producers.
 ghost use Rattle.std.specs.Prelude.{◌≡◌, ◌<◌, ◌≤◌, ◌+◌, vec_len, length, if◌then◌else◌};
-ghost use Rattle.std.specs.Prelude.{List, reverse};
+ghost use Rattle.std.specs.Prelude.{None, List, get_or, reverse};
 ghost use Rattle.reservation_stations.specs.declared.station.Station.{Station};
 ghost use Rattle.reservation_stations.specs.Readiness.{is_waiting, waiting_count};
 ghost use Rattle.reservation_stations.specs.Changes.{without, with_producer, producer_at};
@@ -8,47 +8,44 @@ ghost use Rattle.reservation_stations.specs.AreTables.{AreProducers, Each, await
 ghost use Rattle.reservation_stations.specs.AreTables.{stations_at, row_at};
 ghost use Rattle.reservation_stations.specs.Turns.{indices_from};
 
+use crate::destination::Destination;
 use crate::producer::Producer;
 use crate::row::Row;
+use crate::source::Source;
 use crate::station::Mark;
 
 /// The index of the station that has yet to give the value of a source, if one has.
 #[inline(always)]
-pub fn awaited(producers: &[Producer; 256], source: Option<u8>) -> Producer
+pub fn awaited(producers: &[Producer; 258], source: Source) -> Producer
     ensures awaited { (older : List Station) → AreProducers producers.now older
-        → result ≡ awaited older source }
+        → get_or producers.now 256 None ≡ None → result ≡ awaited older source }
 {
-    match source {
-        Some(register) => producers[register as usize],
-        None => Producer::none(),
-    }
+    producers[source.place()]
 }
 
 /// Makes an index the producer of a register, if one is given, or none.
 #[inline(always)]
-pub fn set_producer(producers: &mut [Producer; 256], register: Option<u8>, producer: Producer)
+pub fn set_producer(producers: &mut [Producer; 258], register: Destination, producer: Producer)
     ensures set { producers.new ≡ with_producer register producer producers.old }
+    ensures apart { get_or producers.new 256 None ≡ get_or producers.old 256 None }
 {
-    if let Some(register) = register {
-        producers[register as usize] = producer;
-    }
+    producers[register.place()] = producer;
 }
 
 /// Makes a register, if one is given, have no producer, where this index is its producer.
-pub fn drop_producer(producers: &mut [Producer; 256], register: Option<u8>, index: u32)
+pub fn drop_producer(producers: &mut [Producer; 258], register: Destination, index: u32)
     ensures dropped { producers.new ≡
         with_producer register (without index (producer_at producers.old register))
         producers.old }
+    ensures apart { get_or producers.new 256 None ≡ get_or producers.old 256 None }
 {
-    if let Some(register) = register {
-        let producer = producers[register as usize];
-        producers[register as usize] = producer.without(index);
-    }
+    let place = register.place();
+    producers[place] = producers[place].without(index);
 }
 
 /// Makes the producers those of so many stations from a turn on, and gives how many of them wait.
 pub fn rename(
-    producers: &mut [Producer; 256],
+    producers: &mut [Producer; 258],
     at_turn: &[u8; 256],
     rows: &Vec<Row>,
     from: u8,
@@ -57,7 +54,8 @@ pub fn rename(
     requires few { count ≤ 256 }
     requires within { Each (λ index. index < vec_len rows.now)
         (indices_from at_turn.now from count) }
-    ensures every_register { length producers.new ≡ 256 }
+    ensures every_register { length producers.new ≡ 258 }
+    ensures no_source { get_or producers.new 256 None ≡ None }
     ensures renamed { AreProducers producers.new
         (stations_at (row_at rows.now.items)
         (reverse (indices_from at_turn.now from count))) }

@@ -1,10 +1,10 @@
-use crate::{Registers, Sought, Stations};
+use crate::{Destination, Registers, Sought, Source, Stations};
 use std::test::Fail;
 
 fn registers(sources: (Option<u8>, Option<u8>), destination: Option<u8>) -> Registers {
     Registers {
-        sources,
-        destination,
+        sources: (Source::of(sources.0), Source::of(sources.1)),
+        destination: Destination::of(destination),
     }
 }
 

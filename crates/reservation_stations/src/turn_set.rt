@@ -15,7 +15,9 @@ pub struct TurnSet {
 /// The word of a turn set that a turn stands in, and its bit there.
 #[derive(Clone, Copy, Debug, PartialEq, Eq)]
 pub struct TurnBit {
-    word: u8,
+    /// Which word, of four.
+    word: usize,
+    /// The bit there alone.
     bit: u64,
 }
 
@@ -26,7 +28,7 @@ pub fn bit_of(turn: u8) -> TurnBit
     ensures bit { IsBitOf turn result }
 {
     TurnBit {
-        word: turn / 64,
+        word: usize::from(turn) / 64,
         bit: 1 << (turn % 64),
     }
 }
@@ -59,19 +61,7 @@ impl TurnSet {
         ensures inserted { (turn : ℕ) → IsBitOf turn at → (other : ℕ)
             → holds self.new other ≡ (holds self.old other || (other == turn)) }
     {
-        self.words[at.word as usize] |= at.bit;
-    }
-
-    /// Puts the turn of a bit into the set, if it is to be there.
-    #[inline(always)]
-    pub fn insert_if(&mut self, at: TurnBit, there: bool)
-        requires within { at.word < 4 }
-        ensures inserted { (turn : ℕ) → IsBitOf turn at → (other : ℕ)
-            → holds self.new other ≡ (holds self.old other || (there && (other == turn))) }
-    {
-        if there {
-            self.insert(at);
-        }
+        self.words[at.word] |= at.bit;
     }
 
     /// Takes the turn of a bit out of the set.
@@ -81,7 +71,7 @@ impl TurnSet {
         ensures removed { (turn : ℕ) → IsBitOf turn at → (other : ℕ)
             → holds self.new other ≡ (holds self.old other && not (other == turn)) }
     {
-        self.words[at.word as usize] &= !at.bit;
+        self.words[at.word] &= !at.bit;
     }
 
     /// Takes the turns of another set out of it.
@@ -122,9 +112,9 @@ impl TurnSet {
         ensures word { (k : ℕ) → k < 64
             → (bit_at result k == 1) ≡ holds self.now ((turn + k) % 256) }
     {
-        let word = self.words[(turn / 64) as usize];
-        let next = self.words[(turn / 64 + 1) as usize % 4];
-        joined(word, next, turn % 64)
+        let place = usize::from(turn) / 64;
+        let next = (place + 1) % 4;
+        joined(self.words[place], self.words[next], turn % 64)
     }
 }
 

@@ -16,6 +16,9 @@ loop-place-init c =
     let filled = c.fill.ensures.after (λ y is. is) in
     record {
       every_register = ap length filled ∙ length-replicate {A = Option ℕ} count none ∙ c.told-producers;
+      no_source =
+          ap (λ (xs : List (Option ℕ)). get_or xs 256 None) filled
+          ∙ get_or-replicate {A = Option ℕ} count 256 none None (omega (arith, c.told-producers)) ∙ c.none.ensures.none;
       renamed = λ register within.
           ap (λ (xs : List (Option ℕ)). get_or xs register None) filled
           ∙ get_or-replicate {A = Option ℕ} count register none None (omega (arith, within, c.told-producers)) ∙ c.none.ensures.none;
@@ -76,6 +79,7 @@ loop-place-preserved c =
         ap length set,
         length-with_producer row.registers.destination (if is_done row.mark then None else Some index) old,
       );
+      no_source = c.set_producer.ensures.apart ∙ c.loop-place.invariant.no_source;
       renamed = producers_more turns c.args.from place rows index read row is old new
           (c.loop-place.invariant.every_register) c.loop-place.invariant.renamed set;
       waiting = ap (λ n. c.loop-place.waiting + n) c.from-waiting.ensures

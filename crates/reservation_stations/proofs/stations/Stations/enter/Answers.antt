@@ -28,12 +28,12 @@ enter-requires c =
     λ source. subst (λ n. ForSome (awaited older source) (λ index. index < n)) long (all_awaited c.self.invariant.0 c.self.view_is source)
     in
     record {
-      inside = subst (λ (o : Option ℕ). ForSome o (λ index. index < vec_len c.self.inside.sets.dependents)) (sym (c.awaited-first.ensures.awaited older c.self.invariant.0.each_producer)) (held c.args.registers.now.sources.0);
-      inside_second = subst (λ (o : Option ℕ). ForSome o (λ index. index < vec_len c.self.inside.sets.dependents)) (sym (c.awaited-second.ensures.awaited older c.self.invariant.0.each_producer)) (held c.args.registers.now.sources.1);
+      inside = subst (λ (o : Option ℕ). ForSome o (λ index. index < vec_len c.self.inside.sets.dependents)) (sym (c.awaited-first.ensures.awaited older c.self.invariant.0.each_producer c.self.invariant.0.no_source)) (held c.args.registers.now.sources.0);
+      inside_second = subst (λ (o : Option ℕ). ForSome o (λ index. index < vec_len c.self.inside.sets.dependents)) (sym (c.awaited-second.ensures.awaited older c.self.invariant.0.each_producer c.self.invariant.0.no_source)) (held c.args.registers.now.sources.1);
     }
 
-pub overflow_cast-turn : goal.overflow_cast-turn
-overflow_cast-turn c =
+pub overflow_add-turn : goal.overflow_add-turn
+overflow_add-turn c =
     omega (
       arith,
       room c.self.invariant.0 c.self.view_is c.args.index c.requires.within c.requires.free,
@@ -65,9 +65,10 @@ invariant_of-self c =
     let long : length indices ≡ count = length-indices items retired count in
     let few : length indices < length rows = room c.self.invariant.0 c.self.view_is index c.requires.within c.requires.free in
     let fits : count < 256 = omega (arith, few, long, c.self.invariant.0.limit) in
-    let turn = (retired + count) % 256 in
+    let turn = (c.from.result + count) % 256 in
+    let told : turn ≡ (retired + count) % 256 = ap (λ n. (n + count) % 256) c.from.ensures in
     let behind : indices_from (slice_set items turn index) retired (count + 1) ≡ indices ++ index ∷ [] =
-    indices_entered items retired count turn index c.self.invariant.3 fits refl
+    indices_entered items retired count turn index c.self.invariant.3 fits told
     in
     let row : Row = record {
       registers = c.args.registers.now;
@@ -77,7 +78,7 @@ invariant_of-self c =
     let stations = c.args.self.now.stations in
     let station = station_in index row in
     let many : length stations ≡ count = length_seen c.self.invariant.0 c.self.view_is ∙ long in
-    let there : place_of retired turn ≡ length stations = place_there retired count (omega arith) fits ∙ sym many in
+    let there : place_of retired turn ≡ length stations = ap (place_of retired) told ∙ place_there retired count (omega arith) fits ∙ sym many in
     let old : AreSetsOf (length rows) retired stations c.self.inside.sets =
     seen_sets (length rows) retired c.self.inside.sets (seen (length rows) indices rows) c.args.self.now c.self.invariant.2 c.self.view_is
     in
@@ -86,8 +87,8 @@ invariant_of-self c =
     let entered = c.enter.ensures.entered (length rows) _ _ missed free old in
     let value : record { first = c.awaited-first.result; second = c.awaited-second.result } ≡ missing (reverse stations) (Some station) =
     λ i. record {
-      first = (c.awaited-first.ensures.awaited (stations_at (row_at rows) (reverse indices)) c.self.invariant.0.each_producer ∙ awaited_seen c.self.invariant.0 c.self.view_is c.args.registers.now.sources.0) i;
-      second = (c.awaited-second.ensures.awaited (stations_at (row_at rows) (reverse indices)) c.self.invariant.0.each_producer ∙ awaited_seen c.self.invariant.0 c.self.view_is c.args.registers.now.sources.1) i;
+      first = (c.awaited-first.ensures.awaited (stations_at (row_at rows) (reverse indices)) c.self.invariant.0.each_producer c.self.invariant.0.no_source ∙ awaited_seen c.self.invariant.0 c.self.view_is c.args.registers.now.sources.0) i;
+      second = (c.awaited-second.ensures.awaited (stations_at (row_at rows) (reverse indices)) c.self.invariant.0.each_producer c.self.invariant.0.no_source ∙ awaited_seen c.self.invariant.0 c.self.view_is c.args.registers.now.sources.1) i;
     }
     in
     let now : AreSetsOf (length rows) retired (stations ++ station ∷ []) c.enter.new.self =
@@ -100,10 +101,10 @@ invariant_of-self c =
     in (
       own_tables {capacity = length rows} (rw behind
           (AreTables-entered c.self.invariant.0 c.self.view_is index c.requires.within c.requires.free row c.set_producer.new.producers
-          refl (c.set_producer.ensures.set ∙ ap (λ o. with_producer c.args.registers.now.destination o c.self.inside.producers) c.of.ensures.some))),
+          refl (c.set_producer.ensures.set ∙ ap (λ o. with_producer c.args.registers.now.destination o c.self.inside.producers) c.of.ensures.some) c.set_producer.ensures.apart)),
       rw behind
           (turned_entered retired indices rows index row c.self.invariant.1 within (is_fresh c.self.invariant.0 c.self.view_is index c.requires.within c.requires.free)
-          (omega arith) (omega (arith, fits, long)) (ap (λ n. (retired + n) % 256) (sym long))),
+          (omega arith) (omega (arith, fits, long)) (told ∙ ap (λ n. (retired + n) % 256) (sym long))),
       rw (behind, length-set rows index row) own,
       length-set items turn index ∙ c.self.invariant.3,
     )
@@ -120,12 +121,12 @@ returns c =
     let row : Row = record {
       registers = c.args.registers.now;
       mark = Waiting;
-      turn = (retired + count) % 256;
+      turn = (c.from.result + count) % 256;
     } in
     let new = slice_set rows c.args.index row in
     let now = indices_from (slice_set items row.turn c.args.index) retired (count + 1) in
     record {
       entered = own_seen (length rows) now new (length-set rows c.args.index row)
-          (ap (λ xs. seen (length rows) xs new) (indices_entered items retired count row.turn c.args.index c.self.invariant.3 fits refl)
+          (ap (λ xs. seen (length rows) xs new) (indices_entered items retired count row.turn c.args.index c.self.invariant.3 fits (ap (λ n. (n + count) % 256) c.from.ensures))
           ∙ seen-entered c.self.invariant.0 c.self.view_is c.args.index c.requires.within c.requires.free row);
     }

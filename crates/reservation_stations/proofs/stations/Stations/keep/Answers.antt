@@ -53,13 +53,13 @@ invariant_of-self c =
     let indices = indices_from items retired count in
     let few : kept ≤ count = omega (arith, c.requires.within, length_seen c.self.invariant.0 c.self.view_is, length-indices items retired count) in
     let now : indices_from items retired kept ≡ take kept indices = indices_front items retired kept count few in
-    let every : length table ≡ 256 = c.rename-self-inside.ensures.every_register in
+    let every : length table ≡ 258 = c.rename-self-inside.ensures.every_register in
     let live = c.turns_from.result in
     let taken : take kept (stations_at (row_at rows) indices) ≡ stations_at (row_at rows) (indices_from items retired kept) =
     take-map (λ s. station_in s (row_at rows s)) kept indices ∙ ap (stations_at (row_at rows)) (sym now)
     in (
       rw now
-          (AreTables-kept c.self.invariant.0 kept table c.rename-self-inside.result every
+          (AreTables-kept c.self.invariant.0 kept table c.rename-self-inside.result every c.rename-self-inside.ensures.no_source
           (subst (λ (xs : List ℕ). AreProducers table (stations_at (row_at rows) (reverse xs))) now c.rename-self-inside.ensures.renamed)
           (c.rename-self-inside.ensures.waiting ∙ ap (λ xs. waiting_count (stations_at (row_at rows) xs)) now)),
       rw now (turned_kept retired kept indices rows c.self.invariant.1),

@@ -52,7 +52,7 @@ invariant_of-self c =
     let turned = turned_retired retired index rest rows (subst (λ (xs : List ℕ). AreTurned retired xs rows) first c.self.invariant.1) (omega arith) in
     rw now (
       AreTables-retired c.self.invariant.0 c.self.view_is index c.requires.oldest row c.index.ensures c.drop_producer.new.producers
-          c.uncounted-self-inside.result c.drop_producer.ensures.dropped c.uncounted-self-inside.ensures.left,
+          c.uncounted-self-inside.result c.drop_producer.ensures.dropped c.drop_producer.ensures.apart c.uncounted-self-inside.ensures.left,
       turned,
       AreSets-retired index rest rows keeps retired (omega arith) few (c.retire.ensures.retired (length rows) _ _ _ old),
       c.self.invariant.3,

@@ -82,7 +82,7 @@ invariant_of-self-else-faulted c =
     let dropped : c.drop_producer.new.producers ≡ table (row_at rows index) = c.drop_producer.ensures.dropped ∙ ap table its in
     let others : (other : ℕ) → other ≢ index → one index other ≡ false = λ other differ. ne_eqb other index differ in (
       own_tables (AreTables-told c.self.invariant.0 c.self.view_is index Issued Done c.requires.issued row c.index_mut-else-faulted.ensures.value
-          c.drop_producer.new.producers dropped (sym (eq-eqb index index refl)) refl),
+          c.drop_producer.new.producers dropped c.drop_producer.ensures.apart (sym (eq-eqb index index refl)) refl),
       turned_marked retired indices rows index (record row { mark = Done }) c.self.invariant.1 held.0 (ap (λ (e : Row). e.turn) read),
       AreSets-marked c.self.invariant.0 c.self.view_is index Issued Done c.requires.issued row c.index_mut-else-faulted.ensures.value retired (omega arith) c.self.invariant.1
           c.index.result.now.turn (omega arith) own (one index) others (sym (eq-eqb index index refl))
