@@ -29,3 +29,4 @@ pub mod Trails
 pub mod Undone
 pub mod Unmaking
 pub mod Walking
+pub mod Written

@@ -10,14 +10,14 @@ use Rattle.mono_model.specs.Arch.{Arch, compare_of}
 use Rattle.func_model.specs.declared.hart.Hart.{Hart}
 use Rattle.device_bus.specs.Bus.{Devices}
 use Rattle.func_model.specs.Hart.{arch_of}
-use Rattle.func_model.specs.Undo.{undone, all_undone, registers_back, all_registers_back, memory_back, csrs_back, devices_back, uncounted, shortened}
+use Rattle.func_model.specs.Undo.{undone, all_undone, register_in, registers_back, all_registers_back, memory_back, csrs_back, devices_back, uncounted, shortened}
 
 -- one of them
-one_undone : (range : RamRange) (past : Past) (a : Arch) → IsPlain past → undone range past a ≡ record a { pc = past.addr; regs = registers_back past.reg a.regs; csrs = uncounted a.csrs }
+one_undone : (range : RamRange) (past : Past) (a : Arch) → IsPlain past → undone range past a ≡ record a { pc = past.addr; regs = registers_back (register_in past) a.regs; csrs = uncounted a.csrs }
 unfolding undone
 one_undone range past a plain = λ i. record a {
   pc = past.addr;
-  regs = registers_back past.reg a.regs;
+  regs = registers_back (register_in past) a.regs;
   ram = memory_back range (plain.nothing i) a.ram;
   csrs = csrs_back (plain.nothing i) a.csrs;
   devices = devices_back (plain.nothing i) a.devices;
@@ -76,7 +76,7 @@ putting_start steps hart =
     }
 
 pub putting_more : (steps : List Past) (left : ℕ) (opened hart next : Hart) (d : Past) → Putting steps left opened hart → 0 < left → IsPlain (get_or steps (left - 1) d) →
-    numbered next ≡ registers_back (get_or steps (left - 1) d).reg (numbered hart) → next ≡ record hart { regs = next.regs } → Putting steps (left - 1) opened next
+    numbered next ≡ registers_back (register_in (get_or steps (left - 1) d)) (numbered hart) → next ≡ record hart { regs = next.regs } → Putting steps (left - 1) opened next
 putting_more steps left opened hart next d at some plain regs others =
     let past = get_or steps (left - 1) d in
     let behind : left - 1 + 1 ≡ left = omega arith in
@@ -85,7 +85,7 @@ putting_more steps left opened hart next d at some plain regs others =
     record {
       within = omega (arith, at.within);
       plain = All-same IsPlain (drop (left - 1) steps) (past ∷ drop left steps) front (All-cons IsPlain past (drop left steps) plain at.plain);
-      regs = regs ∙ ap (registers_back past.reg) at.regs ∙ ap (λ (later : List Past). all_registers_back later (numbered opened)) (sym front);
+      regs = regs ∙ ap (registers_back (register_in past)) at.regs ∙ ap (λ (later : List Past). all_registers_back later (numbered opened)) (sym front);
       others = others ∙ ap (λ (h : Hart). record h { regs = next.regs }) at.others;
     }
 

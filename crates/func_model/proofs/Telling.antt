@@ -1,5 +1,5 @@
 -- What is told of an instruction that was executed is its entry, and its undo step takes it back.
-use Rattle.std.proofs.Common.{◌≡◌, ℕ, ◌&&◌, Bool, Option, is_none, refl, ap, ◌∙◌}
+use Rattle.std.proofs.Common.{◌≡◌, ℕ, ◌&&◌, Bool, Option, slice_index, is_none, refl, ap, ◌∙◌}
 use Rattle.fsim_base.specs.declared.instruction.Class.{Class}
 use Rattle.device_bus.specs.Bus.{Devices}
 use Rattle.mono_model.specs.declared.setup.Setup.{Setup}
@@ -10,11 +10,13 @@ use Rattle.mono_model.specs.Sequence.{entry_at}
 use Rattle.func_model.specs.declared.contents.Named.{Named}
 use Rattle.func_model.specs.declared.found.Decoded.{Decoded}
 use Rattle.func_model.specs.declared.hart.Hart.{Hart}
+use Rattle.func_model.specs.declared.performed.OldRegister.{OldRegister}
 use Rattle.func_model.specs.declared.performed.Performed.{Performed}
 use Rattle.func_model.specs.Hart.{arch_of, DecodedFits}
 use Rattle.func_model.specs.Undo.{past_of}
 use Rattle.func_model.specs.Telling.{named_at, named_by, entry_by, past_by}
 use Rattle.func_model.proofs.Stepping.{Executed, entry_told}
+use Rattle.func_model.proofs.Written.{before_written}
 
 -- an instruction is named by what is read off it
 pub named_found : (hart : Hart) (found : Found) (word : ℕ) (class : Class) (destination : Option ℕ) (number epoch : ℕ) (named : Named) →
@@ -26,6 +28,16 @@ pub named_known : (hart : Hart) (decoded : Decoded) (number epoch : ℕ) (named 
     DecodedFits decoded → named ≡ named_at hart (known decoded.word decoded.insn) number epoch
 named_known hart decoded number epoch named is fits =
     named_found hart (known decoded.word decoded.insn) decoded.word decoded.class decoded.destination number epoch named is refl fits.class fits.destination
+
+-- the same where its register is told by a number
+pub named_written : (hart : Hart) (decoded : Decoded) (number epoch value : ℕ) → value ≡ slice_index hart.regs decoded.written → DecodedFits decoded →
+    record { number = number; epoch = epoch; addr = hart.pc; word = decoded.word; class = decoded.class; value = value; register = decoded.written }
+    ≡ named_at hart (known decoded.word decoded.insn) number epoch
+named_written hart decoded number epoch value is fits =
+    let held : OldRegister → Named = λ was. record { number = number; epoch = epoch; addr = hart.pc; word = decoded.word; class = decoded.class; value = was.value; register = was.register } in
+    (λ i. held (record { register = decoded.written; value = is i }))
+    ∙ ap held (before_written decoded.destination decoded.written (λ r. slice_index hart.regs r) fits.written)
+    ∙ named_known hart decoded number epoch (named_by hart decoded.word decoded.class decoded.destination number epoch) refl fits
 
 pub told_entry : (s : Setup) (time : Option ℕ) (limit number epoch : ℕ) (a : Arch) (found : Found) (done : Performed) (hart behind : Hart) (d e : Devices) (named : Named) (unserved : Bool) (cmp : ℕ) →
     Executed s time limit a found done (arch_of behind e) → arch_of hart d ≡ a → named ≡ named_at hart found number epoch → unserved ≡ (is_time_read found done.access && is_none time) →

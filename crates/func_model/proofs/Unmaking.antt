@@ -28,9 +28,9 @@ resumed_back number was a pc trap =
 
 -- the number of an instruction doesn't matter where it is taken back
 pub numberless : (range : RamRange) (past : Past) (sent : Option ℕ) (a : Arch) → past.out ≡ is_some sent →
-    undone range (record { number = 0; addr = past.addr; out = is_some sent; reg = past.reg; change = past.change }) a ≡ undone range past a
+    undone range (record { number = 0; addr = past.addr; out = is_some sent; value = past.value; register = past.register; change = past.change }) a ≡ undone range past a
 unfolding undone
-numberless range past sent a out = ap (λ (o : Bool). undone range (record { number = 0; addr = past.addr; out = o; reg = past.reg; change = past.change }) a) (sym out)
+numberless range past sent a out = ap (λ (o : Bool). undone range (record { number = 0; addr = past.addr; out = o; value = past.value; register = past.register; change = past.change }) a) (sym out)
 
 -- what is told of the step, by the entry of its instruction
 pub made_is : (s : Setup) (number : ℕ) (a : Arch) (entry : Entry) (made : Made) → entry ≡ entry_at s (Some number) (before number a) number 0 → made.has_sent ≡ is_some entry.out → made.halt ≡ entry.halt →

@@ -21,6 +21,11 @@ found_in (code.Refused cause) = refused cause
 found_in (code.Unknown word) = unknown word
 found_in (code.Known decoded) = known decoded.word decoded.insn
 
+-- a register that is written, by its number, which is 0 where none is
+abbrev pub IsWritten : Option ℕ → ℕ → Type 0
+IsWritten None number = number ≡ 0
+IsWritten (Some register) number = (number ≡ register) × (0 < register)
+
 -- an instruction is one that some word spells, and what is kept with it is what is read off it
 pub record DecodedFits (decoded : Decoded) : Type 0 where
   pub fits : Fits decoded.insn
@@ -30,6 +35,8 @@ pub record DecodedFits (decoded : Decoded) : Type 0 where
   pub first_exists : decoded.first < 32
   pub second_exists : decoded.second < 32
   pub destination : decoded.destination ≡ dest_of decoded.insn
+  pub written : IsWritten decoded.destination decoded.written
+  pub written_exists : decoded.written < 32
   pub class : decoded.class ≡ class_of decoded.insn
 
 -- so is an instruction that was found

@@ -58,7 +58,8 @@ instruction_in past = record {
   number = 0;
   addr = past.addr;
   out = is_some past.sent;
-  reg = past.reg;
+  value = past.reg.value;
+  register = past.reg.register;
   change = past.change;
 }
 

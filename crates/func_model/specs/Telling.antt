@@ -17,7 +17,8 @@ named_by hart word class destination number epoch = record {
   addr = hart.pc;
   word = word;
   class = class;
-  reg = register_before destination (λ r. slice_index hart.regs r);
+  value = (register_before destination (λ r. slice_index hart.regs r)).value;
+  register = (register_before destination (λ r. slice_index hart.regs r)).register;
 }
 
 -- what stands at the next address of a hart, with its number and epoch
@@ -44,4 +45,4 @@ entry_by named done unserved behind cmp = record {
 
 -- its undo step
 abbrev pub past_by : Named → Performed → Past
-past_by named done = record { number = named.number; addr = named.addr; out = is_some done.sent; reg = named.reg; change = done.change }
+past_by named done = record { number = named.number; addr = named.addr; out = is_some done.sent; value = named.value; register = named.register; change = done.change }

@@ -7,7 +7,6 @@ use Rattle.phys_mem.specs.Ram.{stored}
 use Rattle.device_bus.specs.Undo.{NamesSlot}
 use Rattle.device_bus.specs.Bus.{Devices, kind_at, devices_undone}
 use Rattle.undo_journal.specs.declared.past.Past.{Past}
-use Rattle.undo_journal.specs.declared.past.OldRegister.{OldRegister}
 use Rattle.undo_journal.specs.declared.past.Change.{Change}
 use Rattle.undo_journal.specs.declared.past.Change.TheVariants.{Nothing, Memory, Device, Trap, Csr}
 use Rattle.undo_journal.specs.declared.past.OldTrap.{OldTrap}
@@ -16,6 +15,7 @@ use Rattle.undo_journal.specs.declared.past.OldCsr.TheVariants.{Flags, Mtvec, Ms
 use Rattle.mono_model.specs.Arch.{Arch, with_register}
 use Rattle.mono_model.specs.Found.{Found, destination_in}
 use Rattle.fsim_base.specs.declared.instruction.Halt.{Halt}
+use Rattle.func_model.specs.declared.performed.OldRegister.{OldRegister}
 use Rattle.func_model.specs.declared.performed.Performed.{Performed}
 use Rattle.func_model.specs.declared.performed.Stepped.{Stepped}
 use Rattle.func_model.specs.declared.performed.Stepped.TheVariants.{On, Full, Ended}
@@ -23,6 +23,10 @@ use Rattle.func_model.specs.declared.performed.Stepped.TheVariants.{On, Full, En
 -- the registers with one set back
 abbrev pub registers_back : OldRegister → (ℕ → ℕ) → (ℕ → ℕ)
 registers_back was regs = with_register (Some was.register) was.value regs
+
+-- the register that an undo step names, with its value
+abbrev pub register_in : Past → OldRegister
+register_in past = record { register = past.register; value = past.value }
 
 -- RAM with the bytes of a store put back
 abbrev pub memory_back : RamRange → Change → (ℕ → ℕ) → (ℕ → ℕ)
@@ -95,7 +99,7 @@ changed_back range change a = record a {
 unfoldable pub undone : RamRange → Past → Arch → Arch
 undone range past a = record {
   pc = past.addr;
-  regs = registers_back past.reg a.regs;
+  regs = registers_back (register_in past) a.regs;
   ram = memory_back range past.change a.ram;
   text = a.text;
   csrs = csrs_back past.change a.csrs;
@@ -110,7 +114,7 @@ all_undone range (past ∷ later) a = undone range past (all_undone range later 
 
 abbrev pub all_registers_back : List Past → (ℕ → ℕ) → (ℕ → ℕ)
 all_registers_back [] regs = regs
-all_registers_back (past ∷ later) regs = registers_back past.reg (all_registers_back later regs)
+all_registers_back (past ∷ later) regs = registers_back (register_in past) (all_registers_back later regs)
 
 -- what a change names exists: a store is aligned, and a device has the slot that is named
 abbrev pub IsRestorableChange : Change → Type 0
@@ -122,7 +126,7 @@ IsRestorableChange (Csr was) = Unit {0}
 
 -- what an undo step names exists
 pub record IsRestorable (past : Past) : Type 0 where
-  pub register : past.reg.register < 32
+  pub register : past.register < 32
   pub change : IsRestorableChange past.change
 
 -- an instruction was executed, unless the output had no room for its byte
@@ -156,7 +160,8 @@ abbrev pub past_of : ℕ → Found → Arch → Performed → Past
 past_of number found a done = record {
   number = number;
   addr = a.pc;
-  reg = register_before (destination_in found) a.regs;
+  value = (register_before (destination_in found) a.regs).value;
+  register = (register_before (destination_in found) a.regs).register;
   change = done.change;
   out = is_some done.sent;
 }

@@ -10,14 +10,14 @@ ghost use Rattle.func_model.specs.Undo.{ended_in, is_device};
 use crate::found::Fetched;
 use crate::hart::{Hart, StoreAccess, compare, plain, trap_before};
 use crate::memory::Memory;
-use crate::performed::{Interrupted, Made, PastStep, Performed, Stepped};
+use crate::performed::{Interrupted, Made, OldRegister, PastStep, Performed, Stepped};
 use device_bus::{Bus, Device};
 use fsim_base::{Access, Class, Halt, NoMemory, RamRange, Spot, Width};
 use machine_csr::Csrs;
 use mono_model::{End, Final, Setup, Stats, end_of};
 use std::alloc::Global;
 use trace_entry::Entry;
-use undo_journal::{Change, OldRegister, Past};
+use undo_journal::{Change, Past};
 
 /// The cause number of the machine timer interrupt: the interrupt bit and code 7.
 const TIMER_INTERRUPT: u32 = 0x8000_0007;
@@ -60,7 +60,8 @@ fn is_unserved(fetched: Fetched, access: Access, time: Option<u64>) -> bool
 fn takes_interrupts(csrs: &Csrs) -> bool
     ensures on { result ≡ (csrs.now.mie && csrs.now.mtie) }
 {
-    csrs.mie && csrs.mtie
+    // Without a branch, so that an entry's fields are read together.
+    csrs.mie & csrs.mtie
 }
 
 /// mtimecmp behind a change, in cycles, with what it was before.
@@ -81,19 +82,22 @@ struct Named {
     addr: u32,
     word: u32,
     class: Class,
-    /// The register that it writes, as it is before.
-    reg: OldRegister,
+    /// What the register that it writes holds before.
+    value: u32,
+    /// The number of that register; 0 where it writes none.
+    register: u8,
 }
 
 /// What a functional side holds of the machine: the hart with its memory and output, and the
 /// devices.
 #[derive(Drop)]
 pub struct Contents<D: Device> {
+    /// mtimecmp, in cycles, as each entry tells it: asked of the devices anew only where one of
+    /// them was accessed. It stands first, beside the epoch of a walk, so that the host copies both
+    /// into an entry at once.
+    pub cmp: u64,
     pub hart: Hart,
     pub bus: Bus<D>,
-    /// mtimecmp, in cycles, as each entry tells it: asked of the devices anew only where one of
-    /// them was accessed.
-    pub cmp: u64,
 }
 
 impl<D: Device> Contents<D> {
@@ -162,8 +166,8 @@ impl<D: Device> Contents<D> {
         let Some(outcome) = self.hart.computed(decoded) else {
             return false;
         };
-        let destination = decoded.destination;
-        self.hart.finish(destination, outcome.value, outcome.next);
+        let register = decoded.written;
+        self.hart.finish_kept(register, outcome.value, outcome.next);
         true
     }
 
@@ -365,7 +369,7 @@ impl<D: Device> Contents<D> {
             room,
         };
         let cmp = compare(&bus);
-        Ok(Contents { hart, bus, cmp })
+        Ok(Contents { cmp, hart, bus })
     }
 
     /// What stands at the next address, as its entry and its undo step name it.
@@ -381,13 +385,15 @@ impl<D: Device> Contents<D> {
         requires exists { IsRegister destination }
         ensures named { result ≡ named_by self.now.hart word class destination number epoch }
     {
+        let before = self.hart.before(destination);
         Named {
             number,
             epoch,
             addr: self.hart.pc,
             word,
             class,
-            reg: self.hart.before(destination),
+            value: before.value,
+            register: before.register,
         }
     }
 
@@ -415,7 +421,8 @@ impl<D: Device> Contents<D> {
         let past = Past {
             number: named.number,
             addr: named.addr,
-            reg: named.reg,
+            value: named.value,
+            register: named.register,
             change: done.change,
             out: done.sent.is_some(),
         };
@@ -424,15 +431,15 @@ impl<D: Device> Contents<D> {
 
     /// Executes the instruction at the next address, with its number and epoch, where it is kept
     /// and changes at most a register and the next address: what is told of it, and what takes it
-    /// back. None, and nothing done, of any other.
+    /// back. None, and nothing done, of any other. The epoch is read last, beside mtimecmp.
     #[inline(always)]
-    pub fn compute(&mut self, number: u64, epoch: u64) -> Option<(Entry, Past)>
+    pub fn compute(&mut self, number: u64, epoch: &u64) -> Option<(Entry, Past)>
         requires count { retired_in self.old < 2 ^ 64 - 1 }
         ensures none { IfNone result (self.new ≡ self.old) }
         ensures stands { IfSome result (λ told. (s : Setup) (time : Option ℕ) (a : Arch)
             → ContentsStandFor s a self.old → ContentsStandFor s (seq s time a) self.new) }
         ensures entry { IfSome result (λ told. (s : Setup) (time : Option ℕ) (a : Arch)
-            → ContentsStandFor s a self.old → told.0 ≡ entry_at s time a number epoch) }
+            → ContentsStandFor s a self.old → told.0 ≡ entry_at s time a number epoch.now) }
         ensures back { IfSome result (λ told. (s : Setup) (time : Option ℕ) (a : Arch)
             → ContentsStandFor s a self.old
             → undone (ram_range s.params) told.1 (seq s time a) ≡ a) }
@@ -445,9 +452,19 @@ impl<D: Device> Contents<D> {
     {
         let decoded = self.hart.known()?;
         let outcome = self.hart.computed(decoded)?;
-        let destination = decoded.destination;
-        let named = self.named(decoded.word, decoded.class, destination, number, epoch);
-        self.hart.finish(destination, outcome.value, outcome.next);
+        let (word, class, register) = (decoded.word, decoded.class, decoded.written);
+        let addr = self.hart.pc;
+        let value = self.hart.register(register);
+        self.hart.finish_kept(register, outcome.value, outcome.next);
+        let named = Named {
+            number,
+            epoch: *epoch,
+            addr,
+            word,
+            class,
+            value,
+            register,
+        };
         Some(self.told(named, plain(Change::Nothing), false))
     }
 
@@ -622,7 +639,10 @@ impl<D: Device> Contents<D> {
             past: PastStep {
                 addr: past.addr,
                 sent: entry.out,
-                reg: past.reg,
+                reg: OldRegister {
+                    register: past.register,
+                    value: past.value,
+                },
                 change: past.change,
                 interrupted,
             },
@@ -649,11 +669,14 @@ impl<D: Device> Contents<D> {
         if self.hart.known()?.is_fence_i() {
             return None;
         }
-        let (_, past) = self.compute(number, 0)?;
+        let (_, past) = self.compute(number, &0)?;
         Some(PastStep {
             addr: past.addr,
             sent: None,
-            reg: past.reg,
+            reg: OldRegister {
+                register: past.register,
+                value: past.value,
+            },
             change: past.change,
             interrupted: None,
         })

@@ -24,6 +24,8 @@ pub struct Decoded {
     pub second: u8,
     /// The register that it writes.
     pub destination: Option<u8>,
+    /// The same, and x0 where it writes none.
+    pub written: u8,
     /// The unit that it waits for.
     pub class: Class,
 }
@@ -38,6 +40,7 @@ impl Decoded {
         ensures first { result.first ≡ unwrap_or (sources_of insn).0 0 }
         ensures second { result.second ≡ unwrap_or (sources_of insn).1 0 }
         ensures destination { result.destination ≡ dest_of insn }
+        ensures written { result.written ≡ unwrap_or (dest_of insn) 0 }
         ensures class { result.class ≡ class_of insn }
     {
         let (first, second) = insn.sources();
@@ -48,6 +51,7 @@ impl Decoded {
             first: first.unwrap_or(0),
             second: second.unwrap_or(0),
             destination: insn.dest(),
+            written: insn.dest().unwrap_or(0),
             class: insn.class(),
         }
     }

@@ -13,14 +13,14 @@ ghost use Rattle.rv_exec.specs.Load.{loaded_value};
 
 use crate::found::{Decoded, Fetched};
 use crate::memory::Memory;
-use crate::performed::{Performed, Stepped};
+use crate::performed::{OldRegister, Performed, Stepped};
 use device_bus::{Bus, Device, Note};
 use fsim_base::{Access, Cause, Spot, Width, wrap_add};
 use machine_csr::address::{MCAUSE, MEPC, MSCRATCH, MTVAL, MTVEC};
 use machine_csr::{CsrWrite, Csrs, reads_time};
 use rv_decode::Insn;
 use rv_exec::{Outcome, Reach, eval, extend};
-use undo_journal::{Change, OldCsr, OldRegister, OldTrap, Past};
+use undo_journal::{Change, OldCsr, OldTrap, Past};
 
 /// The registers, memory and output of the hart, changed in place by each instruction.
 #[derive(Drop)]
@@ -238,11 +238,11 @@ impl Hart {
     ghost use Rattle.func_model.specs.Steps.{behind, result_of, plain_outcome, Told, load_with};
     ghost use Rattle.func_model.specs.Steps.{store_with};
     ghost use Rattle.func_model.specs.Hart.{found_in, DecodedFits, FetchedFits, found_by};
-    ghost use Rattle.func_model.specs.Hart.{arch_of, next_found, IsRegister};
+    ghost use Rattle.func_model.specs.Hart.{arch_of, next_found, IsRegister, IsWritten};
     ghost use Rattle.func_model.specs.Undo.{undone, TakesBack, IsRestorable, IsRestorableChange};
     ghost use Rattle.func_model.specs.Undo.{IsOfLoad, uncounted, devices_back, changed_back};
     ghost use Rattle.func_model.specs.Undo.{register_before, trap_back, all_undone};
-    ghost use Rattle.func_model.specs.Undo.{registers_back, all_registers_back};
+    ghost use Rattle.func_model.specs.Undo.{all_registers_back};
     ghost use Rattle.fsim_base.specs.declared.access.RamRange.{RamRange};
     ghost use Rattle.undo_journal.specs.declared.past.Change.TheVariants.{Csr};
     ghost use Rattle.undo_journal.specs.Journal.{IsPlain};
@@ -269,7 +269,7 @@ impl Hart {
     }
 
     /// The value of a register.
-    fn register(&self, number: u8) -> u32
+    pub fn register(&self, number: u8) -> u32
         requires exists { number < 32 }
         ensures value { result ≡ slice_index self.now.regs number }
     {
@@ -348,6 +348,37 @@ impl Hart {
         ensures output { self.new.output ≡ self.old.output }
     {
         self.write(destination, value);
+        self.pc = next;
+        self.csrs.retired += 1;
+    }
+
+    /// Writes a register, where it isn't x0: that is written back, which takes the host less than a
+    /// test.
+    fn write_kept(&mut self, register: u8, value: u32)
+        requires exists { register < 32 }
+        ensures regs { (λ r. slice_index self.new.regs r)
+            ≡ with_register (Some 0) (slice_index self.old.regs 0)
+            (with_register (Some register) value (λ r. slice_index self.old.regs r)) }
+        ensures others { self.new ≡ record self.old { regs = self.new.regs } }
+    {
+        let zero = self.regs[0];
+        self.regs[register as usize] = value;
+        self.regs[0] = zero;
+    }
+
+    /// Retires an instruction, as `finish` does, by the number of its register, which is 0 where it
+    /// writes none.
+    #[tactic(auto, unfolding(crate::specs::Hart::arch_of))]
+    pub fn finish_kept(&mut self, register: u8, value: u32, next: u32)
+        requires exists { register < 32 }
+        requires count { self.old.csrs.retired < 2 ^ 64 - 1 }
+        ensures arch { (destination : Option ℕ) (d : Devices) → IsWritten destination register
+            → arch_of self.new d ≡ finished destination value next (arch_of self.old d) }
+        ensures memory { self.new.memory ≡ self.old.memory }
+        ensures room { self.new.room ≡ self.old.room }
+        ensures output { self.new.output ≡ self.old.output }
+    {
+        self.write_kept(register, value);
         self.pc = next;
         self.csrs.retired += 1;
     }
@@ -987,13 +1018,13 @@ impl Hart {
 
     /// Puts back what a register was.
     #[inline(always)]
-    fn put_register(&mut self, before: OldRegister)
-        requires exists { before.register < 32 }
+    fn put_register(&mut self, register: u8, value: u32)
+        requires exists { register < 32 }
         ensures regs { (λ r. slice_index self.new.regs r)
-            ≡ registers_back before (λ r. slice_index self.old.regs r) }
+            ≡ with_register (Some register) value (λ r. slice_index self.old.regs r) }
         ensures others { self.new ≡ record self.old { regs = self.new.regs } }
     {
-        self.regs[before.register as usize] = before.value;
+        self.regs[register as usize] = value;
     }
 
     /// Puts back the registers of instructions, the last one first, as far as their undo steps are
@@ -1010,7 +1041,8 @@ impl Hart {
         let mut left = steps.len();
         while left > 0 && steps[left - 1].is_plain() {
             left -= 1;
-            self.put_register(steps[left].reg);
+            let past = &steps[left];
+            self.put_register(past.register, past.value);
         }
         left
     }
@@ -1050,7 +1082,7 @@ impl Hart {
         if past.out {
             self.output.truncate(self.output.len().saturating_sub(1));
         }
-        self.regs[past.reg.register as usize] = past.reg.value;
+        self.regs[past.register as usize] = past.value;
         self.pc = past.addr;
         self.take_back(bus, past.change);
     }

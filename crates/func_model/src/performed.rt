@@ -1,5 +1,5 @@
 use fsim_base::{Access, Cause, Halt};
-use undo_journal::{Change, OldRegister, OldTrap, Past};
+use undo_journal::{Change, OldTrap, Past};
 
 /// How an instruction leaves the run.
 #[derive(Clone, Copy, Debug, PartialEq, Eq)]
@@ -24,6 +24,15 @@ pub struct Performed {
     pub cause: Option<Cause>,
     /// What it changed beside its register.
     pub change: Change,
+}
+
+/// The value of a register before an instruction that writes it.
+#[derive(Clone, Copy, Debug, PartialEq, Eq)]
+pub struct OldRegister {
+    /// The number of the register.
+    pub register: u8,
+    /// Its value.
+    pub value: u32,
 }
 
 /// What a timer interrupt changes, as it was before.
@@ -60,7 +69,8 @@ impl PastStep {
             number: 0,
             addr: self.addr,
             out: self.sent.is_some(),
-            reg: self.reg,
+            value: self.reg.value,
+            register: self.reg.register,
             change: self.change,
         }
     }

@@ -13,14 +13,14 @@ use undo_journal::{Journal, Past};
 /// what is committed.
 #[derive(Drop)]
 pub struct Walk<D: Device> {
+    /// How many orders that open an epoch were obeyed. It stands beside the contents' mtimecmp.
+    pub epoch: u64,
     pub contents: Contents<D>,
     pub journal: Journal,
     /// The number of the next instruction.
     pub position: u64,
     /// The number of the first instruction that isn't committed.
     pub committed: u64,
-    /// How many orders that open an epoch were obeyed.
-    pub epoch: u64,
     /// An instruction, by its number, and the time that it was given.
     pub given: Option<(u64, u64)>,
     pub is_stopped: bool,
@@ -56,11 +56,11 @@ impl<D: Device> Walk<D> {
         let journal = Journal::with_room(alloc, ahead)?;
         let contents = Contents::new(alloc, setup, ahead, devices)?;
         Ok(Walk {
+            epoch: 0,
             contents,
             journal,
             position: 0,
             committed: 0,
-            epoch: 0,
             given: None,
             is_stopped: false,
             limit: setup.output,
@@ -130,7 +130,7 @@ impl<D: Device> Walk<D> {
         ensures unchanged { result ≡ false → self.new ≡ self.old }
         ensures unwritten { result ≡ false → to.new ≡ to.old }
     {
-        let Some((made, past)) = self.contents.compute(self.position, self.epoch) else {
+        let Some((made, past)) = self.contents.compute(self.position, &self.epoch) else {
             return false;
         };
         *to = made;

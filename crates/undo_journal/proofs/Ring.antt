@@ -33,7 +33,7 @@ onward n first gone i at le within = elim (around n (first + gone) (omega arith)
 
 -- a place that nothing was written to yet
 pub blank : Past
-blank = record { number = 0; addr = 0; out = false; reg = record { register = 0; value = 0 }; change = Nothing }
+blank = record { number = 0; addr = 0; value = 0; register = 0; out = false; change = Nothing }
 
 module _ (places : List Past) (n : ℕ) (long : length places ≡ n) where
   both : length (places ++ places) ≡ n + n

@@ -6,7 +6,7 @@ mod past;
 mod place;
 
 pub use journal::Journal;
-pub use past::{Change, OldCsr, OldRegister, OldTrap, Past};
+pub use past::{Change, OldCsr, OldTrap, Past};
 
 #[cfg(test)]
 mod tests;

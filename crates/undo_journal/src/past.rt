@@ -4,15 +4,6 @@ ghost use Rattle.undo_journal.specs.Journal.{IsPlain};
 use device_bus::DevUndo;
 use fsim_base::Width;
 
-/// The value of a register before an instruction that writes it.
-#[derive(Clone, Copy, Debug, PartialEq, Eq)]
-pub struct OldRegister {
-    /// The number of the register.
-    pub register: u8,
-    /// Its value.
-    pub value: u32,
-}
-
 /// What an instruction changed beside its register, with what takes that back.
 #[derive(Clone, Copy, Debug, PartialEq, Eq)]
 pub enum Change {
@@ -62,9 +53,11 @@ pub struct Past {
     pub number: u64,
     /// The instruction's address.
     pub addr: u32,
-    /// The register that it writes, with its value before, also where it traps; x0 where it has
-    /// none.
-    pub reg: OldRegister,
+    /// What the register that it writes held before, also where it traps. It is no struct with the
+    /// register's number, which the host would put together in one of its own registers first.
+    pub value: u32,
+    /// The number of that register; 0 where it writes none.
+    pub register: u8,
     // The fields from here on are empty for most instructions: they stand side by side, so that the
     // host writes them together.
     /// Whether it sent a byte to the output.
@@ -78,10 +71,8 @@ impl Past {
     pub const BLANK: Past = Past {
         number: 0,
         addr: 0,
-        reg: OldRegister {
-            register: 0,
-            value: 0,
-        },
+        value: 0,
+        register: 0,
         out: false,
         change: Change::Nothing,
     };

@@ -1,6 +1,6 @@
 ghost use Rattle.std.specs.Prelude.{◌≡◌, ◌+◌, ◌<◌, length, All};
 
-use crate::{Change, Journal, OldCsr, OldRegister, OldTrap, Past};
+use crate::{Change, Journal, OldCsr, OldTrap, Past};
 use device_bus::DevUndo;
 use fsim_base::Width;
 use std::test::Fail;
@@ -39,10 +39,8 @@ fn past(number: u64) -> Past
     Past {
         number,
         addr: 0x8000_0010,
-        reg: OldRegister {
-            register: 5,
-            value: 0x1111_1111,
-        },
+        value: 0x1111_1111,
+        register: 5,
         change: change(number),
         out: number % 2 == 0,
     }

@@ -7,6 +7,7 @@ use Rattle.rv_decode.specs.Fits.{Fits}
 use Rattle.rv_decode.proofs.Spelled.{spelled_fits}
 use Rattle.func_model.specs.Hart.{found_by}
 use Rattle.func_model.proofs.Bare.{registers_exist}
+use Rattle.func_model.proofs.Written.{kept_told}
 use Rattle.func_model.proofs.memory.keep.Goals as goal
 
 -- a word spells the instruction that was decoded
@@ -30,6 +31,8 @@ returns-clause-text c = λ was.
         first_exists = subst (λ n. n < 32) (sym c.new.ensures.first) (registers_exist c.in-Some-decode.insn fits).first;
         second_exists = subst (λ n. n < 32) (sym c.new.ensures.second) (registers_exist c.in-Some-decode.insn fits).second;
         destination = c.new.ensures.destination ∙ ap dest_of (sym c.new.ensures.insn);
+        written = (kept_told c.in-Some-decode.insn _ _ fits c.new.ensures.destination c.new.ensures.written).written;
+        written_exists = (kept_told c.in-Some-decode.insn _ _ fits c.new.ensures.destination c.new.ensures.written).exists;
         class = c.new.ensures.class ∙ ap class_of (sym c.new.ensures.insn);
       };
     }
