@@ -99,21 +99,17 @@ impl InorderSide {
         Taken::Used
     }
 
-    /// Takes the entry that arrives next, where one is needed, and makes the try that needs it: an
-    /// [`InorderSide::take`], and a step behind it. The result is what the step did: where the
-    /// entry was dropped, [`Turn::Want`].
+    /// Takes an entry of the side's epoch, where one is needed, and makes the try that needs it: an
+    /// [`InorderSide::take`], and a step behind it. The result is what the step did.
     #[inline(always)]
-    pub fn feed(&mut self, entry: &Entry) -> Turn
+    pub fn feed_own(&mut self, entry: &Entry) -> Turn
         requires wants { wants_in self.old ≡ true }
         requires right { IsRight entry.now self.old }
+        requires own { entry.now.epoch ≡ self.old.telling.epoch }
         ensures fed { IsFed entry.now self.old self.new result }
         ensures waiting { result ≡ Turn.Want → wants_in self.new ≡ true }
     {
-        if entry.epoch == self.state.telling.epoch {
-            self.state.feed(entry)
-        } else {
-            Turn::Want
-        }
+        self.state.feed(entry)
     }
 
     /// The number of the cycle, counted from 0.

@@ -45,8 +45,8 @@ impl Timing for InorderSide {
     }
 
     #[inline(always)]
-    fn feed(&mut self, entry: &Entry) -> Turn {
-        InorderSide::feed(self, entry)
+    fn feed_own(&mut self, entry: &Entry) -> Turn {
+        InorderSide::feed_own(self, entry)
     }
 
     fn end(&self) -> End {

@@ -108,7 +108,7 @@ impl<D: Device, T: Timing> SplitState<D, T> {
             if !self.func.produce_into(entry) {
                 return;
             }
-            match self.time.feed(entry) {
+            match self.time.feed_own(entry) {
                 Turn::Want => {}
                 Turn::Ordered(order) => {
                     self.func.obey(order);

@@ -66,11 +66,12 @@ pub trait Timing: Drop {
         ensures dropped { result ≡ Taken.Dropped → self.new ≡ self.old }
         ensures by_epoch { (result ≡ Taken.Used) ↔ (entry.now.epoch ≡ timed.epoch self.old) };
 
-    /// Takes the entry that arrives next, where one is needed, and makes the steps behind it: a
+    /// Takes an entry of the side's epoch, where one is needed, and makes the steps behind it: a
     /// [`Timing::take`] and a [`Timing::run`]. The result is what the last step did.
-    fn feed(&mut self, entry: &Entry) -> Turn
+    fn feed_own(&mut self, entry: &Entry) -> Turn
         requires wants { timed.wants self.old ≡ true }
         requires right { IsRightOn timed entry.now self.old }
+        requires own { entry.now.epoch ≡ timed.epoch self.old }
         ensures fed { IsFedOn timed entry.now self.old self.new result }
         ensures waiting { result ≡ Turn.Want → timed.wants self.new ≡ true };
 
@@ -130,8 +131,8 @@ impl Timing for TimeSide {
     }
 
     #[inline(always)]
-    fn feed(&mut self, entry: &Entry) -> Turn {
-        TimeSide::feed(self, entry)
+    fn feed_own(&mut self, entry: &Entry) -> Turn {
+        TimeSide::feed_own(self, entry)
     }
 
     fn end(&self) -> End {

@@ -117,10 +117,23 @@ impl TimeSide {
         ensures waiting { result ≡ Turn.Want → wants_in self.new ≡ true }
     {
         if entry.epoch == self.state.telling.epoch {
-            self.state.feed(entry)
+            self.feed_own(entry)
         } else {
             Turn::Want
         }
+    }
+
+    /// The same of an entry of the side's epoch: no other comes where nothing is under way to the
+    /// side.
+    #[inline(always)]
+    pub fn feed_own(&mut self, entry: &Entry) -> Turn
+        requires wants { wants_in self.old ≡ true }
+        requires right { IsRight entry.now self.old }
+        requires own { entry.now.epoch ≡ self.old.telling.epoch }
+        ensures fed { IsFed entry.now self.old self.new result }
+        ensures waiting { result ≡ Turn.Want → wants_in self.new ≡ true }
+    {
+        self.state.feed(entry)
     }
 
     /// The number of the cycle, counted from 0.

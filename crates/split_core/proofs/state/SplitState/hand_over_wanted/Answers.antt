@@ -7,7 +7,7 @@ use Rattle.split_core.proofs.OnDemand.{demand_start, demand_more}
 use Rattle.split_core.proofs.Standing.{position_small, epoch_small}
 use Rattle.split_core.proofs.Handing.{Made}
 use Rattle.split_core.proofs.Clear.{clear_at, untold_or_over}
-use Rattle.split_core.proofs.Feeding.{fed_right, fed_silent, fed_may, fed_obeyed}
+use Rattle.split_core.proofs.Feeding.{fed_right, fed_own, fed_silent, fed_may, fed_obeyed}
 use Rattle.split_core.proofs.state.SplitState.hand_over_wanted.Goals as goal
 
 pub loop-init : goal.loop-init
@@ -19,11 +19,18 @@ produce_into-requires-clause-position g c = position_small g.T.Timing.timed g.me
 pub produce_into-requires-clause-epoch : goal.produce_into-requires-clause-epoch
 produce_into-requires-clause-epoch g c = epoch_small g.T.Timing.timed g.met.T.Timing.laws c.loop.self c.loop.invariant.far.standing
 
-pub feed-requires-clause-right : goal.feed-requires-clause-right
-feed-requires-clause-right g c =
+pub feed_own-requires-clause-right : goal.feed_own-requires-clause-right
+feed_own-requires-clause-right g c =
     let made : Made c.loop.self.func c.produce_into.new.self (entry_if c.produce_into.result c.produce_into.new.to) =
     record { produced = c.produce_into.ensures.produced; moved = c.produce_into.ensures.moved; none = c.produce_into.ensures.none; same = c.produce_into.ensures.same } in
     fed_right g.T.Timing.timed g.met.T.Timing.laws c.loop.self c.loop.invariant.clear c.produce_into.new.self c.produce_into.new.to c.produce_into.result c.if-not-produce_into.false made
+    (λ s k stands. sym c.loop.invariant.wants ∙ g.met.T.Timing.laws.needs s k c.loop.self.time stands) c.loop.invariant.far.standing
+
+pub feed_own-requires-clause-own : goal.feed_own-requires-clause-own
+feed_own-requires-clause-own g c =
+    let made : Made c.loop.self.func c.produce_into.new.self (entry_if c.produce_into.result c.produce_into.new.to) =
+    record { produced = c.produce_into.ensures.produced; moved = c.produce_into.ensures.moved; none = c.produce_into.ensures.none; same = c.produce_into.ensures.same } in
+    fed_own g.T.Timing.timed g.met.T.Timing.laws c.loop.self c.loop.invariant.clear c.produce_into.new.self c.produce_into.new.to c.produce_into.result c.if-not-produce_into.false made
     (λ s k stands. sym c.loop.invariant.wants ∙ g.met.T.Timing.laws.needs s k c.loop.self.time stands) c.loop.invariant.far.standing
 
 pub obey-requires : goal.obey-requires
@@ -33,7 +40,7 @@ obey-requires g c =
     let may : MayObey c.in-Ordered.order c.produce_into.new.self =
     fed_may g.T.Timing.timed g.met.T.Timing.laws c.loop.self c.loop.invariant.clear c.produce_into.new.self c.produce_into.new.to c.produce_into.result c.if-not-produce_into.false made
     (λ s k stands. sym c.loop.invariant.wants ∙ g.met.T.Timing.laws.needs s k c.loop.self.time stands)
-    c.feed.new.self c.feed.result c.feed.ensures.fed c.in-Ordered.order c.in-Ordered.is c.loop.invariant.far.standing in
+    c.feed_own.new.self c.feed_own.result c.feed_own.ensures.fed c.in-Ordered.order c.in-Ordered.is c.loop.invariant.far.standing in
     record {
       reach = may.reach;
       from = may.from;
@@ -48,31 +55,31 @@ pub returns-in-Ordered : goal.returns-in-Ordered
 returns-in-Ordered g c =
     let made : Made c.loop.self.func c.produce_into.new.self (entry_if c.produce_into.result c.produce_into.new.to) =
     record { produced = c.produce_into.ensures.produced; moved = c.produce_into.ensures.moved; none = c.produce_into.ensures.none; same = c.produce_into.ensures.same } in
-    let plays : Plays g.T.Timing.timed c.loop.self (record c.loop.self { func = c.obey.new.self; time = c.feed.new.self }) =
+    let plays : Plays g.T.Timing.timed c.loop.self (record c.loop.self { func = c.obey.new.self; time = c.feed_own.new.self }) =
     fed_obeyed g.T.Timing.timed g.met.T.Timing.laws c.loop.self c.loop.invariant.clear c.produce_into.new.self c.produce_into.new.to c.produce_into.result c.if-not-produce_into.false made
     (λ s k stands. sym c.loop.invariant.wants ∙ g.met.T.Timing.laws.needs s k c.loop.self.time stands)
-    c.feed.new.self c.feed.result c.feed.ensures.fed c.in-Ordered.order c.in-Ordered.is c.obey.new.self c.obey.ensures.stands c.obey.ensures.moved in
-    let more = demand_more g.T.Timing.timed g.met.T.Timing.laws c.args.self.now c.loop.self (record c.loop.self { func = c.obey.new.self; time = c.feed.new.self }) c.loop.invariant.far plays in
-    record { plays = more.plays; clear = clear_at c.loop.self c.loop.invariant.clear c.obey.new.self c.feed.new.self }
+    c.feed_own.new.self c.feed_own.result c.feed_own.ensures.fed c.in-Ordered.order c.in-Ordered.is c.obey.new.self c.obey.ensures.stands c.obey.ensures.moved in
+    let more = demand_more g.T.Timing.timed g.met.T.Timing.laws c.args.self.now c.loop.self (record c.loop.self { func = c.obey.new.self; time = c.feed_own.new.self }) c.loop.invariant.far plays in
+    record { plays = more.plays; clear = clear_at c.loop.self c.loop.invariant.clear c.obey.new.self c.feed_own.new.self }
 
 pub returns-in-Moved : goal.returns-in-Moved
 returns-in-Moved g c =
     let made : Made c.loop.self.func c.produce_into.new.self (entry_if c.produce_into.result c.produce_into.new.to) =
     record { produced = c.produce_into.ensures.produced; moved = c.produce_into.ensures.moved; none = c.produce_into.ensures.none; same = c.produce_into.ensures.same } in
-    let plays : Plays g.T.Timing.timed c.loop.self (record c.loop.self { func = c.produce_into.new.self; time = c.feed.new.self }) =
+    let plays : Plays g.T.Timing.timed c.loop.self (record c.loop.self { func = c.produce_into.new.self; time = c.feed_own.new.self }) =
     fed_silent g.T.Timing.timed g.met.T.Timing.laws c.loop.self c.loop.invariant.clear c.produce_into.new.self c.produce_into.new.to c.produce_into.result c.if-not-produce_into.false made
     (λ s k stands. sym c.loop.invariant.wants ∙ g.met.T.Timing.laws.needs s k c.loop.self.time stands)
-    c.feed.new.self c.feed.result c.feed.ensures.fed (untold_or_over c.feed.result c.in-Moved.is) in
-    let more = demand_more g.T.Timing.timed g.met.T.Timing.laws c.args.self.now c.loop.self (record c.loop.self { func = c.produce_into.new.self; time = c.feed.new.self }) c.loop.invariant.far plays in
-    record { plays = more.plays; clear = clear_at c.loop.self c.loop.invariant.clear c.produce_into.new.self c.feed.new.self }
+    c.feed_own.new.self c.feed_own.result c.feed_own.ensures.fed (untold_or_over c.feed_own.result c.in-Moved.is) in
+    let more = demand_more g.T.Timing.timed g.met.T.Timing.laws c.args.self.now c.loop.self (record c.loop.self { func = c.produce_into.new.self; time = c.feed_own.new.self }) c.loop.invariant.far plays in
+    record { plays = more.plays; clear = clear_at c.loop.self c.loop.invariant.clear c.produce_into.new.self c.feed_own.new.self }
 
 pub loop-preserved : goal.loop-preserved
 loop-preserved g c =
     let made : Made c.loop.self.func c.produce_into.new.self (entry_if c.produce_into.result c.produce_into.new.to) =
     record { produced = c.produce_into.ensures.produced; moved = c.produce_into.ensures.moved; none = c.produce_into.ensures.none; same = c.produce_into.ensures.same } in
-    let plays : Plays g.T.Timing.timed c.loop.self (record c.loop.self { func = c.produce_into.new.self; time = c.feed.new.self }) =
+    let plays : Plays g.T.Timing.timed c.loop.self (record c.loop.self { func = c.produce_into.new.self; time = c.feed_own.new.self }) =
     fed_silent g.T.Timing.timed g.met.T.Timing.laws c.loop.self c.loop.invariant.clear c.produce_into.new.self c.produce_into.new.to c.produce_into.result c.if-not-produce_into.false made
     (λ s k stands. sym c.loop.invariant.wants ∙ g.met.T.Timing.laws.needs s k c.loop.self.time stands)
-    c.feed.new.self c.feed.result c.feed.ensures.fed (ap order_told c.in-Want.is) in
-    let more = demand_more g.T.Timing.timed g.met.T.Timing.laws c.args.self.now c.loop.self (record c.loop.self { func = c.produce_into.new.self; time = c.feed.new.self }) c.loop.invariant.far plays in
-    record { far = more; clear = clear_at c.loop.self c.loop.invariant.clear c.produce_into.new.self c.feed.new.self; wants = c.feed.ensures.waiting c.in-Want.is }
+    c.feed_own.new.self c.feed_own.result c.feed_own.ensures.fed (ap order_told c.in-Want.is) in
+    let more = demand_more g.T.Timing.timed g.met.T.Timing.laws c.args.self.now c.loop.self (record c.loop.self { func = c.produce_into.new.self; time = c.feed_own.new.self }) c.loop.invariant.far plays in
+    record { far = more; clear = clear_at c.loop.self c.loop.invariant.clear c.produce_into.new.self c.feed_own.new.self; wants = c.feed_own.ensures.waiting c.in-Want.is }

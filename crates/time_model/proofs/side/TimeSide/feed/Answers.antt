@@ -1,21 +1,10 @@
-use Rattle.std.proofs.Common.{ap, sym, ◌∙◌, subst}
+use Rattle.std.proofs.Common.{ap, ◌∙◌, subst}
 use Rattle.time_model.specs.declared.state.TimeState.{TimeState}
 use Rattle.time_model.specs.declared.turn.Turn.TheVariants.{Want}
-use Rattle.time_model.specs.Standing.{IsRight, wants_in}
+use Rattle.time_model.specs.Standing.{wants_in}
 use Rattle.time_model.specs.Feeding.{IsFed}
-use Rattle.time_model.proofs.Feeding.{holding_standing, fed_used, fed_dropped}
+use Rattle.time_model.proofs.Feeding.{fed_dropped}
 use Rattle.time_model.proofs.side.TimeSide.feed.Goals as goal
-
-pub feed-requires-clause-standing : goal.feed-requires-clause-standing
-feed-requires-clause-standing c =
-    holding_standing c.args.entry.now c.self.inside.state (subst (IsRight c.args.entry.now) (sym c.self.view_is) c.requires.right) c.if-entry-self.true
-
-pub returns-then-entry-self : goal.returns-then-entry-self
-returns-then-entry-self c = record {
-  fed = subst (λ (from : TimeState). IsFed c.args.entry.now from c.feed.new.self c.feed.result) c.self.view_is
-      (fed_used c.args.entry.now c.self.inside.state c.feed.new.self c.feed.result c.if-entry-self.true c.feed.ensures.made);
-  waiting = c.feed.ensures.waiting;
-}
 
 pub returns-else-entry-self : goal.returns-else-entry-self
 returns-else-entry-self c = record {
