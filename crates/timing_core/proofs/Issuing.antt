@@ -1,7 +1,10 @@
 -- A turn of the walk, on what the timing side keeps.
-use Rattle.std.proofs.Common.{◌≡◌, ℕ, zero, suc, ◌+◌, ◌-◌, ◌%◌, ◌<◌, ◌≤◌, ◌^◌, ◌&&◌, nat_le, Bool, true, false, if◌then◌else◌, Some, List, [], ◌∷◌, length, inl, inr, refl, ap, sym, subst, ◌∙◌, arith}
+use Rattle.std.proofs.Common.{◌≡◌, ℕ, zero, suc, ◌+◌, ◌-◌, ◌%◌, ◌<◌, ◌≤◌, ◌^◌, ◌&&◌, nat_le, Bool, true, false, if◌then◌else◌, Option, None, Some, List, [], ◌∷◌, length, inl, inr, refl, ap, sym, subst, ◌∙◌, arith}
 use Rattle.std.specs.Prelude.{slice_get, slice_set}
 use Rattle.std.proofs.lemmas.Option.{slice_get_cases}
+use Rattle.fsim_base.specs.declared.cause.Cause.{Cause}
+use Rattle.fsim_base.specs.declared.access.Access.{Access}
+use Rattle.fsim_base.specs.declared.access.Access.TheVariants.{Nothing}
 use Rattle.cache_timing.specs.declared.caches.Caches.{Caches}
 use Rattle.cache_timing.specs.Caches.{CachesState}
 use Rattle.cache_timing.specs.CachesStandFor.{CachesStandFor}
@@ -11,7 +14,7 @@ use Rattle.reorder_buffer.specs.Window.{Contents}
 use Rattle.mono_model.specs.declared.params.Params.{Params}
 use Rattle.mono_model.specs.declared.setup.Setup.{Setup}
 use Rattle.mono_model.specs.Setup.{caches_params}
-use Rattle.mono_model.specs.Issue.{Used, none_used, latency_of, cached}
+use Rattle.mono_model.specs.Issue.{Used, none_used, latency_of, cached, no_miss}
 use Rattle.rollback_cmds.specs.declared.order.Order.TheVariants.{Time}
 use Rattle.timing_side.specs.Slots.{is_waiting_state, waiting_count}
 use Rattle.timing_side.specs.Timing.{Timing, Phase, quiet, ordering}
@@ -43,6 +46,10 @@ kept_as s t core slots caches k =
 pub same_found : (held slots : List Slot) (place : ℕ) (found slot : Slot) → held ≡ slots →
     slice_get held place ≡ Some found → slice_get slots place ≡ Some slot → found ≡ slot
 same_found held slots place found slot same there at = cc
+
+nowhere : (s : Setup) (cause : Option Cause) (caches : CachesState) → cached s cause Nothing caches ≡ no_miss caches
+nowhere s None caches = refl
+nowhere s (Some cause) caches = refl
 
 module _ (s : Setup) (t : Timing) (core : TimingCore) (place busy : ℕ) (used : Used) where
   -- the slot's turn in the state that is kept
@@ -84,6 +91,10 @@ module _ (s : Setup) (t : Timing) (core : TimingCore) (place busy : ℕ) (used :
       ∙ ap (λ (held : List Slot). slice_set held place (record slot { state = Until until })) k.slots
       ∙ ap (λ (n : ℕ). slice_set t.slots place (record slot { state = Until n })) ends in
       subst P (sym same) (kept_with s t core k flight _ it d.state (ap (λ (f : Contents). f.capacity) begun) slots served)
+
+-- a slot without an access meets no cache
+pub goes_nowhere : (s : Setup) (slot : Slot) (caches : CachesState) → slot.access ≡ Nothing → cached s slot.cause slot.access caches ≡ no_miss caches
+goes_nowhere s slot caches none = ap (λ (made : Access). cached s slot.cause made caches) none ∙ nowhere s slot.cause caches
 
 -- the cycle in which a slot ends, by sums in 64 bits
 pub end_cycle : (r middle n cycle latency added : ℕ) → middle ≡ (n + latency) % 2 ^ 64 → r ≡ (middle + added) % 2 ^ 64 →

@@ -6,3 +6,4 @@ pub mod Leaving
 pub mod Retiring
 pub mod Units
 pub mod Idle
+pub mod Turns

@@ -1,4 +1,5 @@
-ghost use Rattle.std.specs.Prelude.{◌≡◌};
+ghost use Rattle.std.specs.Prelude.{◌≡◌, true};
+ghost use Rattle.timing_core.specs.Turns.{OnlyComputes};
 
 use crate::loads::load_cycles;
 use crate::orders::Orders;
@@ -24,6 +25,7 @@ impl TimingCore {
     ghost use Rattle.timing_core.specs.Small.{IsSmall};
     ghost use Rattle.timing_core.specs.Orders.{orders_in};
     ghost use Rattle.timing_core.specs.CoreStandsFor.{CoreStandsFor};
+    ghost use Rattle.timing_core.specs.Turns.{OnlyComputes, KeepsTurn, CountsTurn};
     ghost use Rattle.timing_core.specs.Units.{used_in, kind_count};
 
     /// The fourth phase of a cycle: slots whose operands are there and that have a unit begin to
@@ -94,14 +96,15 @@ impl TimingCore {
         load_cycles(&mut self.caches, slot)
     }
 
-    /// Whether the oldest slot has passed the front, and reads the time and was given none.
+    /// Whether the oldest slot has passed the front, and reads the time and was given none. Few do,
+    /// so that is looked at first.
     #[inline(always)]
     fn wants_time(&self) -> bool
         ensures wanted { (s : Setup) (t : Timing) → CoreStandsFor s t self.now
             → result ≡ wants_time s t }
     {
         match self.flight.oldest() {
-            Some(slot) => self.is_past_front(&slot) && slot.unserved,
+            Some(slot) => slot.unserved && self.is_past_front(&slot),
             None => false,
         }
     }
@@ -172,20 +175,52 @@ impl TimingCore {
     fn turn(&mut self, place: u32, latest: u64, busy: u32, used: Used) -> Used
         requires ready { may_start_at self.old.flight.slots place ≡ true }
         requires latest { latest + self.old.params.core_front ≡ self.old.cycle }
-        ensures kept { (s : Setup) (t : Timing) (slot : HeldSlot) → CoreStandsFor s t self.old
-            → t.cycle < 2 ^ 63 →
-            slice_get t.slots place ≡ Some slot →
-            let turned =
-            turn_of s t.cycle busy (older_at t.slots place) slot (used_in used) t.caches in
-            CoreStandsFor s (record t {
-              slots = slice_set t.slots place turned.turned;
-              caches = turned.caches;
-            }) self.new }
-        ensures used { (s : Setup) (t : Timing) (slot : HeldSlot) → CoreStandsFor s t self.old
-            → t.cycle < 2 ^ 63 →
-            slice_get t.slots place ≡ Some slot →
-            used_in result
-            ≡ (turn_of s t.cycle busy (older_at t.slots place) slot (used_in used) t.caches).used }
+        ensures kept { KeepsTurn place busy used self.old self.new }
+        ensures used { CountsTurn place busy used self.old result }
+        ensures size { length self.new.flight.slots ≡ length self.old.flight.slots }
+        ensures params { self.new.params ≡ self.old.params }
+        ensures cycle { self.new.cycle ≡ self.old.cycle }
+        ensures behind { (k : ℕ) → place < k → may_start_at self.new.flight.slots k
+            ≡ may_start_at self.old.flight.slots k }
+    {
+        if is_plain(&self.flight.at(place)) {
+            self.turn_plain(place, latest, busy, used)
+        } else {
+            self.turn_any(place, latest, busy, used)
+        }
+    }
+
+    /// The same, of a slot that only computes in the ALU. Most are such, so they have a way of their
+    /// own, on which nothing is asked of their class.
+    #[inline(always)]
+    fn turn_plain(&mut self, place: u32, latest: u64, busy: u32, used: Used) -> Used
+        requires ready { may_start_at self.old.flight.slots place ≡ true }
+        requires plain { IfSome (slice_get self.old.flight.slots place) OnlyComputes }
+        requires latest { latest + self.old.params.core_front ≡ self.old.cycle }
+        ensures kept { KeepsTurn place busy used self.old self.new }
+        ensures used { CountsTurn place busy used self.old result }
+        ensures size { length self.new.flight.slots ≡ length self.old.flight.slots }
+        ensures params { self.new.params ≡ self.old.params }
+        ensures cycle { self.new.cycle ≡ self.old.cycle }
+        ensures behind { (k : ℕ) → place < k → may_start_at self.new.flight.slots k
+            ≡ may_start_at self.old.flight.slots k }
+    {
+        let slot = self.flight.at(place);
+        if !self.may_begin(place, &slot, latest, busy, used) {
+            return used;
+        }
+        let latency = u64::from(self.params.alu_latency);
+        self.flight.begin(place, self.cycle.wrapping_add(latency));
+        used.with(slot.class)
+    }
+
+    /// The same, of any slot.
+    #[inline(always)]
+    fn turn_any(&mut self, place: u32, latest: u64, busy: u32, used: Used) -> Used
+        requires ready { may_start_at self.old.flight.slots place ≡ true }
+        requires latest { latest + self.old.params.core_front ≡ self.old.cycle }
+        ensures kept { KeepsTurn place busy used self.old self.new }
+        ensures used { CountsTurn place busy used self.old result }
         ensures size { length self.new.flight.slots ≡ length self.old.flight.slots }
         ensures params { self.new.params ≡ self.old.params }
         ensures cycle { self.new.cycle ≡ self.old.cycle }
@@ -240,4 +275,12 @@ impl TimingCore {
             from = place + 1;
         }
     }
+}
+
+/// Whether a slot only computes in the ALU: it goes to no memory.
+#[inline(always)]
+fn is_plain(slot: &Slot) -> bool
+    ensures plain { result ≡ true → OnlyComputes slot.now }
+{
+    slot.class == Class::Alu && matches!(slot.access, Access::Nothing)
 }

@@ -12,7 +12,7 @@ use Rattle.in_flight.proofs.Snapshots.{begun_behind, waits_there}
 use Rattle.timing_core.specs.Units.{used_in}
 use Rattle.timing_core.proofs.Walks.{turn_begins, turn_rests}
 use Rattle.timing_core.proofs.Issuing.{same_found, same_test, IsTurned, turn_at, rests, begins, end_cycle}
-use Rattle.timing_core.proofs.state.TimingCore.turn.Goals as goal
+use Rattle.timing_core.proofs.state.TimingCore.turn_any.Goals as goal
 
 pub begin-requires-clause-within : goal.begin-requires-clause-within
 begin-requires-clause-within c = slice_get_within c.args.self.now.flight.slots c.args.place c.at-slot.result c.at-slot.ensures.slot
