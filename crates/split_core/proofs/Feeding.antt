@@ -5,6 +5,7 @@ use Rattle.rollback_cmds.specs.declared.order.Order.{Order}
 use Rattle.trace_entry.specs.declared.Entry.{Entry}
 use Rattle.mono_model.specs.declared.setup.Setup.{Setup}
 use Rattle.mono_model.specs.Path.{entry, openings}
+use Rattle.mono_model.specs.Sequence.{entry_at}
 use Rattle.mono_model.specs.Demand.{Place, told, needs_entry}
 use Rattle.machine_laws.specs.SplitLaw.{IsRunIn}
 use Rattle.machine_laws.specs.Telling.{with_order}
@@ -34,7 +35,7 @@ module _ {D T : Type 0} (timed : Timed T) (laws : IsTimed timed) (state : SplitS
 
   -- it is of the side's epoch, since every order told was obeyed
   pub fed_own : IsStandingOn timed state → e.epoch ≡ timed.epoch state.time
-  unfolding entry
+  unfolding entry entry_at
   fed_own st =
       let s = st.setup in
       let x : At = st.split in
