@@ -1,7 +1,7 @@
 use crate::appending::append_known;
 use crate::dividing::{divisions_cut, forget_division, note_division};
 use crate::queueing::{finish_store, pop_oldest};
-use crate::reading::slot_at;
+use crate::reading::{gave_value, slot_at};
 use crate::registers::WordRegisters;
 use fsim_base::NoMemory;
 use known_words::{KnownWords, OfWord};
@@ -172,9 +172,26 @@ impl InFlight {
         );
     }
 
-    /// The oldest instruction leaves, in whatever state. There is one.
+    /// The oldest instruction leaves, in whatever state. There is one. Most gave their value: their
+    /// slot is read where a caller read it, and nothing else is looked up.
     #[inline(always)]
     pub fn leave(&mut self)
+        requires some { 0 < length self.old.slots }
+        ensures left { self.new ≡ record self.old { slots = drop 1 self.old.slots } }
+    {
+        match self.window.oldest() {
+            Some(slot) if gave_value(&slot) => {
+                pop_oldest(&mut self.stores, &self.window);
+                self.stations.retire_done();
+                self.window.pop();
+            }
+            _ => self.leave_valueless(),
+        }
+    }
+
+    /// The same, whether or not it gave its value.
+    #[inline(never)]
+    fn leave_valueless(&mut self)
         requires some { 0 < length self.old.slots }
         ensures left { self.new ≡ record self.old { slots = drop 1 self.old.slots } }
     {

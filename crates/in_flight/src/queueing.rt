@@ -5,7 +5,7 @@ ghost use Rattle.reorder_buffer.specs.Held.{slot_from};
 ghost use Rattle.load_store_queue.specs.Queue.{youngest};
 ghost use Rattle.in_flight.specs.Step.{queue_of, is_store, put_in, finished_in};
 
-use crate::reading::{is_store, slot_at};
+use crate::reading::is_store;
 use fsim_base::Class;
 use load_store_queue::StoreQueue;
 use reorder_buffer::{Slot, Window};
@@ -31,9 +31,10 @@ pub fn pop_oldest(stores: &mut StoreQueue, window: &Window)
     requires queued { stores.old ≡ queue_of window.now.capacity window.now.slots }
     ensures left { stores.new ≡ queue_of window.now.capacity (drop 1 window.now.slots) }
 {
-    let (_, slot) = slot_at(window, 0);
-    if is_store(&slot) {
-        stores.pop();
+    if let Some(slot) = window.oldest() {
+        if is_store(&slot) {
+            stores.pop();
+        }
     }
 }
 

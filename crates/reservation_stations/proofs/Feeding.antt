@@ -1,5 +1,5 @@
 -- What the stations miss, and which wait or execute, as one gets another mark or the oldest leaves.
-use Rattle.std.proofs.Common.{◌≡◌, ◌≢◌, ℕ, suc, ◌+◌, ◌%◌, ◌<◌, ◌≤◌, ◌||◌, Bool, true, false, if◌then◌else◌, Option, Some, None, List, [], ◌∷◌, ◌++◌, length, take, reverse, refl, ap, sym, ◌∙◌, subst, inl, inr, arith, eq-eqb}
+use Rattle.std.proofs.Common.{◌≡◌, ◌≢◌, ℕ, suc, ◌+◌, ◌%◌, ◌<◌, ◌≤◌, ◌||◌, Bool, true, false, if◌then◌else◌, Option, Some, None, List, [], ◌∷◌, ◌++◌, length, take, reverse, refl, ap, sym, ◌∙◌, subst, inl, inr, arith, eq-eqb, is_some}
 use Rattle.std.specs.Prelude.{slice_get, option_map}
 use Rattle.std.proofs.lemmas.Bool.{cases_eq, ne_eqb}
 use Rattle.std.proofs.lemmas.Option.{slice_get-map}
@@ -15,7 +15,7 @@ use Rattle.reservation_stations.specs.AreSets.{Missing, nothing, missing, missin
 use Rattle.reservation_stations.proofs.Indices.{reverse-cons, Each-take}
 use Rattle.reservation_stations.proofs.Carried.{dropped, Changes, Carries, Carries-behind, awaited_carried}
 use Rattle.reservation_stations.proofs.Marking.{Marks}
-use Rattle.reservation_stations.proofs.Producers.{not_awaited}
+use Rattle.reservation_stations.proofs.Producers.{not_awaited, never_awaited}
 use Rattle.reservation_stations.proofs.Kept.{none, dropped_none, one, dropped_one, Carries-none}
 use Rattle.reservation_stations.proofs.Reading.{older_than-at}
 use Rattle.reservation_stations.proofs.Leaving.{each_behind, Carries-oldest}
@@ -108,6 +108,18 @@ pub none_awaits : (index : ℕ) (rows : List Row) (indices : List ℕ) → is_do
     awaits index (missing_at (stations_at (row_at rows) indices) p) ≡ false
 none_awaits index rows indices done p =
     ap (awaits index) (at_there (row_at rows) indices p) ∙ not_missed index rows (reverse (take p indices)) (slice_get indices p) done
+
+-- nor one that writes no register
+never_missed : (index : ℕ) (rows : List Row) (older : List ℕ) (o : Option ℕ) → is_some (row_at rows index).registers.destination ≡ false →
+    awaits index (missing (stations_at (row_at rows) older) (station_if (row_at rows) o)) ≡ false
+never_missed index rows older None mine = refl
+never_missed index rows older (Some s) mine =
+    λ i. never_awaited index (row_at rows) older (row_at rows s).registers.sources.0 mine i || never_awaited index (row_at rows) older (row_at rows s).registers.sources.1 mine i
+
+pub never_awaits : (index : ℕ) (rows : List Row) (indices : List ℕ) → is_some (row_at rows index).registers.destination ≡ false → (p : ℕ) →
+    awaits index (missing_at (stations_at (row_at rows) indices) p) ≡ false
+never_awaits index rows indices mine p =
+    ap (awaits index) (at_there (row_at rows) indices p) ∙ never_missed index rows (reverse (take p indices)) (slice_get indices p) mine
 
 module _ {capacity : ℕ} (index : ℕ) (rest : List ℕ) (rows : List Row) {producers : List (Option ℕ)} {waiting : ℕ} (keeps : AreTables capacity (index ∷ rest) rows producers waiting) where
   behind_at : (p : ℕ) → fed index (missing_at (stations_at (row_at rows) (index ∷ rest)) (suc p)) ≡ missing_at (stations_at (row_at rows) rest) p

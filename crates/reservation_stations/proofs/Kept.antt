@@ -1,5 +1,5 @@
 -- What the tables stand for, before and behind each call.
-use Rattle.std.proofs.Common.{◌≡◌, ◌≢◌, ℕ, ◌+◌, ◌-◌, ◌<◌, ◌≤◌, ◌==◌, ◌||◌, Bool, true, false, if◌then◌else◌, Option, Some, None, List, [], length, get_or, reverse, refl, ap, sym, ◌∙◌, inl, inr, arith, eq-eqb, subst}
+use Rattle.std.proofs.Common.{◌≡◌, ◌≢◌, ℕ, ◌+◌, ◌-◌, ◌<◌, ◌≤◌, ◌==◌, ◌||◌, Bool, true, false, if◌then◌else◌, Option, Some, None, List, [], length, get_or, is_some, reverse, refl, ap, sym, ◌∙◌, inl, inr, arith, eq-eqb, subst}
 use Rattle.std.specs.Prelude.{slice_set}
 use Rattle.std.proofs.lemmas.Bool.{cases_eq, ne_eqb}
 use Rattle.std.proofs.lemmas.List.{length-set, append-nil, get_or_read}
@@ -12,7 +12,9 @@ use Rattle.reservation_stations.specs.Changes.{without, with_producer, producer_
 use Rattle.reservation_stations.proofs.Indices.{Each-map}
 use Rattle.reservation_stations.proofs.Carried.{dropped, Changes, Carries, Carries-behind}
 use Rattle.reservation_stations.proofs.Marking.{row_at-set, with_mark_of, mark_of-held, Marks, stations_at-marked, waiting_count-same, waiting_count-one_less}
-use Rattle.reservation_stations.proofs.Producers.{length-with_producer, get_or-dropped}
+use Rattle.reservation_stations.proofs.Producers.{length-with_producer, get_or-dropped, never_unfinished}
+use Rattle.reservation_stations.specs.Places.{is_index}
+use Rattle.reservation_stations.proofs.Missing.{without-same}
 
 abbrev pub none : ℕ → Bool
 none index = false
@@ -184,6 +186,17 @@ module _ {capacity : ℕ} {indices : List ℕ} {rows : List Row} {producers : Li
         (ap length set ∙ length-with_producer mine (without index (producer_at producers mine)) producers)
         (λ register within. ap (λ xs. get_or xs register None) set ∙ dropped_of register within ∙ sym (dropped_one index (get_or producers register None)))
         (apart ∙ keeps.no_source) waiting (waits_alike alike)
+
+    -- one that writes no register was none
+    pub AreTables-silent : is_some (row_at rows index).registers.destination ≡ false → is_done next ≡ (is_done mark || one index index) → is_waiting next ≡ is_waiting mark →
+        AreTables capacity indices new_rows producers waiting
+    AreTables-silent silent done alike =
+        keeps_written producers (one index) (λ other differ. ne_eqb other index differ) done refl
+        (λ register within.
+        let held = get_or producers register None in
+        sym (dropped_one index held ∙ without-same index held
+        (ap (is_index index) (keeps.each_producer register within) ∙ never_unfinished index (row_at rows) (reverse indices) register silent)))
+        keeps.no_source waiting (waits_alike alike)
 
     -- one fewer waits
     one_fewer : is_waiting next ≡ false → is_waiting mark ≡ true → waiting_count (stations_at (row_at new_rows) indices) + 1 ≡ waiting

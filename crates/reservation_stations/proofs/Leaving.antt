@@ -8,7 +8,7 @@ use Rattle.reservation_stations.specs.declared.station.Mark.{Mark}
 use Rattle.reservation_stations.specs.declared.station.Mark.TheVariants.{Waiting, Issued, Done, Faulted}
 use Rattle.reservation_stations.specs.declared.station.Station.{Station}
 use Rattle.reservation_stations.specs.declared.row.Row.{Row}
-use Rattle.reservation_stations.specs.Readiness.{Window, is_waiting, is_issued, is_done, is_register, oldest_index, waiting_count}
+use Rattle.reservation_stations.specs.Readiness.{Window, is_waiting, is_issued, is_done, is_register, oldest_index, oldest_mark, waiting_count}
 use Rattle.reservation_stations.specs.AreTables.{AreTables, Each, row_at, free_row, stations_at, station_in, unfinished}
 use Rattle.reservation_stations.specs.Changes.{without, with_producer, producer_at}
 use Rattle.reservation_stations.specs.Places.{is_index}
@@ -120,6 +120,15 @@ head_is : (indices : List ℕ) (index : ℕ) → slice_get indices 0 ≡ Some in
 head_is [] index is = absurd cc
 head_is (other ∷ indices) index is = ap (λ s. s ∷ indices) (same_Some other index is)
 
+-- the index of the oldest, where that has a mark
+pub marked_oldest : (stations : List Station) (mark : Mark) → oldest_mark stations ≡ Some mark → (index : ℕ) × (oldest_index stations ≡ Some index)
+marked_oldest [] mark is = absurd cc
+marked_oldest (station ∷ stations) mark is = (station.index, refl)
+
+module _ {capacity : ℕ} {indices : List ℕ} {rows : List Row} {producers : List (Option ℕ)} {waiting : ℕ} (keeps : AreTables capacity indices rows producers waiting) {w : Window} (is_seen : seen capacity indices rows ≡ w) (mark : Mark) (is : oldest_mark w.stations ≡ Some mark) where
+  pub oldest_marked : (index : ℕ) × (oldest_index w.stations ≡ Some index)
+  oldest_marked = marked_oldest w.stations mark is
+
 module _ {capacity : ℕ} {indices : List ℕ} {rows : List Row} {producers : List (Option ℕ)} {waiting : ℕ} (keeps : AreTables capacity indices rows producers waiting) {w : Window} (is_seen : seen capacity indices rows ≡ w) (index : ℕ) (oldest : oldest_index w.stations ≡ Some index) where
   pub is_first : indices ≡ index ∷ drop 1 indices
   is_first =
@@ -135,6 +144,16 @@ module _ {capacity : ℕ} {indices : List ℕ} {rows : List Row} {producers : Li
 
   pub retire_within : index < length rows
   retire_within = omega (arith, first_keeps.within.0, keeps.every_index)
+
+  -- its row has its mark
+  pub oldest_row : (mark : Mark) → oldest_mark w.stations ≡ Some mark → (row_at rows index).mark ≡ mark
+  oldest_row mark is =
+      let there : oldest_mark (stations_at (row_at rows) (index ∷ drop 1 indices)) ≡ Some mark =
+      ap (λ xs. oldest_mark (stations_at (row_at rows) xs)) (sym is_first) ∙ ap (λ (v : Window). oldest_mark v.stations) is_seen ∙ is in
+      same_Some (row_at rows index).mark mark there
+
+  pub AreTables-first_done : is_done (row_at rows index).mark ≡ true → AreTables capacity (drop 1 indices) rows producers waiting
+  AreTables-first_done is = AreTables-rest_done capacity index (drop 1 indices) rows producers waiting waiting first_keeps is (waits_not (row_at rows index).mark is)
 
   module _ (row : Row) (read : row ≡ get_or rows index row) where
     pub retired_row : row ≡ row_at rows index
@@ -154,8 +173,7 @@ module _ {capacity : ℕ} {indices : List ℕ} {rows : List Row} {producers : Li
 
     pub AreTables-retired_done : is_done row.mark ≡ true → AreTables capacity (drop 1 indices) rows producers waiting
     AreTables-retired_done done =
-        let is : is_done (row_at rows index).mark ≡ true = subst (λ (e : Row). is_done e.mark ≡ true) retired_row done in
-        AreTables-rest_done capacity index (drop 1 indices) rows producers waiting waiting first_keeps is (waits_not (row_at rows index).mark is)
+        AreTables-first_done (subst (λ (e : Row). is_done e.mark ≡ true) retired_row done)
 
   pub seen-retired : seen capacity (drop 1 indices) rows ≡ record w { stations = drop 1 w.stations }
   seen-retired =

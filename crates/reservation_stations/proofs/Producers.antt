@@ -1,5 +1,5 @@
 -- The table of producers: what is read of it, and how it changes.
-use Rattle.std.proofs.Common.{◌≡◌, ℕ, ◌<◌, Bool, true, false, if◌then◌else◌, Option, Some, None, IfSome, List, [], ◌∷◌, length, get_or, refl, ap, sym, ◌∙◌, inl, inr, eq-eqb, subst, arith}
+use Rattle.std.proofs.Common.{◌≡◌, ℕ, ◌<◌, Bool, true, false, if◌then◌else◌, Option, Some, None, IfSome, List, [], ◌∷◌, length, get_or, is_some, refl, ap, sym, ◌∙◌, inl, inr, eq-eqb, subst, arith}
 use Rattle.std.specs.Option.{ForSome}
 use Rattle.std.proofs.lemmas.Bool.{cases_eq, ne_eqb, eqb-true, both_ways}
 use Rattle.std.proofs.lemmas.List.{get_or-set_same, get_or-set_other, length-set}
@@ -98,3 +98,27 @@ not_unfinished index at (other ∷ older) register done =
 pub not_awaited : (index : ℕ) (at : ℕ → Row) (older : List ℕ) (source : Option ℕ) → is_done (at index).mark ≡ true → is_index index (awaited (stations_at at older) source) ≡ false
 not_awaited index at older None done = refl
 not_awaited index at older (Some register) done = not_unfinished index at older register done
+
+-- none awaits one that writes no register
+writes : (register : ℕ) (destination : Option ℕ) → is_register register destination ≡ true → is_some destination ≡ true
+writes register None is = is
+writes register (Some other) is = refl
+
+never_other : (index other : ℕ) (at : ℕ → Row) (register : ℕ) (is done : Bool) (rest : Option ℕ) → is_register register (at other).registers.destination ≡ is →
+    is_some (at index).registers.destination ≡ false → is_index index rest ≡ false → is_index index (if is then (if done then None else Some other) else rest) ≡ false
+never_other index other at register true true rest is mine behind = refl
+never_other index other at register true false rest is mine behind =
+    ne_eqb index other (λ same. let e : true ≡ false = sym (writes register (at other).registers.destination is) ∙ ap (λ s. is_some (at s).registers.destination) (sym same) ∙ mine in cc)
+never_other index other at register false done rest is mine behind = behind
+
+pub never_unfinished : (index : ℕ) (at : ℕ → Row) (older : List ℕ) (register : ℕ) → is_some (at index).registers.destination ≡ false →
+    is_index index (unfinished (stations_at at older) register) ≡ false
+never_unfinished index at [] register mine = refl
+never_unfinished index at (other ∷ older) register mine =
+    never_other index other at register (is_register register (at other).registers.destination) (is_done (at other).mark) (unfinished (stations_at at older) register) refl mine
+    (never_unfinished index at older register mine)
+
+pub never_awaited : (index : ℕ) (at : ℕ → Row) (older : List ℕ) (source : Option ℕ) → is_some (at index).registers.destination ≡ false →
+    is_index index (awaited (stations_at at older) source) ≡ false
+never_awaited index at older None mine = refl
+never_awaited index at older (Some register) mine = never_unfinished index at older register mine

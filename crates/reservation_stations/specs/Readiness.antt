@@ -88,6 +88,10 @@ mark_of index stations = option_map (λ (station : Station). station.mark) (stat
 abbrev pub oldest_index : List Station → Option ℕ
 oldest_index stations = option_map (λ (station : Station). station.index) (slice_get stations 0)
 
+-- its mark
+abbrev pub oldest_mark : List Station → Option Mark
+oldest_mark stations = option_map (λ (station : Station). station.mark) (slice_get stations 0)
+
 -- a station, and all of them, with another mark on the one that holds an index
 abbrev pub marked_if : ℕ → Mark → Station → Station
 marked_if index mark station = if station.index == index then record station { mark = mark } else station

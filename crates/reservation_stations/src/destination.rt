@@ -1,5 +1,5 @@
 //! The register that an instruction writes.
-ghost use Rattle.std.specs.Prelude.{◌≡◌, ◌≢◌, ◌≤◌, None};
+ghost use Rattle.std.specs.Prelude.{◌≡◌, ◌≢◌, ◌≤◌, None, is_some};
 ghost use Rattle.reservation_stations.specs.Numbers.{number_of};
 
 use std::marker::Model;
@@ -60,6 +60,14 @@ impl Destination {
         } else {
             None
         }
+    }
+
+    /// Whether there is a register.
+    #[inline(always)]
+    pub(crate) fn is_some(self) -> bool
+        ensures some { result ≡ is_some self }
+    {
+        self.number < 256
     }
 
     /// Its place in the table of producers.

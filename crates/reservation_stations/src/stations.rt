@@ -66,7 +66,7 @@ impl Stations {
     ghost use Rattle.std.specs.Prelude.{IsTrue, IsSome, IsNone, IfSome, IfNone, IfOk};
     ghost use Rattle.std.specs.Prelude.{if◌then◌else◌};
     ghost use Rattle.reservation_stations.specs.Readiness.{Window, station_of, mark_of};
-    ghost use Rattle.reservation_stations.specs.Readiness.{oldest_index};
+    ghost use Rattle.reservation_stations.specs.Readiness.{oldest_index, oldest_mark};
     ghost use Rattle.reservation_stations.specs.Readiness.{can_begin_at, is_sought_at};
     ghost use Rattle.reservation_stations.specs.Readiness.{marked, entered, waiting_count};
     ghost use Rattle.reservation_stations.specs.PlaceSet.{has};
@@ -172,8 +172,11 @@ impl Stations {
         } else {
             let destination = self.rows[index as usize].registers.destination;
             self.rows[index as usize].mark = Mark::Done;
-            drop_producer(&mut self.producers, destination, index);
-            self.sets.tell(index);
+            // Where it writes no register, it is no producer, and none awaits its value.
+            if destination.is_some() {
+                drop_producer(&mut self.producers, destination, index);
+                self.sets.tell(index);
+            }
         }
     }
 
@@ -192,6 +195,17 @@ impl Stations {
         } else {
             self.retire_unfinished(index);
         }
+    }
+
+    /// Removes the oldest station, which is done: it is no producer and in none of the sets, and
+    /// none awaits its value. So its index isn't asked for.
+    #[inline(always)]
+    pub fn retire_done(&mut self)
+        requires done { oldest_mark self.old.stations ≡ Some Mark.Done }
+        ensures retired { self.new ≡ record self.old { stations = drop 1 self.old.stations } }
+    {
+        self.count -= 1;
+        self.retired = self.retired.wrapping_add(1);
     }
 
     /// Removes the oldest station, and what the tables and sets have of it, whatever its mark. It
