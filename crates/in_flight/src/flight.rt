@@ -264,8 +264,9 @@ impl InFlight {
         self.first(sought, from.max(64))
     }
 
-    /// Whether all stores older than the instruction at a place are done.
-    #[inline(always)]
+    /// Whether all stores older than the instruction at a place are done. It stays a call: only a
+    /// load asks, and inline a run would be so large that the kit's compiler leaves it a call.
+    #[inline(never)]
     pub fn stores_done(&self, place: u32) -> bool
         requires within { place < length self.now.slots }
         ensures done { result ≡ are_stores_done (older_at self.now.slots place) }

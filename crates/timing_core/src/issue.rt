@@ -169,10 +169,27 @@ impl TimingCore {
             && used.has_unit(&self.params, busy, slot.class)
     }
 
+    /// Whether the slot at a place begins in this cycle, which waits, has its operands and only
+    /// computes in the ALU: its class allows it.
+    #[inline(always)]
+    fn may_compute(&self, place: u32, slot: &Slot, latest: u64, busy: u32, used: Used) -> bool
+        requires there { slice_get self.now.flight.slots place ≡ Some slot.now }
+        requires ready { may_start_at self.now.flight.slots place ≡ true }
+        requires plain { OnlyComputes slot.now }
+        requires latest { latest + self.now.params.core_front ≡ self.now.cycle }
+        ensures begins { result
+            ≡ may_begin self.now.params self.now.cycle busy (older_at self.now.flight.slots place)
+            slot.now (used_in used) }
+        ensures countable { result ≡ true → used.alu < 2 ^ 32 - 1 }
+    {
+        slot.fetched <= latest && used.alu < self.params.alu_count
+    }
+
     /// The slot at a place, which waits and has its operands, begins where it may. The result is
     /// the units used then.
     #[inline(always)]
-    fn turn(&mut self, place: u32, latest: u64, busy: u32, used: Used) -> Used
+    fn turn(&mut self, place: u32, slot: &Slot, latest: u64, busy: u32, used: Used) -> Used
+        requires there { slice_get self.old.flight.slots place ≡ Some slot.now }
         requires ready { may_start_at self.old.flight.slots place ≡ true }
         requires latest { latest + self.old.params.core_front ≡ self.old.cycle }
         ensures kept { KeepsTurn place busy used self.old self.new }
@@ -183,19 +200,20 @@ impl TimingCore {
         ensures behind { (k : ℕ) → place < k → may_start_at self.new.flight.slots k
             ≡ may_start_at self.old.flight.slots k }
     {
-        if is_plain(&self.flight.at(place)) {
-            self.turn_plain(place, latest, busy, used)
+        if is_plain(slot) {
+            self.turn_plain(place, slot, latest, busy, used)
         } else {
-            self.turn_any(place, latest, busy, used)
+            self.turn_any(place, slot, latest, busy, used)
         }
     }
 
     /// The same, of a slot that only computes in the ALU. Most are such, so they have a way of their
     /// own, on which nothing is asked of their class.
     #[inline(always)]
-    fn turn_plain(&mut self, place: u32, latest: u64, busy: u32, used: Used) -> Used
+    fn turn_plain(&mut self, place: u32, slot: &Slot, latest: u64, busy: u32, used: Used) -> Used
+        requires there { slice_get self.old.flight.slots place ≡ Some slot.now }
         requires ready { may_start_at self.old.flight.slots place ≡ true }
-        requires plain { IfSome (slice_get self.old.flight.slots place) OnlyComputes }
+        requires plain { OnlyComputes slot.now }
         requires latest { latest + self.old.params.core_front ≡ self.old.cycle }
         ensures kept { KeepsTurn place busy used self.old self.new }
         ensures used { CountsTurn place busy used self.old result }
@@ -205,18 +223,18 @@ impl TimingCore {
         ensures behind { (k : ℕ) → place < k → may_start_at self.new.flight.slots k
             ≡ may_start_at self.old.flight.slots k }
     {
-        let slot = self.flight.at(place);
-        if !self.may_begin(place, &slot, latest, busy, used) {
+        if !self.may_compute(place, slot, latest, busy, used) {
             return used;
         }
         let latency = u64::from(self.params.alu_latency);
         self.flight.begin(place, self.cycle.wrapping_add(latency));
-        used.with(slot.class)
+        used.with_alu()
     }
 
     /// The same, of any slot.
     #[inline(always)]
-    fn turn_any(&mut self, place: u32, latest: u64, busy: u32, used: Used) -> Used
+    fn turn_any(&mut self, place: u32, slot: &Slot, latest: u64, busy: u32, used: Used) -> Used
+        requires there { slice_get self.old.flight.slots place ≡ Some slot.now }
         requires ready { may_start_at self.old.flight.slots place ≡ true }
         requires latest { latest + self.old.params.core_front ≡ self.old.cycle }
         ensures kept { KeepsTurn place busy used self.old self.new }
@@ -227,11 +245,10 @@ impl TimingCore {
         ensures behind { (k : ℕ) → place < k → may_start_at self.new.flight.slots k
             ≡ may_start_at self.old.flight.slots k }
     {
-        let slot = self.flight.at(place);
-        if !self.may_begin(place, &slot, latest, busy, used) {
+        if !self.may_begin(place, slot, latest, busy, used) {
             return used;
         }
-        let added = load_cycles(&mut self.caches, &slot);
+        let added = load_cycles(&mut self.caches, slot);
         let latency = u64::from(latency_of(&self.params, slot.class));
         let until = self
             .cycle
@@ -268,10 +285,11 @@ impl TimingCore {
         let mut used = Used::none();
         let mut from = 0;
         while let Some(place) = self.flight.next(Sought::Ready, &mut ready, from) {
-            if self.flight.at(place).fetched > latest {
+            let slot = self.flight.at(place);
+            if slot.fetched > latest {
                 return;
             }
-            used = self.turn(place, latest, busy, used);
+            used = self.turn(place, &slot, latest, busy, used);
             from = place + 1;
         }
     }

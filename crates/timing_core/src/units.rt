@@ -18,6 +18,7 @@ pub(crate) struct Used {
 impl Used {
     ghost use Rattle.std.specs.Prelude.{◌+◌, ◌-◌, ◌<◌, ◌^◌, true};
     ghost use Rattle.mono_model.specs.Issue.{none_used, has_unit, with_used};
+    ghost use Rattle.fsim_base.specs.declared.instruction.Class.TheVariants.{Alu};
     ghost use Rattle.timing_core.specs.Units.{used_in, kind_count};
 
     /// None has begun.
@@ -44,6 +45,18 @@ impl Used {
             Class::Mul => self.mul < params.mul_count,
             Class::Div => busy.saturating_add(self.div) < params.div_count,
             Class::Load | Class::Store => self.mem < params.mem_count,
+        }
+    }
+
+    /// One more in the ALU.
+    #[inline(always)]
+    pub(crate) fn with_alu(self) -> Used
+        requires countable { self.alu < 2 ^ 32 - 1 }
+        ensures counted { used_in result ≡ with_used Alu (used_in self) }
+    {
+        Used {
+            alu: self.alu + 1,
+            ..self
         }
     }
 

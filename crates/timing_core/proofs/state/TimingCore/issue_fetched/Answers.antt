@@ -40,14 +40,14 @@ loop-place-smaller c =
     let within = there.1 in
     omega (arith, within, c.in-Some.ensures.behind, c.turn-used.ensures.size)
 
-pub returns-then-at-latest : goal.returns-then-at-latest
-returns-then-at-latest c = record {
+pub returns-then-slot-latest : goal.returns-then-slot-latest
+returns-then-slot-latest c = record {
   kept = λ s t k small.
       let core = c.loop-place.self in let place = c.in-Some.place in let busy = c.dividing-busy.result in let used = used_in c.loop-place.used in
       let here = walks_to s t busy core c.loop-place.from place used (c.loop-place.invariant.walked s t k small) c.in-Some.ensures.behind c.in-Some.ensures.first in
       let counted = c.dividing-busy.ensures.count ∙ ap busy_divisions k.slots in
-      walks_to_late s t core place c.args.latest used c.at.result (subst (λ (n : ℕ). HasWalked s t n core place used) counted here)
-      c.at.ensures.slot (omega (arith, c.if-at-latest.true)) c.loop-place.invariant.latest;
+      walks_to_late s t core place c.args.latest used c.at-slot.result (subst (λ (n : ℕ). HasWalked s t n core place used) counted here)
+      c.at-slot.ensures.slot (omega (arith, c.if-slot-latest.true)) c.loop-place.invariant.latest;
 }
 
 pub returns : goal.returns
