@@ -1,6 +1,5 @@
 -- From the end of a job to the answer, and from the cause that there is none.
 use Rattle.std.proofs.Common.{◌≡◌, ◌≢◌, ◌⊎◌, inl, inr, ℕ, List, [], Option, Result, Ok, Err, IfOk, IfErr, ap, sym, refl, ◌∙◌, subst}
-use Rattle.fsim_ports.specs.Files.{Names}
 use Rattle.fsim_ports.specs.Sink.{grown, Breaks}
 use Rattle.mono_model.specs.declared.final_state.End.{End}
 use Rattle.mono_model.specs.declared.final_state.End.TheVariants as end
@@ -74,14 +73,14 @@ pub closes-refused : (line : Line) (sets : ℕ) (files : Reading) (contents : Li
     (files_of line ≡ [] → files.faults.after ≡ files.faults.before) → (status ≢ Memory → job_of line sets contents ≡ Err status) → Closes line sets files status
 closes-refused line sets files contents status read unread refused = elim (memory_or status) [
   | inl memory ↦ Starved memory
-  | inr other ↦ Refused (record { asks = record { contents = contents; read = read; same = refused other }; unread = unread })
+  | inr other ↦ Refused (record { contents = contents; read = read; same = refused other; unread = unread })
 ]
 
 -- a job that is made of what was read is asked for
-pub job-asks : (line : Line) (sets : ℕ) (told : Option Names) (contents : List (List ℕ)) (result : Result Job Status) → AreRead told (files_of line) contents →
-    Gives (job_of line sets contents) result → IfOk result (λ job. Asks line sets told (Ok job))
-job-asks line sets told contents (Ok job) read gives = record { contents = contents; read = read; same = gives }
-job-asks line sets told contents (Err status) read gives = tt
+pub job-asks : (line : Line) (sets : ℕ) (files : Reading) (contents : List (List ℕ)) (result : Result Job Status) → AreRead files.told (files_of line) contents →
+    (files_of line ≡ [] → files.faults.after ≡ files.faults.before) → Gives (job_of line sets contents) result → IfOk result (λ job. Asks line sets files (Ok job))
+job-asks line sets files contents (Ok job) read unread gives = record { contents = contents; read = read; same = gives; unread = unread }
+job-asks line sets files contents (Err status) read unread gives = tt
 
 -- or there is none
 pub job-closes : (line : Line) (sets : ℕ) (files : Reading) (contents : List (List ℕ)) (result : Result Job Status) → AreRead files.told (files_of line) contents →

@@ -24,7 +24,8 @@ pub fn open<F: Files>(
     requires ranges { IsInRange line.now }
     ensures told { F.told files.new ≡ F.told files.old }
     ensures count { F.faults files.old ≤ F.faults files.new }
-    ensures asks { IfOk result (λ job. Asks line.now sets (F.told files.old) (Ok job)) }
+    ensures asks { IfOk result (λ job. Asks line.now sets
+        (reading_of F.told F.faults files.old files.new) (Ok job)) }
     ensures can { IfOk result (λ job. CanBegin job) }
     ensures room { IfOk result (λ job. sets_for job ≤ sets) }
     ensures closes { IfErr result

@@ -18,7 +18,7 @@ answer-closed line sets files sink status answer same cause written =
     subst (λ (given : Status). IsAnswer (Some line) sets files sink given) (sym same) (inl (record { cause = cause; written = written }))
 
 -- there is one, and this is the answer to it
-pub answer-ran : (line : Line) (sets : ℕ) (files : Reading) (sink : Writing) (job : Job) (status : Status) → Asks line sets files.told (Ok job) → Ends job sink status →
+pub answer-ran : (line : Line) (sets : ℕ) (files : Reading) (sink : Writing) (job : Job) (status : Status) → Asks line sets files (Ok job) → Ends job sink status →
     IsAnswer (Some line) sets files sink status
 unfolding IsAnswer
 answer-ran line sets files sink job status asks ends = inr (record { job = job; asks = asks; ends = ends })

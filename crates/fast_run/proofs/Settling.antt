@@ -26,7 +26,7 @@ never-both job status same = cc
 
 module _ (line : Line) (sets : ℕ) (files : Reading) (names : Names) (told : files.told ≡ Some names) where
   -- the files were read, and what they hold asks for this
-  asked-contents : (wanted : Result Job Status) → Asks line sets files.told wanted → asked_job (Some line) sets names ≡ wanted
+  asked-contents : (wanted : Result Job Status) → Asks line sets files wanted → asked_job (Some line) sets names ≡ wanted
   asked-contents wanted asks =
       let P : Option Names → Type 0 = λ t. AreRead t (files_of line) asks.contents in
       ap (λ (r : Result (List (List ℕ)) Status). r >>= job_of line sets) (told-read names (files_of line) asks.contents (subst P told asks.read)) ∙ asks.same
@@ -40,7 +40,7 @@ module _ (line : Line) (sets : ℕ) (files : Reading) (names : Names) (told : fi
   -- there is no job
   asked-closed : (status : Status) → IsQuiet files.faults → Closes line sets files status → status ≢ Memory → asked_job (Some line) sets names ≡ Err status
   asked-closed status quiet (Stopped stop) other = asked-stopped status quiet stop other
-  asked-closed status quiet (Refused refusal) other = asked-contents (Err status) refusal.asks
+  asked-closed status quiet (Refused asks) other = asked-contents (Err status) asks
   asked-closed status quiet (Starved memory) other = absurd (other memory)
 
 settles-by : (asked wanted : Result Job Status) (status : Status) → asked ≡ wanted → Settles wanted status → Settles asked status

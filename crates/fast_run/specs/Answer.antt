@@ -19,10 +19,11 @@ pub record IsClosed (line : Line) (sets : ℕ) (files : Reading) (sink : Writing
 pub record HasRun (line : Line) (sets : ℕ) (files : Reading) (sink : Writing)
     (status : Status) : Type 0 where
   pub job : Job
-  pub asks : Asks line sets files.told (Ok job)
+  pub asks : Asks line sets files (Ok job)
   pub ends : Ends job sink status
 
--- the words are no line, no file was read, and the line of this answer was written
+-- the words are no line, the files' count of faults stands, and the line of this answer was
+-- written
 pub record IsUsage (files : Reading) (sink : Writing) (status : Status) : Type 0 where
   pub answer : status ≡ Usage
   pub unread : files.faults.after ≡ files.faults.before

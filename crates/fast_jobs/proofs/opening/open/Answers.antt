@@ -50,4 +50,5 @@ returns-clause-asks g c =
     let contents = c.in_ok-contents.contents.items in
     let files : c.as_slice.result.now ≡ files_of line = c.as_slice.ensures.value ∙ c.in_ok-named.ensures.files in
     let P : List NamedFile → Type 0 = λ named. AreRead told named contents in
-    job-asks line c.args.sets told contents c.job_of.result (subst P files c.in_ok-contents.ensures.read) c.job_of.ensures.job
+    job-asks line c.args.sets (reading_of g.F.Files.told g.F.Files.faults c.args.files.now c.read_files.new.files) contents c.job_of.result (subst P files c.in_ok-contents.ensures.read)
+    (λ none. c.in_ok-contents.ensures.unread (files ∙ none)) c.job_of.ensures.job
