@@ -57,10 +57,13 @@ def explore(options: argparse.Namespace) -> int:
         signal.signal(sign, signal.default_int_handler)
     plan = plan_of(options)
     if space.pictures and not plan.is_quiet and importlib.util.find_spec("matplotlib") is None:
-        say("there will be no pictures: this Python has no matplotlib (--draw makes them later)")
+        say(
+            "there will be no pictures: this Python has no matplotlib "
+            "(the same words and --draw make them later)"
+        )
     with Lock(plan.folder):
         if options.draw:
-            return finish(space, Journal(plan.folder, work_of(space, plan.squashed)), plan)
+            return redraw(space, plan)
         exploration = Exploration(space, plan, (lambda _: None) if plan.is_quiet else say)
         try:
             exploration.run()
@@ -92,6 +95,17 @@ def tabulate(space: Space, journal: Journal, plan: Plan) -> list[Entry]:
     entries = entries_of(space, journal)
     write_table(plan.folder / "rows.csv", space, entries, plan.squashed)
     return entries
+
+
+def redraw(space: Space, plan: Plan) -> int:
+    """Writes the table and the pictures anew, where there are rows."""
+    journal = Journal(plan.folder, work_of(space, plan.squashed))
+    others = journal.others()
+    if others and not plan.is_quiet:
+        say(f"{others}; they are kept")
+    if not entries_of(space, journal):
+        raise Fault("no machine has its row; table and pictures stay as they are")
+    return finish(space, journal, plan)
 
 
 def finish(space: Space, journal: Journal, plan: Plan) -> int:

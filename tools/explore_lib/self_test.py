@@ -78,6 +78,7 @@ WRONG = {
     "grid: core.window: 8 is no list": SPACE.replace("[1, 8]", "8"),
     "core.window: 8 stands twice": SPACE.replace("[1, 8]", "[8, 8]"),
     "core.window: it varies in two places": f"{SPACE}[together]\ncore.window = [1]",
+    "core.window: it varies, and [set] has it too": f"{SPACE}[set]\ncore.window = 4",
     "together 1: core.commit: 1 values, and core.fetch has 2": (
         f"{SPACE}[[together]]\ncore.fetch = [1, 2]\ncore.commit = [1]"
     ),
@@ -273,10 +274,26 @@ class SelfTest:
         said = self.explore(space, "changed")
         wanted = "explore: 4 rows of before aren't used, since the image changed; they are kept\n"
         self.expect("changed image", said, wanted)
+        self.check_draw_without_rows(image)
         shutil.copyfile(IMAGE, image)
         self.calls()
         self.explore(space, "changed")
         self.expect("image of before: machines run", sum(self.calls().values()), 0)
+
+    def check_draw_without_rows(self, image: Path) -> None:
+        """`--draw` says which rows it leaves out, and leaves a table that it has no row for."""
+        text = f"cycles = 500\n{SPACE.replace(str(IMAGE), str(image))}"
+        space = self.write_input(text, "bounded")
+        before = (self.folder / "changed" / "rows.csv").read_bytes()
+        said = io.StringIO()
+        with contextlib.redirect_stderr(said):
+            status = command.main(self.words(space, "changed", "--draw")[2:])
+        lines = said.getvalue().splitlines()
+        self.expect("draw without rows: status", status, 1)
+        self.expect("draw without rows: what changed", "the bound of cycles" in lines[0], True)
+        self.expect("draw without rows: line", "no machine has its row" in lines[-1], True)
+        after = (self.folder / "changed" / "rows.csv").read_bytes()
+        self.expect("draw without rows: table", after == before, True)
 
     def check_parallel(self) -> None:
         """GNU parallel gives the same table, where it is installed."""

@@ -1,6 +1,7 @@
 """Reading the input: a TOML file that describes a space. All of it is checked before a run."""
 
 from collections import Counter
+from collections.abc import Mapping
 from dataclasses import replace
 from pathlib import Path
 
@@ -27,10 +28,11 @@ def read_space(path: Path) -> Space:
     image = read_image(table)
     base = table.path("base", MOST_BYTES)
     values = read_base(base) if base else {}
-    values |= key_values(table.table("set"))
+    fixed = key_values(table.table("set"))
+    values |= fixed
     grid = read_lists(table.table("grid"))
     together = tuple(read_together(part) for part in table.tables("together"))
-    check_once(table, [*({name: grid[name]} for name in grid), *together])
+    check_once(table, [*({name: grid[name]} for name in grid), *together], fixed)
     options = Options(
         table.whole("cycles", 1, MOST_CYCLES),
         table.whole("output", 0, MOST_TEXT),
@@ -83,12 +85,14 @@ def read_together(table: Table) -> Lists:
     return lists
 
 
-def check_once(table: Table, groups: list[Lists]) -> None:
-    """Refuses a key that varies in two places, and values that stand twice."""
+def check_once(table: Table, groups: list[Lists], fixed: Mapping[str, Value]) -> None:
+    """Refuses a key that varies in two places or is set besides, and values that stand twice."""
     names = Counter(name for lists in groups for name in lists)
     for name, count in names.items():
         if count > 1:
             raise table.fault(name, "it varies in two places")
+        if name in fixed:
+            raise table.fault(name, "it varies, and [set] has it too")
     for lists in groups:
         for row, count in Counter(zip(*lists.values(), strict=True)).items():
             if count > 1:
