@@ -11,7 +11,6 @@ ghost use Rattle.fast_jobs.specs.Job.{CanBegin, CanStart, sets_for, soak_setup};
 ghost use Rattle.fast_jobs.specs.Reading.{AreWithin};
 
 use crate::image::read_image;
-use crate::machine::ram_of;
 use crate::plan::Plan;
 use crate::refusal::Refusal;
 use crate::script::read_script;
@@ -88,7 +87,7 @@ fn func_job(alloc: Global, options: &Options, contents: Vec<Bytes>) -> Result<Si
     ensures can { IfOk result (λ job. CanStart job) }
 {
     let params = Params::plain();
-    let image = read_image(alloc, bytes_at(contents.as_slice(), 0), ram_of(&params))?;
+    let image = read_image(alloc, bytes_at(contents.as_slice(), 0), params.ram_range())?;
     let input = take_at(alloc, contents, 1);
     Ok(SingleJob::Func(setup_for(params, options, image, input)))
 }
@@ -185,7 +184,7 @@ fn back_job(
 {
     let params = Params::plain();
     let files = contents.as_slice();
-    let image = read_image(alloc, bytes_at(files, 0), ram_of(&params))?;
+    let image = read_image(alloc, bytes_at(files, 0), params.ram_range())?;
     let script = read_script(alloc, bytes_at(files, 1))?;
     let input = take_at(alloc, contents, 2);
     Ok(SingleJob::Back(setup_for(params, options, image, input), history, script))

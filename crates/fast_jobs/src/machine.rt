@@ -1,12 +1,11 @@
 ghost use Rattle.std.specs.Prelude.{◌≡◌, ◌≢◌, true, IfOk, IfErr};
-ghost use Rattle.mono_model.specs.Setup.{are_params, ram_range};
+ghost use Rattle.mono_model.specs.Setup.{are_params};
 ghost use Rattle.report_text.specs.declared.status.Status.TheVariants.{Memory};
 ghost use Rattle.report_text.specs.SweepText.{is_sweep_refusal};
 ghost use Rattle.fast_jobs.specs.Gives.{Gives};
 ghost use Rattle.fast_jobs.specs.Stages.{machine_in};
 
 use crate::refusal::Refusal;
-use fsim_base::RamRange;
 use machine_file::read;
 use mono_model::Params;
 use std::alloc::Global;
@@ -19,14 +18,4 @@ pub fn read_machine(alloc: Global, bytes: &[u8]) -> Result<Params, Refusal>
     ensures line { IfErr result (λ status. status ≢ Memory → is_sweep_refusal status ≡ true) }
 {
     Ok(read(alloc, bytes)?)
-}
-
-/// The RAM of a machine.
-pub fn ram_of(params: &Params) -> RamRange
-    ensures ram { result ≡ ram_range params.now }
-{
-    RamRange {
-        base: params.ram_base,
-        size: params.ram_size,
-    }
 }

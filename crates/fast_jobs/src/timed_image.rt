@@ -8,7 +8,7 @@ ghost use Rattle.fast_jobs.specs.Gives.{Gives};
 ghost use Rattle.fast_jobs.specs.Stages.{timed_image};
 
 use crate::image::read_image;
-use crate::machine::{ram_of, read_machine};
+use crate::machine::read_machine;
 use crate::refusal::Refusal;
 use elf_image::Image;
 use mono_model::Params;
@@ -31,6 +31,6 @@ pub fn timed_image(alloc: Global, machine: &[u8], image: &[u8]) -> Result<Loaded
     ensures line { IfErr result (λ status. status ≢ Memory → is_sweep_refusal status ≡ true) }
 {
     let params = read_machine(alloc, machine)?;
-    let image = read_image(alloc, image, ram_of(&params))?;
+    let image = read_image(alloc, image, params.ram_range())?;
     Ok(Loaded { params, image })
 }

@@ -12,7 +12,7 @@ use crate::hart::{Hart, StoreAccess, compare, plain, trap_before};
 use crate::memory::Memory;
 use crate::performed::{Interrupted, Made, OldRegister, PastStep, Performed, Stepped};
 use device_bus::{Bus, Device};
-use fsim_base::{Access, Class, Halt, NoMemory, RamRange, Spot, Width};
+use fsim_base::{Access, Class, Halt, NoMemory, Spot, Width};
 use machine_csr::Csrs;
 use mono_model::{End, Final, Setup, Stats, end_of};
 use std::alloc::Global;
@@ -349,13 +349,9 @@ impl<D: Device> Contents<D> {
         ensures fresh { IfOk result (λ contents. retired_in contents ≡ 0) }
         ensures room { IfOk result (λ contents. contents.hart.room ≡ setup.now.output + ahead) }
     {
-        let range = RamRange {
-            base: setup.params.ram_base,
-            size: setup.params.ram_size,
-        };
         let mut bus = Bus::new(devices);
         bus.start(alloc, setup.input.as_slice())?;
-        let memory = Memory::new(alloc, range, &setup.image)?;
+        let memory = Memory::new(alloc, setup.params.ram_range(), &setup.image)?;
         let room = setup.output + ahead;
         let Ok(output) = Vec::with_capacity(alloc, room as usize) else {
             return Err(NoMemory);

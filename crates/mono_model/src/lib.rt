@@ -9,6 +9,7 @@ mod final_state;
 mod params;
 mod setup;
 
+pub use device_bus::INPUT_LIMIT;
 pub use final_state::{End, Final, Stats, end_of};
 pub use params::Params;
-pub use setup::Setup;
+pub use setup::{CYCLE_LIMIT, OUTPUT_LIMIT, RING_LIMIT, Setup};

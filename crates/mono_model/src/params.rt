@@ -2,6 +2,7 @@ ghost use Rattle.std.specs.Prelude.{◌≡◌, ℕ};
 ghost use Rattle.mono_model.specs.Ranges.{is_between, is_power_between, is_ram, is_unit, is_cache};
 
 use branch_predictor::PredKind;
+use fsim_base::RamRange;
 
 fn is_between(low: u32, high: u32, number: u32) -> bool
     ensures between { result ≡ is_between low high number }
@@ -121,7 +122,7 @@ impl Params {
     ghost use Rattle.std.specs.Prelude.{true};
     ghost use Rattle.mono_model.specs.Plain.{plain_params};
     ghost use Rattle.mono_model.specs.Setup.{are_core, are_units, is_predictor, are_caches};
-    ghost use Rattle.mono_model.specs.Setup.{is_version, are_params};
+    ghost use Rattle.mono_model.specs.Setup.{is_version, are_params, ram_range};
 
     /// The plain machine: that of a machine file with no keys, and of a run without one.
     pub fn plain() -> Params
@@ -163,6 +164,16 @@ impl Params {
             l2_ways: 0,
             l2_hit: 10,
             l2_miss: 100,
+        }
+    }
+
+    /// The addresses of RAM.
+    pub fn ram_range(&self) -> RamRange
+        ensures range { result ≡ ram_range self.now }
+    {
+        RamRange {
+            base: self.ram_base,
+            size: self.ram_size,
         }
     }
 
