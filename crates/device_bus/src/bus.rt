@@ -35,15 +35,18 @@ fn is_set<D: Device>(console: &D, timer: &D, finisher: &D) -> bool
         && finisher.kind() == DeviceKind::Finisher
 }
 
+/// How many devices a set has: console, timer, finisher.
+pub const SET_SIZE: usize = 3;
+
 /// How many sets of devices there may be.
-const SETS_LIMIT: usize = 64;
+pub const SETS_LIMIT: usize = 64;
 
 /// Whether there are from 1 to 64 sets of three devices, each console, timer, finisher, in this
 /// order.
 pub fn sets_in_order<D: Device>(devices: &[D]) -> bool
     ensures order { IsTrue result ↔ AreSets (length devices.now / 3) (map D.kind devices.now) }
 {
-    let sets = devices.len() / 3;
+    let sets = devices.len() / SET_SIZE;
     1 <= sets && sets <= SETS_LIMIT && are_whole_sets(devices)
 }
 

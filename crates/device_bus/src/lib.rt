@@ -13,7 +13,7 @@ mod timer;
 mod undo;
 
 pub use any_device::AnyDevice;
-pub use bus::{Bus, in_order, sets_in_order};
+pub use bus::{Bus, SET_SIZE, SETS_LIMIT, in_order, sets_in_order};
 pub use console::Console;
 pub use device::{Device, INPUT_LIMIT};
 pub use finisher::Finisher;

@@ -12,7 +12,7 @@ use crate::plan::Plan;
 use crate::refusal::tell_want_of_memory;
 use crate::script::run_script;
 use crate::sweep::run_sweep;
-use device_bus::Device;
+use device_bus::{Device, SET_SIZE};
 use fast_threads::{Named, Session};
 use fsim_base::NoMemory;
 use fsim_ports::{Gate, Sink};
@@ -82,7 +82,7 @@ pub fn first_set<D: Device>(devices: Vec<D>) -> Vec<D>
     ensures order { map D.kind result.items ≡ device_order }
 {
     let mut devices = devices;
-    devices.truncate(3);
+    devices.truncate(SET_SIZE);
     devices
 }
 

@@ -7,7 +7,7 @@ ghost use Rattle.fast_jobs.specs.Job.{is_still};
 ghost use Rattle.fast_run.specs.Answer.{IsAnswer};
 ghost use Rattle.fast_run.specs.Settled.{IsComplete, IsSettled};
 
-use device_bus::Device;
+use device_bus::{Device, SET_SIZE};
 use fast_cli::{Line, UsageFault, read_words};
 use fast_jobs::{Job, Refusal, first_set, open, run, run_in_threads, tell_want_of_memory};
 use fsim_ports::{Files, Gate, Sink};
@@ -115,7 +115,7 @@ pub fn fast_still<F: Files, K: Sink, D: Device>(
         (reading_of F.told F.faults files.old files.new)
         (writing_of K.written K.faults sink.old sink.new) result }
 {
-    match open(alloc, line, devices.len() / 3, files) {
+    match open(alloc, line, devices.len() / SET_SIZE, files) {
         Ok(Job::Single(job)) => run(alloc, &job, first_set(devices), sink),
         // The line isn't a sweep's, whose runs have threads of their own.
         Ok(Job::Sweep(_)) => unreachable!(),
@@ -142,7 +142,7 @@ fn answer_in_threads<R: Threads + Wait + Sync, F: Files, K: Sink, G: Gate + Sync
         (reading_of F.told F.faults files.old files.new)
         (writing_of K.written K.faults sink.old sink.new) result }
 {
-    match open(alloc, line, devices.len() / 3, files) {
+    match open(alloc, line, devices.len() / SET_SIZE, files) {
         Ok(job) => run_in_threads(rt, alloc, &job, devices, sink, gate),
         Err(refusal) => refusal.tell(sink),
     }

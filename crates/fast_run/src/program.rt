@@ -8,7 +8,7 @@ ghost use Rattle.fast_run.specs.Answer.{IsAnswer};
 ghost use Rattle.fast_run.specs.Program.{IsNoText, line_in, status_of_error};
 
 use crate::answer::fast_main;
-use device_bus::{AnyDevice, Console, Finisher, Timer, sets_in_order};
+use device_bus::{AnyDevice, Console, Finisher, SET_SIZE, SETS_LIMIT, Timer, sets_in_order};
 use fast_jobs::{Refusal, tell_want_of_memory};
 use fsim_ports::{Files, HostFiles, HostSink, QuietGate, Sink};
 use report_text::Status;
@@ -111,9 +111,6 @@ fn answer_texts<R: Threads + Wait + Sync, F: Files, K: Sink>(
     answer_words(rt, alloc, words.as_slice(), files, sink)
 }
 
-/// How many sets of devices there are: as many as a sweep can name machines.
-const SETS: usize = 64;
-
 /// The answer to the words, with devices of its own. Where no memory is found for these, files and
 /// sink are as they were.
 pub fn answer_words<R: Threads + Wait + Sync, F: Files, K: Sink>(
@@ -132,7 +129,8 @@ pub fn answer_words<R: Threads + Wait + Sync, F: Files, K: Sink>(
     ensures untouched { OnErr result ((files.new ≡ files.old) × (sink.new ≡ sink.old)) }
 {
     let mut devices = Vec::new(alloc);
-    for _ in 0..SETS {
+    // As many sets as a sweep can name machines.
+    for _ in 0..SETS_LIMIT {
         let Ok(console) = Console::new(alloc) else {
             return Err(AllocError);
         };
@@ -141,7 +139,7 @@ pub fn answer_words<R: Threads + Wait + Sync, F: Files, K: Sink>(
         devices.push(AnyDevice::Finisher(Finisher::new()))?;
     }
     // They are in order. The test tells the condition of the call below.
-    if devices.len() != 3 * SETS || !sets_in_order(devices.as_slice()) {
+    if devices.len() != SET_SIZE * SETS_LIMIT || !sets_in_order(devices.as_slice()) {
         return Err(AllocError);
     }
     Ok(fast_main(rt, alloc, words, files, sink, devices, &QuietGate))
