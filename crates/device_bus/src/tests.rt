@@ -117,7 +117,7 @@ fn console_load_is_taken_back(rt: HostRuntime) -> Result<(), Fail> {
 }
 
 #[test]
-fn registers_of_each_device(rt: HostRuntime) -> Result<(), Fail> {
+fn registers_answer_and_keep_what_their_tables_say(rt: HostRuntime) -> Result<(), Fail> {
     let console = Console::new(rt.alloc()).ok().ok_or("no memory")?;
     check_all(&rt, rt.alloc(), console, &CONSOLE);
     check_all(&rt, rt.alloc(), Timer::new(), &TIMER);
@@ -209,7 +209,7 @@ fn drive<D: Device>(rt: &impl Abort, alloc: Global, devices: Vec<D>)
 }
 
 #[test]
-fn bus_of_boxes(rt: HostRuntime) -> Result<(), Fail> {
+fn bus_drives_devices_in_boxes(rt: HostRuntime) -> Result<(), Fail> {
     let alloc = rt.alloc();
     let mut devices: Vec<Box<dyn Device + Send>> = Vec::new(alloc);
     devices.push(Box::new(alloc, Console::new(alloc).ok().ok_or("no memory")?)?)?;
@@ -222,7 +222,7 @@ fn bus_of_boxes(rt: HostRuntime) -> Result<(), Fail> {
 }
 
 #[test]
-fn bus_of_one_type(rt: HostRuntime) -> Result<(), Fail> {
+fn bus_drives_devices_of_one_type(rt: HostRuntime) -> Result<(), Fail> {
     let alloc = rt.alloc();
     let mut devices = Vec::new(alloc);
     devices.push(AnyDevice::Console(Console::new(alloc).ok().ok_or("no memory")?))?;
@@ -244,7 +244,7 @@ fn push_set(alloc: Global, devices: &mut Vec<Box<dyn Device + Send>>) -> Result<
 }
 
 #[test]
-fn sets_of_boxes(rt: HostRuntime) -> Result<(), Fail> {
+fn whole_sets_are_in_order_up_to_64_of_them(rt: HostRuntime) -> Result<(), Fail> {
     let alloc = rt.alloc();
     let mut devices: Vec<Box<dyn Device + Send>> = Vec::new(alloc);
     assert!(rt; !sets_in_order(&devices));

@@ -296,7 +296,7 @@ fn cut_short(len: usize) -> ImageFault {
 }
 
 #[test]
-fn files_that_are_cut_short(rt: HostRuntime) -> Result<(), Fail> {
+fn file_that_is_cut_short_is_refused(rt: HostRuntime) -> Result<(), Fail> {
     let file = smallest();
     for len in 0..file.len() {
         let fault = cut_short(len);
@@ -306,7 +306,7 @@ fn files_that_are_cut_short(rt: HostRuntime) -> Result<(), Fail> {
 }
 
 #[test]
-fn hostile_files(rt: HostRuntime) -> Result<(), Fail> {
+fn files_with_changed_fields_get_their_answers(rt: HostRuntime) -> Result<(), Fail> {
     for &(name, patches, want) in patched() {
         check(&rt, rt.alloc(), name, smallest(), patches, want)?;
     }
@@ -314,7 +314,7 @@ fn hostile_files(rt: HostRuntime) -> Result<(), Fail> {
 }
 
 #[test]
-fn hostile_files_of_two_headers(rt: HostRuntime) -> Result<(), Fail> {
+fn files_of_two_headers_get_their_answers(rt: HostRuntime) -> Result<(), Fail> {
     for &(name, patches, want) in patched_pairs() {
         check(&rt, rt.alloc(), name, doubled(), patches, want)?;
     }

@@ -110,7 +110,7 @@ fn absent() -> &'static [u16] {
 }
 
 #[test]
-fn registers_show_and_keep_what_the_manual_says(rt: HostRuntime) {
+fn registers_show_and_keep_what_their_table_says(rt: HostRuntime) {
     for &(csr, value, after) in writable() {
         assert_eq!(rt; read(&busy(), csr), Some(value), "read {csr:x}");
         assert_eq!(rt;

@@ -239,7 +239,7 @@ fn text_and_data(alloc: Global) -> Result<Vec<Segment>, Fail> {
 }
 
 #[test]
-fn text_beside_data(rt: HostRuntime) -> Result<(), Fail> {
+fn stores_reach_the_text_once_it_is_synced(rt: HostRuntime) -> Result<(), Fail> {
     let alloc = rt.alloc();
     let range = RamRange {
         base: 0x8000_0000,

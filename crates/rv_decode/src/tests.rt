@@ -153,7 +153,7 @@ fn words_of_the_gnu_assembler(rt: HostRuntime) {
 }
 
 #[test]
-fn words_outside_the_table(rt: HostRuntime) {
+fn words_outside_the_table_decode_to_nothing(rt: HostRuntime) {
     for &word in illegal() {
         assert_eq!(rt; decode(word), None, "{word:08x}");
     }
@@ -202,7 +202,7 @@ fn asked() -> &'static [(u32, Asked)] {
 }
 
 #[test]
-fn what_a_pipeline_asks(rt: HostRuntime) {
+fn instructions_tell_a_pipeline_what_the_table_says(rt: HostRuntime) {
     for &(word, wanted) in asked() {
         let insn = decode(word).expect(&rt, "a word of the table");
         let asked = (insn.class(), insn.flow(), insn.sources(), insn.dest());

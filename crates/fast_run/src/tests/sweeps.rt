@@ -47,7 +47,7 @@ fn lines_stand_in_the_order_of_the_words(rt: HostRuntime) -> Result<(), Fail> {
 
 /// A sweep takes a set of devices for each machine that it names.
 #[test]
-fn two_machines_and_one_set_of_devices(rt: HostRuntime) -> Result<(), Fail> {
+fn two_machines_want_two_sets_of_devices(rt: HostRuntime) -> Result<(), Fail> {
     let alloc = rt.alloc();
     let devices = set_with(alloc, Box::new(alloc, Console::new(alloc)?)?)?;
     let mut files = files_of_runs(alloc)?;
