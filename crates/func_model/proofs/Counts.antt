@@ -1,29 +1,13 @@
 -- Counts of a run, and how it ends.
 use Rattle.std.proofs.Common.{◌≡◌, ℕ, ◌+◌, ◌≤◌, Bool, true, false, if◌then◌else◌, Option, Some, None, refl, ap, ◌∙◌, arith}
 use Rattle.fsim_base.specs.declared.cause.Cause.{Cause}
-use Rattle.machine_csr.specs.declared.csrs.Csrs.{Csrs}
-use Rattle.machine_csr.specs.declared.csrs.CsrWrite.{CsrWrite}
-use Rattle.machine_csr.specs.Trap.{trap_left}
 use Rattle.mono_model.specs.Arch.{Arch, trapped}
-use Rattle.mono_model.specs.Found.{Found, refused, unknown, known, is_csr_insn, is_mret_insn}
+use Rattle.mono_model.specs.Found.{Found}
 use Rattle.mono_model.specs.Result.{Result}
-use Rattle.mono_model.specs.Effect.{effect, effect_by, retired, csr_change, changed_csrs}
+use Rattle.mono_model.specs.Effect.{effect, effect_by, retired}
 use Rattle.mono_model.specs.Alone.{count_cause}
+use Rattle.mono_model.proofs.Retired.{changed_retired}
 use Rattle.func_model.specs.Steps.{behind}
-use Rattle.func_model.proofs.System.{written_retired}
-
-change_retired : (given : Option (ℕ × CsrWrite)) (s : Csrs) → (csr_change given s).retired ≡ s.retired
-change_retired None s = refl
-change_retired (Some made) s = written_retired made.1 s
-
-if_retired : (b : Bool) (x y : Csrs) (n : ℕ) → x.retired ≡ n → y.retired ≡ n → (if◌then◌else◌ {A = Csrs} b x y).retired ≡ n
-if_retired true x y n p q = p
-if_retired false x y n p q = q
-
-changed_retired : (found : Found) (time : Option ℕ) (a : Arch) → (changed_csrs found time a).retired ≡ a.csrs.retired
-changed_retired (refused cause) time a = refl
-changed_retired (unknown word) time a = refl
-changed_retired (known word i) time a = if_retired (is_csr_insn i) _ _ a.csrs.retired (change_retired _ a.csrs) (if_retired (is_mret_insn i) (trap_left a.csrs) a.csrs a.csrs.retired refl refl)
 
 by_cause_retired : (cause : Option Cause) (found : Found) (r : Result) (time : Option ℕ) (addr : ℕ) (a : Arch) → (effect_by cause found r time addr a).csrs.retired + count_cause cause ≡ a.csrs.retired + 1
 unfolding retired trapped

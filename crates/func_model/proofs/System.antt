@@ -1,14 +1,12 @@
 -- The effect of a CSR instruction and of MRET.
-use Rattle.std.proofs.Common.{◌≡◌, ℕ, ◌==◌, List, [], ◌∷◌, Bool, true, false, if◌then◌else◌, Option, Some, None, unwrap_or, refl, ap, sym, subst, ◌∙◌}
+use Rattle.std.proofs.Common.{◌≡◌, ℕ, true, Option, Some, None, unwrap_or, refl, ap, sym, subst, ◌∙◌}
 use Rattle.fsim_base.specs.declared.access.RamRange.{RamRange}
 use Rattle.rv_decode.specs.declared.insn.Insn.{Insn}
 use Rattle.rv_decode.specs.declared.insn.Insn.TheVariants as insn
 use Rattle.rv_decode.specs.Class.{sources_of}
 use Rattle.rv_exec.specs.Eval.{eval_of}
 use Rattle.machine_csr.specs.declared.csrs.CsrWrite.{CsrWrite}
-use Rattle.machine_csr.specs.declared.csrs.Csrs.{Csrs}
-use Rattle.machine_csr.specs.declared.csrs.CsrWrite.TheVariants as write
-use Rattle.machine_csr.specs.Csr.{csr_access, csr_written, Row, rows, row_in, row_at, kept_by}
+use Rattle.machine_csr.specs.Csr.{csr_access}
 use Rattle.machine_csr.specs.Trap.{return_address}
 use Rattle.fsim_base.specs.declared.access.Access.TheVariants as access
 use Rattle.fsim_base.specs.Cause.{cause_number}
@@ -94,25 +92,3 @@ unknown_behind range limit time word a = refl
 pub unknown_result_of : (range : RamRange) (time : Option ℕ) (word : ℕ) (a : Arch) → result_of range (unknown word) time a ≡ failing a.pc IllegalInstruction word
 unfolding executed
 unknown_result_of range time word a = refl
-
--- every step that isn't a trap retires one instruction
-abbrev pub Keeping : List Row → Type 0
-Keeping [] = Unit {0}
-Keeping (r ∷ rs) = ((s : Csrs) (v : ℕ) → (r.keeps s v).retired ≡ s.retired) × Keeping rs
-
-kept_if : (here : Bool) (r : Row) (other : Option Row) (s : Csrs) (v : ℕ) → (r.keeps s v).retired ≡ s.retired → (kept_by other s v).retired ≡ s.retired →
-    (kept_by (if here then Some r else other) s v).retired ≡ s.retired
-kept_if true r other s v p q = p
-kept_if false r other s v p q = q
-
-kept_in : (rs : List Row) → Keeping rs → (csr : ℕ) (s : Csrs) (v : ℕ) → (kept_by (row_in rs csr) s v).retired ≡ s.retired
-kept_in [] keeps csr s v = refl
-kept_in (r ∷ rs) keeps csr s v = kept_if (r.address == csr) r (row_in rs csr) s v (keeps.0 s v) (kept_in rs keeps.1 csr s v)
-
-rows_keep : Keeping rows
-rows_keep = (λ s v. refl, (λ s v. refl, (λ s v. refl, (λ s v. refl, (λ s v. refl, (λ s v. refl, (λ s v. refl, (λ s v. refl, (λ s v. refl, (λ s v. refl, (λ s v. refl, (λ s v. refl, (λ s v. refl, (λ s v. refl, (λ s v. refl, (λ s v. refl, (λ s v. refl, (λ s v. refl, (λ s v. refl, (λ s v. refl, (λ s v. refl, (λ s v. refl, (λ s v. refl, (λ s v. refl, (λ s v. refl, (λ s v. refl, (λ s v. refl, (λ s v. refl, tt))))))))))))))))))))))))))))
-
-pub written_retired : (write : CsrWrite) (s : Csrs) → (csr_written write s).retired ≡ s.retired
-unfolding csr_written row_at
-written_retired write.Nothing s = refl
-written_retired (write.Put csr value) s = kept_in rows rows_keep csr s value

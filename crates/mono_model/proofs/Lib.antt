@@ -4,3 +4,4 @@ pub mod Issue
 pub mod Commits
 pub mod Next
 pub mod Found
+pub mod Retired

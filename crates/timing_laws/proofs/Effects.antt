@@ -1,55 +1,14 @@
 -- What the effect of an instruction is on the count of retired instructions, and on the output.
-use Rattle.std.proofs.Common.{◌≡◌, ℕ, ◌+◌, ◌==◌, Bool, true, false, if◌then◌else◌, is_some, Option, Some, None, List, [], ◌∷◌, length, length-append, refl, ap, arith}
+use Rattle.std.proofs.Common.{◌≡◌, ℕ, ◌+◌, if◌then◌else◌, is_some, Option, Some, None, List, [], ◌∷◌, length, length-append, refl, ap, arith}
 use Rattle.fsim_base.specs.declared.cause.Cause.{Cause}
-use Rattle.machine_csr.specs.declared.csrs.Csrs.{Csrs}
-use Rattle.machine_csr.specs.declared.csrs.CsrWrite.{CsrWrite}
-use Rattle.machine_csr.specs.declared.csrs.CsrWrite.TheVariants as write
-use Rattle.machine_csr.specs.Csr.{Row, rows, row_in, row_at, kept_by, csr_written}
-use Rattle.machine_csr.specs.Trap.{trap_left}
 use Rattle.device_bus.specs.declared.undo.Note.{Note}
 use Rattle.device_bus.specs.declared.undo.Note.TheVariants as note
 use Rattle.mono_model.specs.Arch.{Arch, trapped}
-use Rattle.mono_model.specs.Found.{Found, refused, unknown, known, is_csr_insn, is_mret_insn}
+use Rattle.mono_model.specs.Found.{Found}
 use Rattle.mono_model.specs.Result.{Result}
-use Rattle.mono_model.specs.Effect.{effect, effect_by, retired, csr_change, changed_csrs, note_of, with_note}
+use Rattle.mono_model.specs.Effect.{effect, effect_by, retired, note_of, with_note}
 use Rattle.mono_model.specs.Sequence.{byte_in}
-
--- no write of a CSR changes the count
-abbrev pub Keeping : List Row → Type 0
-Keeping [] = Unit {0}
-Keeping (r ∷ rest) = ((csrs : Csrs) (value : ℕ) → (r.keeps csrs value).retired ≡ csrs.retired) × Keeping rest
-
-kept_if : (here : Bool) (r : Row) (other : Option Row) (csrs : Csrs) (value : ℕ) → (r.keeps csrs value).retired ≡ csrs.retired →
-    (kept_by other csrs value).retired ≡ csrs.retired → (kept_by (if here then Some r else other) csrs value).retired ≡ csrs.retired
-kept_if true r other csrs value first second = first
-kept_if false r other csrs value first second = second
-
-kept_in : (table : List Row) → Keeping table → (csr : ℕ) (csrs : Csrs) (value : ℕ) → (kept_by (row_in table csr) csrs value).retired ≡ csrs.retired
-kept_in [] keeps csr csrs value = refl
-kept_in (r ∷ rest) keeps csr csrs value =
-    kept_if (r.address == csr) r (row_in rest csr) csrs value (keeps.0 csrs value) (kept_in rest keeps.1 csr csrs value)
-
-rows_keep : Keeping rows
-rows_keep = (λ s v. refl, (λ s v. refl, (λ s v. refl, (λ s v. refl, (λ s v. refl, (λ s v. refl, (λ s v. refl, (λ s v. refl, (λ s v. refl, (λ s v. refl, (λ s v. refl, (λ s v. refl, (λ s v. refl, (λ s v. refl, (λ s v. refl, (λ s v. refl, (λ s v. refl, (λ s v. refl, (λ s v. refl, (λ s v. refl, (λ s v. refl, (λ s v. refl, (λ s v. refl, (λ s v. refl, (λ s v. refl, (λ s v. refl, (λ s v. refl, (λ s v. refl, tt))))))))))))))))))))))))))))
-
-written_retired : (w : CsrWrite) (csrs : Csrs) → (csr_written w csrs).retired ≡ csrs.retired
-unfolding csr_written row_at
-written_retired write.Nothing csrs = refl
-written_retired (write.Put csr value) csrs = kept_in rows rows_keep csr csrs value
-
-change_retired : (given : Option (ℕ × CsrWrite)) (csrs : Csrs) → (csr_change given csrs).retired ≡ csrs.retired
-change_retired None csrs = refl
-change_retired (Some made) csrs = written_retired made.1 csrs
-
-if_retired : (b : Bool) (x y : Csrs) (n : ℕ) → x.retired ≡ n → y.retired ≡ n → (if◌then◌else◌ {A = Csrs} b x y).retired ≡ n
-if_retired true x y n first second = first
-if_retired false x y n first second = second
-
-changed_retired : (found : Found) (time : Option ℕ) (a : Arch) → (changed_csrs found time a).retired ≡ a.csrs.retired
-changed_retired (refused cause) time a = refl
-changed_retired (unknown word) time a = refl
-changed_retired (known word i) time a =
-    if_retired (is_csr_insn i) _ _ a.csrs.retired (change_retired _ a.csrs) (if_retired (is_mret_insn i) (trap_left a.csrs) a.csrs a.csrs.retired refl refl)
+use Rattle.mono_model.proofs.Retired.{changed_retired}
 
 -- without a cause
 note_length : (what : Note) (output : List ℕ) → length (with_note what output) ≡ length output + (if is_some (byte_in what) then 1 else 0)
