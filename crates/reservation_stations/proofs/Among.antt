@@ -55,13 +55,13 @@ module _ (capacity retired : ℕ) (stations : List Station) (sets : Sets) (are :
   its : place_of retired (turn_among retired from (place - from)) ≡ place
   its = omega (arith, small, few, behind, inside)
 
-  pub ready_there : ((k : ℕ) → k < 64 → (bit_at word k == 1) ≡ (holds sets.idle (turn_among retired from k) && not (holds sets.short (turn_among retired from k)))) →
+  pub ready_there : ((k : ℕ) → k < 64 → (bit_at word k == 1) ≡ (holds sets.waiting (turn_among retired from k) && not (holds sets.short (turn_among retired from k)))) →
       has (record { from = from; word = word }) place ≡ can_begin_at stations place
   ready_there is =
       let t = turn_among retired from (place - from) in
       let fits : t < 256 = omega arith in
       has_inside from word place behind ∙ is (place - from) (omega (arith, behind, inside))
-      ∙ (λ i. are.idle t fits i && not (are.short t fits i))
+      ∙ (λ i. are.waiting t fits i && not (are.short t fits i))
       ∙ begins (older_than (place_of retired t) stations) (slice_get stations (place_of retired t))
       ∙ ap (can_begin_at stations) its
 

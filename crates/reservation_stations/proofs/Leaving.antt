@@ -38,6 +38,12 @@ waits_not Issued done = refl
 waits_not Done done = refl
 waits_not Faulted done = refl
 
+done_is : (mark : Mark) → is_done mark ≡ true → mark ≡ Done
+done_is Waiting done = absurd cc
+done_is Issued done = absurd cc
+done_is Done done = refl
+done_is Faulted done = absurd cc
+
 pub executes_not : (mark : Mark) → is_done mark ≡ true → is_issued mark ≡ false
 executes_not Waiting done = refl
 executes_not Issued done = absurd cc
@@ -171,9 +177,11 @@ module _ {capacity : ℕ} {indices : List ℕ} {rows : List Row} {producers : Li
         let nothing : get_or (mine (row_at rows index)) 256 None ≡ None = ap (λ xs. get_or xs 256 None) (sym (dropped ∙ ap mine retired_row)) ∙ apart ∙ keeps.no_source in
         rw (dropped, retired_row) (AreTables-rest capacity index (drop 1 indices) rows producers waiting waiting' first_keeps nothing left_by)
 
-    pub AreTables-retired_done : is_done row.mark ≡ true → AreTables capacity (drop 1 indices) rows producers waiting
-    AreTables-retired_done done =
-        AreTables-first_done (subst (λ (e : Row). is_done e.mark ≡ true) retired_row done)
+    -- so has the oldest station, where its row is done
+    pub retired_done : is_done row.mark ≡ true → oldest_mark w.stations ≡ Some Done
+    retired_done done =
+        ap (λ (v : Window). oldest_mark v.stations) (sym is_seen) ∙ ap (λ xs. oldest_mark (stations_at (row_at rows) xs)) is_first
+        ∙ ap (λ (e : Row). Some e.mark) (sym retired_row) ∙ ap Some (done_is row.mark done)
 
   pub seen-retired : seen capacity (drop 1 indices) rows ≡ record w { stations = drop 1 w.stations }
   seen-retired =

@@ -55,16 +55,16 @@ noted_both k index other first second was mid now here first_is second_is mid_is
     ∙ ap (λ b. was || (b && here)) (or_turned (k == other) (k == index) ∙ λ i. is_index k (sym first_is i) || is_index k (sym second_is i))
 
 -- the sets of a station more
-pub AreSets-noted : (capacity turn : ℕ) (old new : Sets) (idles executes : ℕ → Bool) (missed : ℕ → Missing) (value : Missing) → missed turn ≡ nothing → AreSets capacity idles executes missed old →
+pub AreSets-noted : (capacity turn : ℕ) (old new : Sets) (waits executes : ℕ → Bool) (missed : ℕ → Missing) (value : Missing) → missed turn ≡ nothing → AreSets capacity waits executes missed old →
     length new.dependents.items ≡ length old.dependents.items →
-    ((other : ℕ) → holds new.idle other ≡ (holds old.idle other || (other == turn))) → ((other : ℕ) → holds new.executing other ≡ holds old.executing other) →
+    ((other : ℕ) → holds new.waiting other ≡ (holds old.waiting other || (other == turn))) → ((other : ℕ) → holds new.executing other ≡ holds old.executing other) →
     ((other : ℕ) → holds new.short other ≡ (holds old.short other || (misses_one value && (other == turn)))) →
     ((other : ℕ) → holds new.both other ≡ (holds old.both other || (misses_both value && (other == turn)))) →
     ((index other : ℕ) → index < length old.dependents.items → holds (dependents_of new.dependents.items index) other ≡ (holds (dependents_of old.dependents.items index) other || (awaits index value && (other == turn)))) →
-    AreSets capacity (put turn true idles) executes (put turn value missed) new
-AreSets-noted capacity turn old new idles executes missed value free sets long idle executing short both dependents = record {
+    AreSets capacity (put turn true waits) executes (put turn value missed) new
+AreSets-noted capacity turn old new waits executes missed value free sets long waiting executing short both dependents = record {
   every_index = long ∙ sets.every_index;
-  idle = λ other within. put_in turn other idles (holds old.idle other) (holds new.idle other) (idle other) (sets.idle other within);
+  waiting = λ other within. put_in turn other waits (holds old.waiting other) (holds new.waiting other) (waiting other) (sets.waiting other within);
   executing = λ other within. executing other ∙ sets.executing other within;
   short = λ other within. entered_by turn misses_one value missed other (holds old.short other) (holds new.short other) refl free (short other) (sets.short other within);
   both = λ other within. entered_by turn misses_both value missed other (holds old.both other) (holds new.both other) refl free (both other) (sets.both other within);

@@ -77,13 +77,13 @@ pub AreSets-entered : {capacity : ℕ} {sets : Sets} (stations : List Station) (
     AreSets capacity (put turn true (λ u. waits_at stations (place_of retired u))) (λ u. executes_at stations (place_of retired u))
     (put turn (missing (reverse stations) (Some x)) (λ u. missing_at stations (place_of retired u))) sets →
     AreSetsOf capacity retired (stations ++ x ∷ []) sets
-AreSets-entered stations x retired turn waits_now idle small few inside there are =
+AreSets-entered stations x retired turn waits_now not_issued small few inside there are =
     AreSets-as are
     (λ t within. ap (λ b. put turn b (λ u. waits_at stations (place_of retired u)) t) (sym waits_now)
     ∙ entered_at (λ older o. waits o) false (λ older. refl) retired small stations x few turn inside there t within)
     (λ t within. put_same turn false (λ u. executes_at stations (place_of retired u)) t
     (nothing_yet (λ older o. executes o) false (λ older. refl) retired small stations x few turn inside there)
-    ∙ ap (λ b. put turn b (λ u. executes_at stations (place_of retired u)) t) (sym idle)
+    ∙ ap (λ b. put turn b (λ u. executes_at stations (place_of retired u)) t) (sym not_issued)
     ∙ entered_at (λ older o. executes o) false (λ older. refl) retired small stations x few turn inside there t within)
     (λ t within. entered_at missing nothing (λ older. refl) retired small stations x few turn inside there t within)
 

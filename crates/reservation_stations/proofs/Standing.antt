@@ -18,7 +18,7 @@ pub AreSets-as : {capacity : ℕ} {w e w' e' : ℕ → Bool} {m m' : ℕ → Mis
     ((t : ℕ) → t < 256 → w t ≡ w' t) → ((t : ℕ) → t < 256 → e t ≡ e' t) → ((t : ℕ) → t < 256 → m t ≡ m' t) → AreSets capacity w' e' m' sets
 AreSets-as are w_is e_is m_is = record {
   every_index = are.every_index;
-  idle = λ t within. are.idle t within ∙ w_is t within;
+  waiting = λ t within. are.waiting t within ∙ w_is t within;
   executing = λ t within. are.executing t within ∙ e_is t within;
   short = λ t within. are.short t within ∙ ap misses_one (m_is t within);
   both = λ t within. are.both t within ∙ ap misses_both (m_is t within);

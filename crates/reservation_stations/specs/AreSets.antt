@@ -58,9 +58,9 @@ abbrev pub put : {X : Type 0} → ℕ → X → (ℕ → X) → ℕ → X
 put turn value of other = if other == turn then value else of other
 
 -- the sets of turns, by what is true of each turn's station
-pub record AreSets (capacity : ℕ) (idles executes : ℕ → Bool) (missed : ℕ → Missing) (sets : Sets) : Type 0 where
+pub record AreSets (capacity : ℕ) (waits executes : ℕ → Bool) (missed : ℕ → Missing) (sets : Sets) : Type 0 where
   pub every_index : length sets.dependents.items ≡ capacity
-  pub idle : (turn : ℕ) → turn < 256 → holds sets.idle turn ≡ idles turn
+  pub waiting : (turn : ℕ) → turn < 256 → holds sets.waiting turn ≡ waits turn
   pub executing : (turn : ℕ) → turn < 256 → holds sets.executing turn ≡ executes turn
   pub short : (turn : ℕ) → turn < 256 → holds sets.short turn ≡ misses_one (missed turn)
   pub both : (turn : ℕ) → turn < 256 → holds sets.both turn ≡ misses_both (missed turn)

@@ -2,14 +2,19 @@
 ghost use Rattle.std.specs.Prelude.{◌≡◌, ◌≢◌, ◌≤◌, None, is_some};
 ghost use Rattle.reservation_stations.specs.Numbers.{number_of};
 
+use crate::source::REGISTERS;
 use std::marker::Model;
+
+/// The number of no destination: its place in the table of producers is the last one, which no
+/// source reads.
+const NO_DESTINATION: u16 = REGISTERS + 1;
 
 /// The number of the register that an instruction writes, or none, in one number: its place in the
 /// table of producers, which is written without a test. None has a place of its own, which no
 /// source reads.
 #[derive(Clone, Copy, Debug, PartialEq, Eq)]
 pub struct Destination {
-    /// The register, below 256, or 257 for none.
+    /// The register, or `NO_DESTINATION`.
     number: u16,
 }
 
@@ -34,7 +39,9 @@ impl Destination {
     pub(crate) fn none() -> Destination
         ensures none { result ≡ None }
     {
-        Destination { number: 257 }
+        Destination {
+            number: NO_DESTINATION,
+        }
     }
 
     /// The register of this number, if one is given.
@@ -55,7 +62,7 @@ impl Destination {
     pub fn register(self) -> Option<u8>
         ensures register { result ≡ self }
     {
-        if self.number < 256 {
+        if self.number < REGISTERS {
             Some(self.number as u8)
         } else {
             None
@@ -67,7 +74,7 @@ impl Destination {
     pub(crate) fn is_some(self) -> bool
         ensures some { result ≡ is_some self }
     {
-        self.number < 256
+        self.number < REGISTERS
     }
 
     /// Its place in the table of producers.

@@ -5,11 +5,14 @@ ghost use Rattle.reservation_stations.specs.Changes.{without};
 
 use std::marker::Model;
 
+/// The number of no producer, which is above every index.
+const NO_PRODUCER: u32 = 256;
+
 /// The index of a register's producer, or none, in one number: so it takes one register of the
 /// host, and no flag goes with it.
 #[derive(Clone, Copy, Debug)]
 pub struct Producer {
-    /// The index, below 256, or 256 for none.
+    /// The index, or `NO_PRODUCER`.
     number: u32,
 }
 
@@ -34,7 +37,9 @@ impl Producer {
     pub fn none() -> Producer
         ensures none { result ≡ None }
     {
-        Producer { number: 256 }
+        Producer {
+            number: NO_PRODUCER,
+        }
     }
 
     /// The producer of this index.
@@ -51,7 +56,7 @@ impl Producer {
     pub fn is_some(self) -> bool
         ensures some { result ≡ is_some self }
     {
-        self.number < 256
+        self.number < NO_PRODUCER
     }
 
     /// Its index.

@@ -17,7 +17,7 @@ use std::alloc::Global;
 #[derive(Debug, Drop)]
 pub struct Sets {
     /// Those that wait, for operands or a unit.
-    idle: TurnSet,
+    waiting: TurnSet,
     /// Those that execute.
     executing: TurnSet,
     /// Those that miss an operand.
@@ -38,7 +38,7 @@ impl Sets {
             return Err(NoMemory);
         };
         Ok(Sets {
-            idle: TurnSet::none(),
+            waiting: TurnSet::none(),
             executing: TurnSet::none(),
             short: TurnSet::none(),
             both: TurnSet::none(),
@@ -51,13 +51,13 @@ impl Sets {
     pub fn enter(&mut self, turn: u8, first: Producer, second: Producer)
         requires inside { ForSome first (λ index. index < vec_len self.old.dependents) }
         requires inside_second { ForSome second (λ index. index < vec_len self.old.dependents) }
-        ensures entered { (capacity : ℕ) (idles executes : ℕ → Bool) (missed : ℕ → Missing)
-            → missed turn ≡ nothing → AreSets capacity idles executes missed self.old
-            → AreSets capacity (put turn true idles) executes
+        ensures entered { (capacity : ℕ) (waits executes : ℕ → Bool) (missed : ℕ → Missing)
+            → missed turn ≡ nothing → AreSets capacity waits executes missed self.old
+            → AreSets capacity (put turn true waits) executes
             (put turn (record { first = first; second = second }) missed) self.new }
     {
         let at = bit_of(turn);
-        self.idle.insert(at);
+        self.waiting.insert(at);
         if first.is_some() {
             self.short.insert(at);
             if first.are_two(second) {
@@ -74,21 +74,21 @@ impl Sets {
     /// The station of a turn waits no longer, and executes.
     #[inline(always)]
     pub fn begin(&mut self, turn: u8)
-        ensures began { (capacity : ℕ) (idles executes : ℕ → Bool) (missed : ℕ → Missing)
-            → AreSets capacity idles executes missed self.old
-            → AreSets capacity (put turn false idles) (put turn true executes) missed self.new }
+        ensures began { (capacity : ℕ) (waits executes : ℕ → Bool) (missed : ℕ → Missing)
+            → AreSets capacity waits executes missed self.old
+            → AreSets capacity (put turn false waits) (put turn true executes) missed self.new }
     {
         let at = bit_of(turn);
-        self.idle.remove(at);
+        self.waiting.remove(at);
         self.executing.insert(at);
     }
 
     /// The station of a turn executes no longer.
     #[inline(always)]
     pub fn finish(&mut self, turn: u8)
-        ensures finished { (capacity : ℕ) (idles executes : ℕ → Bool) (missed : ℕ → Missing)
-            → AreSets capacity idles executes missed self.old
-            → AreSets capacity idles (put turn false executes) missed self.new }
+        ensures finished { (capacity : ℕ) (waits executes : ℕ → Bool) (missed : ℕ → Missing)
+            → AreSets capacity waits executes missed self.old
+            → AreSets capacity waits (put turn false executes) missed self.new }
     {
         self.executing.remove(bit_of(turn));
     }
@@ -97,9 +97,9 @@ impl Sets {
     #[inline(always)]
     pub fn tell(&mut self, index: u32)
         requires inside { index < vec_len self.old.dependents }
-        ensures told { (capacity : ℕ) (idles executes : ℕ → Bool) (missed : ℕ → Missing)
-            → AreSets capacity idles executes missed self.old
-            → AreSets capacity idles executes (λ turn. fed index (missed turn)) self.new }
+        ensures told { (capacity : ℕ) (waits executes : ℕ → Bool) (missed : ℕ → Missing)
+            → AreSets capacity waits executes missed self.old
+            → AreSets capacity waits executes (λ turn. fed index (missed turn)) self.new }
     {
         let told = self.dependents[index as usize];
         // Those that missed this one alone miss none now.
@@ -114,26 +114,26 @@ impl Sets {
     #[inline(always)]
     pub fn retire(&mut self, index: u32, turn: u8)
         requires inside { index < vec_len self.old.dependents }
-        ensures retired { (capacity : ℕ) (idles executes : ℕ → Bool) (missed : ℕ → Missing)
-            → AreSets capacity idles executes missed self.old
-            → AreSets capacity (put turn false idles) (put turn false executes)
+        ensures retired { (capacity : ℕ) (waits executes : ℕ → Bool) (missed : ℕ → Missing)
+            → AreSets capacity waits executes missed self.old
+            → AreSets capacity (put turn false waits) (put turn false executes)
             (λ other. fed index (missed other)) self.new }
     {
         self.tell(index);
         let at = bit_of(turn);
-        self.idle.remove(at);
+        self.waiting.remove(at);
         self.executing.remove(at);
     }
 
     /// The stations of these turns stay, and no others.
     pub fn keep(&mut self, live: &TurnSet)
-        ensures kept { (capacity : ℕ) (idles executes : ℕ → Bool) (missed : ℕ → Missing)
-            → AreSets capacity idles executes missed self.old
-            → AreSets capacity (λ turn. idles turn && holds live.now turn)
+        ensures kept { (capacity : ℕ) (waits executes : ℕ → Bool) (missed : ℕ → Missing)
+            → AreSets capacity waits executes missed self.old
+            → AreSets capacity (λ turn. waits turn && holds live.now turn)
             (λ turn. executes turn && holds live.now turn)
             (λ turn. if holds live.now turn then missed turn else nothing) self.new }
     {
-        self.idle.keep(live);
+        self.waiting.keep(live);
         self.executing.keep(live);
         self.short.keep(live);
         self.both.keep(live);
@@ -144,10 +144,10 @@ impl Sets {
     /// operand, as a word.
     #[inline(always)]
     pub fn ready_from(&self, turn: u8) -> u64
-        ensures word { (k : ℕ) → k < 64 → (bit_at result k == 1) ≡ (holds self.now.idle
+        ensures word { (k : ℕ) → k < 64 → (bit_at result k == 1) ≡ (holds self.now.waiting
             ((turn + k) % 256) && not (holds self.now.short ((turn + k) % 256))) }
     {
-        self.idle.word_from(turn) & !self.short.word_from(turn)
+        self.waiting.word_from(turn) & !self.short.word_from(turn)
     }
 
     /// Of the 64 turns from one on, around behind the last, those whose stations execute, as a

@@ -4,11 +4,18 @@ ghost use Rattle.reservation_stations.specs.Numbers.{number_of};
 
 use std::marker::Model;
 
+/// How many numbers of registers there are.
+pub(crate) const REGISTERS: u16 = 256;
+
+/// The number of no source: its place in the table of producers is the one behind those of the
+/// registers, which no producer ever takes.
+const NO_SOURCE: u16 = REGISTERS;
+
 /// The number of a register that an instruction reads, or none, in one number: its place in the
 /// table of producers, which is read without a test.
 #[derive(Clone, Copy, Debug, PartialEq, Eq)]
 pub struct Source {
-    /// The register, below 256, or 256 for none.
+    /// The register, or `NO_SOURCE`.
     number: u16,
 }
 
@@ -33,7 +40,7 @@ impl Source {
     pub(crate) fn none() -> Source
         ensures none { result ≡ None }
     {
-        Source { number: 256 }
+        Source { number: NO_SOURCE }
     }
 
     /// The register of this number, if one is given.
@@ -54,7 +61,7 @@ impl Source {
     pub fn register(self) -> Option<u8>
         ensures register { result ≡ self }
     {
-        if self.number < 256 {
+        if self.number < REGISTERS {
             Some(self.number as u8)
         } else {
             None

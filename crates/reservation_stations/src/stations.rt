@@ -4,8 +4,8 @@ use crate::row::Row;
 use crate::sets::Sets;
 use crate::sought::Sought;
 use crate::station::{Mark, Registers};
-use crate::tables::{awaited, drop_producer, rename, set_producer, uncounted};
-use crate::turn_set::TurnSet;
+use crate::tables::{PRODUCER_PLACES, awaited, drop_producer, rename, set_producer, uncounted};
+use crate::turn_set::{TURNS, TurnSet};
 use fsim_base::NoMemory;
 use std::alloc::Global;
 use std::marker::Model;
@@ -20,13 +20,13 @@ use std::marker::Model;
 #[derive(Debug, Drop)]
 pub struct Stations {
     /// For each turn, the index of the station that took it last.
-    at_turn: [u8; 256],
+    at_turn: [u8; TURNS],
     /// How many stations there are. The oldest has the turn `retired`.
     count: u32,
     /// What each index keeps of the station that holds it.
     rows: Vec<Row>,
     /// The index of each register's producer, where it has one that isn't done.
-    producers: [Producer; 258],
+    producers: [Producer; PRODUCER_PLACES],
     /// How many wait.
     waiting: u32,
     /// By their turns, which wait, which execute and which miss operands.
@@ -67,7 +67,7 @@ impl Stations {
     ghost use Rattle.std.specs.Prelude.{if◌then◌else◌};
     ghost use Rattle.reservation_stations.specs.Readiness.{Window, station_of, mark_of};
     ghost use Rattle.reservation_stations.specs.Readiness.{oldest_index, oldest_mark};
-    ghost use Rattle.reservation_stations.specs.Readiness.{can_begin_at, is_sought_at};
+    ghost use Rattle.reservation_stations.specs.Readiness.{is_sought_at};
     ghost use Rattle.reservation_stations.specs.Readiness.{marked, entered, waiting_count};
     ghost use Rattle.reservation_stations.specs.PlaceSet.{has};
 
@@ -79,14 +79,12 @@ impl Stations {
         let Ok(rows) = vec![in alloc; Row::free(); capacity as usize] else {
             return Err(NoMemory);
         };
-        let Ok(sets) = Sets::new(alloc, capacity) else {
-            return Err(NoMemory);
-        };
+        let sets = Sets::new(alloc, capacity)?;
         Ok(Stations {
-            at_turn: [0; 256],
+            at_turn: [0; TURNS],
             count: 0,
             rows,
-            producers: [Producer::none(); 258],
+            producers: [Producer::none(); PRODUCER_PLACES],
             waiting: 0,
             sets,
             retired: 0,
@@ -129,7 +127,7 @@ impl Stations {
         } = *registers;
         let first = awaited(&self.producers, first_source);
         let second = awaited(&self.producers, second_source);
-        let turn = ((u32::from(self.retired) + self.count) % 256) as u8;
+        let turn = ((u32::from(self.retired) + self.count) % TURNS as u32) as u8;
         set_producer(&mut self.producers, destination, Producer::of(index));
         self.rows[index as usize] = Row {
             registers: Registers {
@@ -188,10 +186,8 @@ impl Stations {
         ensures retired { self.new ≡ record self.old { stations = drop 1 self.old.stations } }
     {
         let mark = self.rows[index as usize].mark;
-        // One that is done is no producer and in none of the sets, and none awaits its value.
         if mark.is_done() {
-            self.count -= 1;
-            self.retired = self.retired.wrapping_add(1);
+            self.retire_done();
         } else {
             self.retire_unfinished(index);
         }
@@ -241,19 +237,6 @@ impl Stations {
             kept,
         );
         self.sets.keep(&TurnSet::turns_from(self.retired, kept));
-    }
-
-    /// The place in the list of the first station from a place on that waits and whose operands
-    /// have values.
-    pub fn choose(&self, from: u32) -> Option<u32>
-        ensures behind { IfSome result (λ place. from ≤ place) }
-        ensures found { IfSome result (λ place. IsTrue (can_begin_at self.now.stations place)) }
-        ensures first { IfSome result (λ place. (k : ℕ) → from ≤ k → k < place →
-            can_begin_at self.now.stations k ≡ false) }
-        ensures none { IfNone result ((k : ℕ) → from ≤ k →
-            can_begin_at self.now.stations k ≡ false) }
-    {
-        self.first(Sought::Ready, from)
     }
 
     /// The place in the list of the first station from a place on that is sought.

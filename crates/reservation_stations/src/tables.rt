@@ -13,10 +13,15 @@ use crate::producer::Producer;
 use crate::row::Row;
 use crate::source::Source;
 use crate::station::Mark;
+use crate::turn_set::TURNS;
+
+/// The places of the table of producers: one for each register, one that a source of none reads,
+/// and one that is written for a destination of none.
+pub const PRODUCER_PLACES: usize = 258;
 
 /// The index of the station that has yet to give the value of a source, if one has.
 #[inline(always)]
-pub fn awaited(producers: &[Producer; 258], source: Source) -> Producer
+pub fn awaited(producers: &[Producer; PRODUCER_PLACES], source: Source) -> Producer
     ensures awaited { (older : List Station) → AreProducers producers.now older
         → get_or producers.now 256 None ≡ None → result ≡ awaited older source }
 {
@@ -25,7 +30,11 @@ pub fn awaited(producers: &[Producer; 258], source: Source) -> Producer
 
 /// Makes an index the producer of a register, if one is given, or none.
 #[inline(always)]
-pub fn set_producer(producers: &mut [Producer; 258], register: Destination, producer: Producer)
+pub fn set_producer(
+    producers: &mut [Producer; PRODUCER_PLACES],
+    register: Destination,
+    producer: Producer,
+)
     ensures set { producers.new ≡ with_producer register producer producers.old }
     ensures apart { get_or producers.new 256 None ≡ get_or producers.old 256 None }
 {
@@ -33,7 +42,7 @@ pub fn set_producer(producers: &mut [Producer; 258], register: Destination, prod
 }
 
 /// Makes a register, if one is given, have no producer, where this index is its producer.
-pub fn drop_producer(producers: &mut [Producer; 258], register: Destination, index: u32)
+pub fn drop_producer(producers: &mut [Producer; PRODUCER_PLACES], register: Destination, index: u32)
     ensures dropped { producers.new ≡
         with_producer register (without index (producer_at producers.old register))
         producers.old }
@@ -45,8 +54,8 @@ pub fn drop_producer(producers: &mut [Producer; 258], register: Destination, ind
 
 /// Makes the producers those of so many stations from a turn on, and gives how many of them wait.
 pub fn rename(
-    producers: &mut [Producer; 258],
-    at_turn: &[u8; 256],
+    producers: &mut [Producer; PRODUCER_PLACES],
+    at_turn: &[u8; TURNS],
     rows: &Vec<Row>,
     from: u8,
     count: u32,

@@ -10,9 +10,9 @@ fn registers(sources: (Option<u8>, Option<u8>), destination: Option<u8>) -> Regi
 
 /// How many wait, and the first two places that can begin.
 fn seen(stations: &Stations) -> (u32, Option<u32>, Option<u32>) {
-    let first = stations.choose(0);
+    let first = stations.first(Sought::Ready, 0);
     let second = match first {
-        Some(place) => stations.choose(place.saturating_add(1)),
+        Some(place) => stations.first(Sought::Ready, place.saturating_add(1)),
         None => None,
     };
     (stations.waiting(), first, second)

@@ -5,6 +5,10 @@ ghost use Rattle.std.specs.Int.{bit_at};
 ghost use Rattle.reservation_stations.specs.TurnSet.{holds, IsBitOf};
 ghost use Rattle.reservation_stations.specs.Places.{place_of};
 
+/// How many turns there are. They go around behind the last, and a station keeps its own, so no
+/// more stations are under way at once.
+pub const TURNS: usize = 256;
+
 /// A set of turns.
 #[derive(Clone, Copy, Debug, PartialEq, Eq)]
 pub struct TurnSet {

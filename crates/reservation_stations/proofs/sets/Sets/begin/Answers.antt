@@ -10,7 +10,7 @@ returns c = record {
       let bit = c.bit_of-at.ensures.bit in
       record {
         every_index = sets.every_index;
-        idle = λ other within. put_out turn other w (holds old.idle other) (holds c.remove.new.self other) (c.remove.ensures.removed turn bit other) (sets.idle other within);
+        waiting = λ other within. put_out turn other w (holds old.waiting other) (holds c.remove.new.self other) (c.remove.ensures.removed turn bit other) (sets.waiting other within);
         executing = λ other within. put_in turn other e (holds old.executing other) (holds c.insert.new.self other) (c.insert.ensures.inserted turn bit other) (sets.executing other within);
         short = sets.short;
         both = sets.both;

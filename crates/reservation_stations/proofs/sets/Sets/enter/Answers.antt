@@ -29,7 +29,7 @@ returns-after-are_two c = record {
             let is = v.self-is in
             AreSets-noted n turn old new w e m value free sets
             (first.every_index ∙ ap (λ (s : Sets). length s.dependents.items) is ∙ second.every_index)
-            (λ other. ap (λ (s : Sets). holds s.idle other) is ∙ c.insert.ensures.inserted turn bit other)
+            (λ other. ap (λ (s : Sets). holds s.waiting other) is ∙ c.insert.ensures.inserted turn bit other)
             (λ other. ap (λ (s : Sets). holds s.executing other) is)
             (λ other. ap (λ (s : Sets). holds s.short other) is ∙ inserted other)
             (λ other. ap (λ (s : Sets). holds s.both other) is
@@ -43,7 +43,7 @@ returns-after-are_two c = record {
             let is = v.self-is in
             AreSets-noted n turn old new w e m value free sets
             (first.every_index ∙ ap (λ (s : Sets). length s.dependents.items) is)
-            (λ other. ap (λ (s : Sets). holds s.idle other) is ∙ c.insert.ensures.inserted turn bit other)
+            (λ other. ap (λ (s : Sets). holds s.waiting other) is ∙ c.insert.ensures.inserted turn bit other)
             (λ other. ap (λ (s : Sets). holds s.executing other) is)
             (λ other. ap (λ (s : Sets). holds s.short other) is ∙ inserted other)
             (λ other. ap (λ (s : Sets). holds s.both other) is ∙ left_for (misses_both value) (holds old.both other) (other == turn) one)
@@ -58,7 +58,7 @@ returns-then-is_some-2 c = record {
   entered = λ n w e m free sets.
       let turn = c.args.turn in
       let old = c.args.self.now in
-      let new : Sets = record old { idle = c.insert.new.self; short = c.insert-then-is_some-2.new.self; dependents = c.note-then-is_some-2.new.dependents } in
+      let new : Sets = record old { waiting = c.insert.new.self; short = c.insert-then-is_some-2.new.self; dependents = c.note-then-is_some-2.new.dependents } in
       let value : Missing = record { first = c.args.first; second = c.args.second } in
       let bit = c.bit_of-at.ensures.bit in
       let none : is_some c.args.first ≡ false = sym c.is_some.ensures.some ∙ c.if-is_some.false in

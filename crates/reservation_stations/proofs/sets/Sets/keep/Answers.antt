@@ -13,7 +13,7 @@ returns c = record {
       let each = c.keep_each.ensures.kept in
       record {
         every_index = each.every_index ∙ sets.every_index;
-        idle = λ t within. c.keep.ensures.kept t ∙ ap (λ b. b && holds live t) (sets.idle t within);
+        waiting = λ t within. c.keep.ensures.kept t ∙ ap (λ b. b && holds live t) (sets.waiting t within);
         executing = λ t within. c.keep-2.ensures.kept t ∙ ap (λ b. b && holds live t) (sets.executing t within);
         short = λ t within. kept_by misses_one (m t) (holds live t) (holds old.short t) (holds c.keep-3.new.self t) refl (c.keep-3.ensures.kept t) (sets.short t within);
         both = λ t within. kept_by misses_both (m t) (holds live t) (holds old.both t) (holds c.keep-4.new.self t) refl (c.keep-4.ensures.kept t) (sets.both t within);

@@ -10,7 +10,7 @@ returns c = record {
       let bit = c.bit_of-at.ensures.bit in
       record {
         every_index = told.every_index;
-        idle = λ other within. put_out turn other w (holds c.tell.new.self.idle other) (holds c.remove.new.self other) (c.remove.ensures.removed turn bit other) (told.idle other within);
+        waiting = λ other within. put_out turn other w (holds c.tell.new.self.waiting other) (holds c.remove.new.self other) (c.remove.ensures.removed turn bit other) (told.waiting other within);
         executing = λ other within. put_out turn other e (holds c.tell.new.self.executing other) (holds c.remove-2.new.self other)
             (c.remove-2.ensures.removed turn bit other) (told.executing other within);
         short = told.short;

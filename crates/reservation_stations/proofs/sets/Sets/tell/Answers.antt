@@ -19,7 +19,7 @@ returns c = record {
       ∙ sets.dependents turn index within (omega (arith, inside, sets.every_index)) in
       record {
         every_index = length-set items index c.none.result ∙ sets.every_index;
-        idle = sets.idle;
+        waiting = sets.waiting;
         executing = sets.executing;
         short = λ turn within. told_short index (m turn) (holds c.args.self.now.short turn) (holds c.take_out-2.new.self turn) (holds c.take_out.new.self turn)
             (holds c.index.result.now turn) (holds c.args.self.now.both turn) (c.take_out-2.ensures.taken turn) (c.take_out.ensures.taken turn)

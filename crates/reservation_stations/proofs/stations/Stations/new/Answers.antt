@@ -12,6 +12,6 @@ invariant_of-result c =
     rw (items, c.none.ensures.none) (
       own_tables (Keeps_none c.args.capacity c.free.result c.requires.limit),
       λ p s there. absurd cc,
-      subst (λ n. AreSetsOf n 0 [] c.in-Ok-new.sets) (sym (length-replicate c.args.capacity c.free.result)) (AreSets-none c.in-Ok-new.ensures.empty),
+      subst (λ n. AreSetsOf n 0 [] c.in_ok-sets.sets) (sym (length-replicate c.args.capacity c.free.result)) (AreSets-none c.in_ok-sets.ensures.empty),
       length-replicate {A = ℕ} 256 0,
     )
