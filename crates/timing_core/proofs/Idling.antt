@@ -38,10 +38,10 @@ not_both true true c is = is
 not_both true false c is = refl
 not_both false b c is = refl
 
-pub has_none : (s : Setup) (t : Timing) (cycle : ℕ) (space : Bool) → space ≡ (nat_lt (length t.slots) s.params.core_window && nat_lt (waiting_count t.slots) s.params.core_stations) →
-    space ≡ false → may_fetch s (record t { cycle = cycle }) ≡ false
+pub has_none : (s : Setup) (t : Timing) (cycle : ℕ) (room : Bool) → room ≡ (nat_lt (length t.slots) s.params.core_window && nat_lt (waiting_count t.slots) s.params.core_stations) →
+    room ≡ false → may_fetch s (record t { cycle = cycle }) ≡ false
 unfolding may_fetch
-has_none s t cycle space is none = not_both (nat_le t.resume cycle) _ _ (sym is ∙ none)
+has_none s t cycle room is none = not_both (nat_le t.resume cycle) _ _ (sym is ∙ none)
 
 -- no interrupt is taken before its cycle
 not_yet : (on : Bool) (cmp cycle : ℕ) → (on ≡ true → cycle < cmp) → (on && nat_le cmp cycle) ≡ false

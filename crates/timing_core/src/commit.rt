@@ -219,9 +219,7 @@ impl TimingCore {
         ensures stays { IfNone result ((s : Setup) (t : Timing) → t.slots ≡ self.now.flight.slots →
             leaving s t ≡ stays) }
     {
-        let Some(slot) = self.flight.oldest() else {
-            return None;
-        };
+        let slot = self.flight.oldest()?;
         match slot.state {
             SlotState::Done => Some(slot),
             _ => None,

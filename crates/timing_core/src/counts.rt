@@ -1,4 +1,5 @@
-/// What the phases count. A count stands still at its largest value.
+/// What the phases count. They add to a count without a test: as a phase of a run begins, each is
+/// below 2^63.
 #[derive(Clone, Copy, Debug, PartialEq, Eq)]
 pub struct Counts {
     /// Instructions committed with a trap.

@@ -41,6 +41,7 @@ impl TimingCore {
     ghost use Rattle.reorder_buffer.specs.Window.{youngest};
     ghost use Rattle.rollback_cmds.specs.declared.order.Order.TheVariants.{Set};
     ghost use Rattle.mono_model.specs.declared.setup.Setup.{Setup};
+    ghost use Rattle.timing_side.specs.Slots.{waiting_count};
     ghost use Rattle.timing_side.specs.Timing.{Timing};
     ghost use Rattle.timing_side.specs.Fetch.{may_fetch, cache_read, predicted_next, missed};
     ghost use Rattle.timing_side.specs.Fetch.{appended, timing_try};
@@ -55,7 +56,7 @@ impl TimingCore {
             → result ≡ may_fetch s t }
         ensures room { result ≡ true → length self.now.flight.slots < self.now.flight.capacity }
     {
-        self.is_ready() && self.flight.waiting() < self.params.core_stations
+        self.has_resumed() && self.has_room()
     }
 
     /// Whether fetch isn't waiting for a miss.
@@ -66,22 +67,15 @@ impl TimingCore {
         self.resume <= self.cycle
     }
 
-    /// Whether fetch isn't waiting for a miss and the window has room.
-    fn is_ready(&self) -> bool
-        ensures ready { (s : Setup) (t : Timing) → CoreStandsFor s t self.now →
-            result ≡ (nat_le t.resume t.cycle && nat_lt (length t.slots) s.params.core_window) }
+    /// Whether window and stations have room.
+    #[inline(always)]
+    pub(crate) fn has_room(&self) -> bool
+        ensures both { (s : Setup) (t : Timing) → CoreStandsFor s t self.now
+            → result ≡ (nat_lt (length t.slots) s.params.core_window
+            && nat_lt (waiting_count t.slots) s.params.core_stations) }
         ensures room { result ≡ true → length self.now.flight.slots < self.now.flight.capacity }
     {
-        self.has_resumed() && self.has_room()
-    }
-
-    /// Whether the window has room.
-    fn has_room(&self) -> bool
-        ensures window { (s : Setup) (t : Timing) → CoreStandsFor s t self.now
-            → result ≡ nat_lt (length t.slots) s.params.core_window }
-        ensures room { result ≡ true → length self.now.flight.slots < self.now.flight.capacity }
-    {
-        !self.flight.is_full()
+        !self.flight.is_full() && self.flight.waiting() < self.params.core_stations
     }
 
     /// One try of the fifth phase: the next instruction on the predicted path is appended, unless

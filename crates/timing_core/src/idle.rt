@@ -8,12 +8,11 @@ use in_flight::Sought;
 use reorder_buffer::SlotState;
 
 impl TimingCore {
-    ghost use Rattle.std.specs.Prelude.{ℕ, ◌<◌, ◌≤◌, ◌&&◌, nat_lt, true, false, Some, length};
+    ghost use Rattle.std.specs.Prelude.{ℕ, ◌<◌, ◌≤◌, true, false, Some, length};
     ghost use Rattle.std.specs.Prelude.{slice_get};
     ghost use Rattle.reorder_buffer.specs.declared.slot.Slot.{Slot as HeldSlot};
     ghost use Rattle.reorder_buffer.specs.declared.slot.SlotState.TheVariants.{Until};
     ghost use Rattle.mono_model.specs.declared.setup.Setup.{Setup};
-    ghost use Rattle.timing_side.specs.Slots.{waiting_count};
     ghost use Rattle.timing_side.specs.Timing.{Timing};
     ghost use Rattle.timing_side.specs.Fetch.{may_fetch};
     ghost use Rattle.in_flight.specs.Flight.{may_start_at};
@@ -96,7 +95,7 @@ impl TimingCore {
         let mut executes = self.flight.snapshot(Sought::Executing);
         let mut from = 0;
         while let Some(place) = self.flight.next(Sought::Executing, &mut executes, from) {
-            first = first.min(end_of(self.flight.at(place).state));
+            first = first.min(done_cycle(self.flight.at(place).state));
             from = place + 1;
         }
         first
@@ -114,20 +113,11 @@ impl TimingCore {
         ensures fetch { (s : Setup) (t : Timing) (cycle : ℕ) → CoreStandsFor s t self.now
             → cycle < result → may_fetch s (record t { cycle = cycle }) ≡ false }
     {
-        if self.has_space() {
+        if self.has_room() {
             self.resume
         } else {
             u64::MAX
         }
-    }
-
-    /// Whether window and stations have room.
-    fn has_space(&self) -> bool
-        ensures space { (s : Setup) (t : Timing) → CoreStandsFor s t self.now
-            → result ≡ (nat_lt (length t.slots) s.params.core_window
-            && nat_lt (waiting_count t.slots) s.params.core_stations) }
-    {
-        !self.flight.is_full() && self.flight.waiting() < self.params.core_stations
     }
 
     /// Whether of the slots that wait and have their operands none could begin, once it has passed
@@ -165,7 +155,7 @@ impl TimingCore {
 }
 
 /// The cycle in which a slot in this state is done, where it executes; and else the last there is.
-fn end_of(state: SlotState) -> u64
+fn done_cycle(state: SlotState) -> u64
     ensures end { (end : ℕ) → state ≡ Until end → result ≤ end }
 {
     match state {

@@ -207,8 +207,8 @@ impl TimingCore {
         }
     }
 
-    /// The same, of a slot that only computes in the ALU. Most are such, so they have a way of their
-    /// own, on which nothing is asked of their class.
+    /// The same, of a slot that only computes in the ALU. Most are such, so they have a way of
+    /// their own, on which nothing is asked of their class.
     #[inline(always)]
     fn turn_plain(&mut self, place: u32, slot: &Slot, latest: u64, busy: u32, used: Used) -> Used
         requires there { slice_get self.old.flight.slots place ≡ Some slot.now }
@@ -270,9 +270,9 @@ impl TimingCore {
         }
     }
 
-    /// Slots begin, from the oldest to the youngest: of those that were fetched in cycle `latest` or
-    /// before, as no others have passed the front of the pipeline. Behind the first that was fetched
-    /// later, none was fetched earlier.
+    /// Slots begin, from the oldest to the youngest: of those that were fetched in cycle `latest`
+    /// or before, as no others have passed the front of the pipeline. Behind the first that was
+    /// fetched later, none was fetched earlier.
     #[inline(always)]
     fn issue_fetched(&mut self, latest: u64)
         requires latest { latest + self.old.params.core_front ≡ self.old.cycle }

@@ -6,8 +6,8 @@ pub loop-place-preserved : goal.loop-place-preserved
 loop-place-preserved c = record {
   executes = c.in-Some.ensures.left;
   ends =
-      earlier c.args.self.now.flight.slots c.loop-place.from c.in-Some.place c.loop-place.first c.min-first.result c.end_of.result c.at.result c.loop-place.invariant.ends c.in-Some.ensures.first
-      c.at.ensures.slot c.end_of.ensures.end (omega (arith, c.min-first.ensures)) (omega (arith, c.min-first.ensures));
+      earlier c.args.self.now.flight.slots c.loop-place.from c.in-Some.place c.loop-place.first c.min-first.result c.done_cycle.result c.at.result c.loop-place.invariant.ends c.in-Some.ensures.first
+      c.at.ensures.slot c.done_cycle.ensures.end (omega (arith, c.min-first.ensures)) (omega (arith, c.min-first.ensures));
 }
 
 pub returns : goal.returns

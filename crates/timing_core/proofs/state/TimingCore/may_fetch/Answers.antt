@@ -1,16 +1,16 @@
-use Rattle.std.proofs.Common.{◌&&◌, nat_lt, sym, ◌∙◌}
+use Rattle.std.proofs.Common.{◌&&◌, nat_lt, length, sym, ◌∙◌}
 use Rattle.timing_side.specs.Fetch.{may_fetch}
 use Rattle.timing_side.specs.Slots.{waiting_count}
 use Rattle.timing_core.proofs.state.TimingCore.may_fetch.Goals as goal
 
-pub returns-then-is_ready-clause-may : goal.returns-then-is_ready-clause-may
+pub returns-then-has_resumed-clause-may : goal.returns-then-has_resumed-clause-may
 unfolding may_fetch
-returns-then-is_ready-clause-may c = λ s t k.
-    let ready = sym c.if-is_ready.true ∙ c.is_ready.ensures.ready s t k in
-    λ i. ready i && nat_lt ((c.waiting.ensures.count ∙ (λ j. waiting_count (k.slots j))) i) (k.params i).core_stations
+returns-then-has_resumed-clause-may c = λ s t k.
+    let resumed = sym c.if-has_resumed.true ∙ c.has_resumed.ensures.resumed s t k in
+    c.has_room.ensures.both s t k ∙ (λ i. resumed i && nat_lt (length t.slots) s.params.core_window && nat_lt (waiting_count t.slots) s.params.core_stations)
 
-pub returns-else-is_ready-clause-may : goal.returns-else-is_ready-clause-may
+pub returns-else-has_resumed-clause-may : goal.returns-else-has_resumed-clause-may
 unfolding may_fetch
-returns-else-is_ready-clause-may c = λ s t k.
-    let ready = sym c.if-is_ready.false ∙ c.is_ready.ensures.ready s t k in
-    c.if-is_ready.false ∙ (λ i. ready i && nat_lt (waiting_count t.slots) s.params.core_stations)
+returns-else-has_resumed-clause-may c = λ s t k.
+    let resumed = sym c.if-has_resumed.false ∙ c.has_resumed.ensures.resumed s t k in
+    c.if-has_resumed.false ∙ (λ i. resumed i && nat_lt (length t.slots) s.params.core_window && nat_lt (waiting_count t.slots) s.params.core_stations)
