@@ -19,7 +19,7 @@ def find_program(path: Path) -> Path:
             raise Fault(f"{path} couldn't be built")
         program = path.resolve().parent / "out" / "fast"
     said = call(program, ["sweep", "/dev/null/image", "/dev/null/machine"]).stdout.strip()
-    if not said.startswith(b"fast: ") or said.split()[1:2] == [b"later:"]:
+    if not said.startswith(b"fast: ") or said.split()[1:2] == [b"usage:"]:
         raise Fault(f"{path} doesn't run `fast sweep`")
     return program
 

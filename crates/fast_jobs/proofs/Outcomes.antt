@@ -4,7 +4,7 @@ use Rattle.fsim_ports.specs.Sink.{grown, Breaks}
 use Rattle.mono_model.specs.declared.final_state.End.{End}
 use Rattle.mono_model.specs.declared.final_state.End.TheVariants as end
 use Rattle.report_text.specs.declared.status.Status.{Status}
-use Rattle.report_text.specs.declared.status.Status.TheVariants.{Pass, Fail, Limit, OutputFull, Running, Shown, Usage, Image, Machine, Missing, ReadFault, WriteFault, Memory, TooLong, BadPlan, Later, BadScript, Sets}
+use Rattle.report_text.specs.declared.status.Status.TheVariants.{Pass, Fail, Limit, OutputFull, Running, Shown, Usage, Image, Machine, Missing, ReadFault, WriteFault, Memory, TooLong, BadPlan, BadScript, Sets}
 use Rattle.fast_cli.specs.declared.line.Line.{Line}
 use Rattle.fast_jobs.specs.declared.job.Job.{Job}
 use Rattle.fast_jobs.specs.Call.{Reading, Writing}
@@ -33,7 +33,6 @@ memory_or (ReadFault role) = inr (λ is. cc)
 memory_or WriteFault = inr (λ is. cc)
 memory_or (TooLong role limit) = inr (λ is. cc)
 memory_or (BadPlan place) = inr (λ is. cc)
-memory_or (Later word) = inr (λ is. cc)
 memory_or (BadScript place) = inr (λ is. cc)
 memory_or (Sets machine) = inr (λ is. cc)
 

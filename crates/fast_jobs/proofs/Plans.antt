@@ -8,7 +8,7 @@ use Rattle.fast_jobs.specs.Gives.{unless}
 use Rattle.fast_jobs.specs.Job.{plan_in}
 use Rattle.fast_jobs.specs.Plan.{IsBadAt, event_of, is_bad, plan_events, first_bad}
 use Rattle.report_text.specs.declared.status.Status.{Status}
-use Rattle.report_text.specs.declared.status.Status.TheVariants.{Pass, Fail, Limit, OutputFull, Running, Shown, Usage, Image, Machine, Missing, ReadFault, WriteFault, Memory, TooLong, BadPlan, Later, BadScript, Sets}
+use Rattle.report_text.specs.declared.status.Status.TheVariants.{Pass, Fail, Limit, OutputFull, Running, Shown, Usage, Image, Machine, Missing, ReadFault, WriteFault, Memory, TooLong, BadPlan, BadScript, Sets}
 
 added : (xs zs : List Event) (o : Option Event) → (xs ++ option_to_list o) ++ zs ≡ xs ++ cons_option o zs
 added xs zs None = ap (λ ys. ys ++ zs) (append-nil xs)
@@ -54,6 +54,5 @@ bad-told bytes place (Missing role) within bad is other = absurd is
 bad-told bytes place (ReadFault role) within bad is other = absurd is
 bad-told bytes place WriteFault within bad is other = absurd is
 bad-told bytes place (TooLong role limit) within bad is other = absurd is
-bad-told bytes place (Later word) within bad is other = absurd is
 bad-told bytes place (BadScript line) within bad is other = absurd is
 bad-told bytes place (Sets machine) within bad is other = absurd is

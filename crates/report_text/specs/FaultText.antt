@@ -13,7 +13,7 @@ use Rattle.report_text.specs.declared.status.Status.TheVariants.{Pass, Fail, Lim
 use Rattle.report_text.specs.declared.status.Status.TheVariants.{Running, Shown, Usage, Image}
 use Rattle.report_text.specs.declared.status.Status.TheVariants.{Machine, Missing, ReadFault}
 use Rattle.report_text.specs.declared.status.Status.TheVariants.{WriteFault, Memory, TooLong}
-use Rattle.report_text.specs.declared.status.Status.TheVariants.{BadPlan, Later, BadScript, Sets}
+use Rattle.report_text.specs.declared.status.Status.TheVariants.{BadPlan, BadScript, Sets}
 
 -- the exit status
 abbrev pub status_number : Status → ℕ
@@ -32,7 +32,6 @@ status_number WriteFault = 15
 status_number Memory = 16
 status_number (TooLong role limit) = 17
 status_number (BadPlan place) = 18
-status_number (Later command) = 20
 status_number (BadScript line) = 21
 status_number (Sets named) = 22
 
@@ -110,7 +109,6 @@ fault_text Memory = codes "fast: no memory" ++ line_feed
 fault_text (TooLong role limit) =
     codes "fast: too long: " ++ role_text role ++ codes " " ++ decimal limit ++ line_feed
 fault_text (BadPlan place) = codes "fast: bad plan: " ++ decimal place ++ line_feed
-fault_text (Later command) = codes "fast: later: " ++ command ++ line_feed
 fault_text (BadScript line) = codes "fast: bad script: " ++ decimal line ++ line_feed
 fault_text (Sets named) = codes "fast: sets: " ++ decimal named ++ line_feed
 fault_text status = []

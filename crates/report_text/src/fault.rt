@@ -249,7 +249,6 @@ pub fn fault_line<K: Sink>(status: &Status, sink: &mut K) -> Result<(), WriteFau
         Status::Memory => put_piece(b"fast: no memory\n", sink),
         Status::TooLong(role, limit) => put_piece(too_long_line(*role, *limit).as_slice(), sink),
         Status::BadPlan(place) => put_count(b"fast: bad plan: ", *place, sink),
-        Status::Later(command) => put_key(b"fast: later: ", command.as_slice(), b"\n", sink),
         Status::BadScript(line) => put_count(b"fast: bad script: ", *line, sink),
         Status::Sets(named) => put_count(b"fast: sets: ", *named, sink),
         Status::Pass

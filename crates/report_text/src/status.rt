@@ -1,5 +1,4 @@
 use elf_image::ImageFault;
-use fsim_base::Bytes;
 use machine_file::MachineFault;
 
 /// Which of the files that the words name.
@@ -45,8 +44,6 @@ pub enum Status {
     TooLong(Role, u64),
     /// The plan's first byte that is neither an event nor a blank, counted from 0.
     BadPlan(u64),
-    /// The words are a line of this command, which this program doesn't run yet.
-    Later(Bytes),
     /// The script's first line that is no command, counted from 1.
     BadScript(u64),
     /// A sweep names this many machine files, and fewer sets of devices were handed in.
@@ -77,7 +74,6 @@ impl Status {
             Status::Memory => 16,
             Status::TooLong(_, _) => 17,
             Status::BadPlan(_) => 18,
-            Status::Later(_) => 20,
             Status::BadScript(_) => 21,
             Status::Sets(_) => 22,
         }

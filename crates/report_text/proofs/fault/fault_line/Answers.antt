@@ -1,6 +1,5 @@
 use Rattle.std.proofs.Common.{ℕ, List, ap, sym, ◌∙◌, subst}
 use Rattle.fsim_ports.specs.Sink.{Puts}
-use Rattle.report_text.specs.declared.status.Status.TheVariants.{Later}
 use Rattle.report_text.specs.FaultText.{fault_text}
 use Rattle.report_text.proofs.fault.fault_line.Goals as goal
 
@@ -9,9 +8,3 @@ unfolding fault_text
 returns-in-TooLong-clause-written g c =
     let P : List ℕ → Type 0 = λ t. Puts t (g.K.Sink.faults c.args.sink.now) (g.K.Sink.faults c.put_piece-in-TooLong.new.sink) (g.K.Sink.written c.args.sink.now) (g.K.Sink.written c.put_piece-in-TooLong.new.sink) c.put_piece-in-TooLong.result in
     subst P (c.as_slice-in-TooLong.ensures.same ∙ c.too_long_line.ensures.text ∙ sym (ap fault_text c.in-TooLong.is)) c.put_piece-in-TooLong.ensures.written
-
-pub returns-in-Later-clause-written : goal.returns-in-Later-clause-written
-unfolding fault_text
-returns-in-Later-clause-written g c =
-    let P : List ℕ → Type 0 = λ t. Puts t (g.K.Sink.faults c.args.sink.now) (g.K.Sink.faults c.put_key.new.sink) (g.K.Sink.written c.args.sink.now) (g.K.Sink.written c.put_key.new.sink) c.put_key.result in
-    subst P (ap (λ k. fault_text (Later k)) c.as_slice-in-Later.ensures.same ∙ sym (ap fault_text c.in-Later.is)) c.put_key.ensures.written
