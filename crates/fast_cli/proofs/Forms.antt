@@ -14,8 +14,8 @@ use Rattle.fast_cli.specs.Words.{◌>>=◌, Form, Text, Values, has_names, rest_
 use Rattle.fast_cli.specs.Command.{ReadsAs, accepted, command_by, parsed, values_among}
 use Rattle.fast_cli.specs.Line.{back_form, func_form, inorder_form, plan_form, run_form, sched_form, soak_form, sweep_form}
 use Rattle.fast_cli.specs.Table.{command_in}
-use Rattle.fast_cli.specs.declared.table.Name.{Name}
-use Rattle.fast_cli.specs.declared.table.Name.TheVariants as names
+use Rattle.fast_cli.specs.declared.table.CommandName.{CommandName}
+use Rattle.fast_cli.specs.declared.table.CommandName.TheVariants as names
 use Rattle.fast_cli.proofs.Rows.{AreGiven, is_given-values}
 use Rattle.fast_cli.proofs.Uses.{AreRulesOf, NoDefaults, built_shape, option_arg, rest_arg}
 use Rattle.fast_cli.proofs.Walks.{IfGiven, outcome}
@@ -232,7 +232,7 @@ sweep_reads : ReadsAs sweep_form
 unfolding clap_on_literals
 sweep_reads = reads-free sweep_form refl refl (λ words. refl) sweep_rules
 
-pub command_reads : (name : Name) → ReadsAs (command_in name).form
+pub command_reads : (name : CommandName) → ReadsAs (command_in name).form
 command_reads names.Func = func_reads
 command_reads names.Run = run_reads
 command_reads names.Sched = sched_reads

@@ -1,10 +1,10 @@
 -- The commands as the code names them.
 use Rattle.fast_cli.specs.Line.{Command, back_command, func_command, inorder_command, run_command}
 use Rattle.fast_cli.specs.Line.{sched_command, soak_command, sweep_command}
-use Rattle.fast_cli.specs.declared.table.Name.{Name}
-use Rattle.fast_cli.specs.declared.table.Name.TheVariants as name
+use Rattle.fast_cli.specs.declared.table.CommandName.{CommandName}
+use Rattle.fast_cli.specs.declared.table.CommandName.TheVariants as name
 
-abbrev pub command_in : Name → Command
+abbrev pub command_in : CommandName → Command
 command_in name.Func = func_command
 command_in name.Run = run_command
 command_in name.Sched = sched_command

@@ -8,7 +8,7 @@ ghost use Rattle.fast_cli.specs.Table.{command_in};
 
 use crate::line::{Line, UsageFault};
 use crate::own::{own_name, own_names, own_options};
-use crate::table::Name;
+use crate::table::CommandName;
 use crate::values::{given_number_at, name_at, names_at, number_at, options_at};
 use clap::ArgMatches;
 use std::alloc::Global;
@@ -16,7 +16,7 @@ use std::alloc::Global;
 /// The line of a command.
 pub(crate) fn line_at(
     alloc: Global,
-    name: Name,
+    name: CommandName,
     matches: &ArgMatches<'_>,
 ) -> Result<Line, UsageFault>
     ensures ok { IfOk result (λ l. (command_in name).read (values_of matches.now) ≡ Some l) }
@@ -27,13 +27,13 @@ pub(crate) fn line_at(
         → IsSome ((command_in name).read (values_of matches.now)) }
 {
     match name {
-        Name::Func => func_at(alloc, matches),
-        Name::Run => run_at(alloc, matches),
-        Name::Sched => sched_at(alloc, matches),
-        Name::Soak => soak_at(matches),
-        Name::Back => back_at(alloc, matches),
-        Name::Inorder => inorder_at(alloc, matches),
-        Name::Sweep => sweep_at(alloc, matches),
+        CommandName::Func => func_at(alloc, matches),
+        CommandName::Run => run_at(alloc, matches),
+        CommandName::Sched => sched_at(alloc, matches),
+        CommandName::Soak => soak_at(matches),
+        CommandName::Back => back_at(alloc, matches),
+        CommandName::Inorder => inorder_at(alloc, matches),
+        CommandName::Sweep => sweep_at(alloc, matches),
     }
 }
 

@@ -9,11 +9,15 @@ ghost use Rattle.fast_cli.specs.Table.{command_in};
 use crate::command::parse_form;
 use crate::line::{Line, UsageFault};
 use crate::lines::line_at;
-use crate::table::{Name, command_named, form_for};
+use crate::table::{CommandName, command_named, form_for};
 use std::alloc::Global;
 
 /// The line of a command, by the words behind its name.
-fn read_command<'a>(alloc: Global, name: Name, words: &'a [&'a str]) -> Result<Line, UsageFault>
+fn read_command<'a>(
+    alloc: Global,
+    name: CommandName,
+    words: &'a [&'a str],
+) -> Result<Line, UsageFault>
     requires text { AreText (map (λ w. w.now) words.now) }
     ensures ok { IfOk result (λ l. line_by (command_in name) (map (λ w. w.now) words.entry.now)
         ≡ Some l) }

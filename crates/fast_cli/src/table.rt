@@ -8,7 +8,7 @@ use crate::form::Form;
 
 /// Which command the first of the words names.
 #[derive(Clone, Copy)]
-pub(crate) enum Name {
+pub(crate) enum CommandName {
     Func,
     Run,
     Sched,
@@ -19,41 +19,41 @@ pub(crate) enum Name {
 }
 
 /// The command of a word, if it names one.
-pub(crate) fn command_named(word: &str) -> Option<Name>
+pub(crate) fn command_named(word: &str) -> Option<CommandName>
     ensures named { option_map command_in result ≡ named_command word.now }
 {
     match word {
-        "func" => Some(Name::Func),
-        "run" => Some(Name::Run),
-        "sched" => Some(Name::Sched),
-        "soak" => Some(Name::Soak),
-        "back" => Some(Name::Back),
-        "inorder" => Some(Name::Inorder),
-        "sweep" => Some(Name::Sweep),
+        "func" => Some(CommandName::Func),
+        "run" => Some(CommandName::Run),
+        "sched" => Some(CommandName::Sched),
+        "soak" => Some(CommandName::Soak),
+        "back" => Some(CommandName::Back),
+        "inorder" => Some(CommandName::Inorder),
+        "sweep" => Some(CommandName::Sweep),
         _ => None,
     }
 }
 
 /// What a command takes.
-pub(crate) fn form_for(name: Name) -> Form<'static>
+pub(crate) fn form_for(name: CommandName) -> Form<'static>
     ensures form { form_of result ≡ (command_in name).form }
 {
     match name {
-        Name::Func => form("func", &["IMAGE"], &["cycles", "input", "output"]),
-        Name::Run => form(
+        CommandName::Func => form("func", &["IMAGE"], &["cycles", "input", "output"]),
+        CommandName::Run => form(
             "run",
             &["IMAGE", "MACHINE"],
             &["threads", "ring", "cycles", "input", "output"],
         ),
-        Name::Sched => plan_form("sched"),
-        Name::Soak => form("soak", &["SEED"], &[]),
-        Name::Back => form(
+        CommandName::Sched => plan_form("sched"),
+        CommandName::Soak => form("soak", &["SEED"], &[]),
+        CommandName::Back => form(
             "back",
             &["IMAGE", "SCRIPT"],
             &["history", "cycles", "input", "output"],
         ),
-        Name::Inorder => plan_form("inorder"),
-        Name::Sweep => Form {
+        CommandName::Inorder => plan_form("inorder"),
+        CommandName::Sweep => Form {
             rest: Some("MACHINES"),
             ..form("sweep", &["IMAGE"], &["ring", "cycles", "input", "output"])
         },
