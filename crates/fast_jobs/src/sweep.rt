@@ -25,10 +25,7 @@ use report_text::{Status, WriteFault, sweep_line, sweep_refusal};
 use std::alloc::Global;
 use std::thread::Threads;
 use std::vec::IntoIter;
-use sweep_runs::{Job, sweep};
-
-/// How many machines are open at once.
-const AT_ONCE: usize = 8;
+use sweep_runs::{Job, MOST_JOBS, sweep};
 
 /// What a sweep has of machines, in their order: of each why it has no run, if so, and what is
 /// reported of those that have one.
@@ -77,7 +74,7 @@ pub fn run_sweep<R: Threads + Sync, K: Sink, D: Device + Send>(
     }
 }
 
-/// Opens the machines and does their runs, eight at a time.
+/// Opens the machines and does their runs, up to `MOST_JOBS` at a time.
 fn tell_all<R: Threads + Sync, D: Device + Send>(
     rt: &R,
     alloc: Global,
@@ -98,7 +95,7 @@ fn tell_all<R: Threads + Sync, D: Device + Send>(
     };
     let mut machines = files.machines.as_slice();
     while !machines.is_empty() {
-        let (next, rest) = machines.split_at(machines.len().min(AT_ONCE));
+        let (next, rest) = machines.split_at(machines.len().min(MOST_JOBS));
         let batch = open_batch(alloc, files, next, &mut devices)?;
         run_batch(rt, alloc, batch, &mut told)?;
         machines = rest;
@@ -113,7 +110,7 @@ fn run_batch<R: Threads + Sync, D: Device + Send>(
     batch: Batch<D>,
     told: &mut Told,
 ) -> Result<(), NoMemory>
-    requires few { vec_len batch.jobs ≤ AT_ONCE }
+    requires few { vec_len batch.jobs ≤ MOST_JOBS }
     requires sound { All (λ job. is_setup job.setup ≡ true) batch.jobs.items }
     requires order { All (λ job. map D.kind job.devices.items ≡ device_order) batch.jobs.items }
     ensures refusals { OnOk result

@@ -10,15 +10,18 @@ use mono_model::Final;
 use std::alloc::{AllocError, Global};
 use std::thread::{Threads, map_vec};
 
+/// The most jobs of one call of `sweep`, each of which has a machine open at once.
+pub const MOST_JOBS: usize = 8;
+
 /// What is reported of each job at its end, in the order of the jobs, as the runs one after another
 /// would have it. Each job is opened, played and given up in a thread of its own where one can be
-/// made. Want of memory in one refuses the whole call.
+/// made. Want of memory in one refuses the whole call. It takes at most `MOST_JOBS`.
 pub fn sweep<R: Threads + Sync, D: Device + Send>(
     rt: &R,
     alloc: Global,
     jobs: Vec<Job<D>>,
 ) -> Result<Vec<Final>, NoMemory>
-    requires few { vec_len jobs ≤ 8 }
+    requires few { vec_len jobs ≤ MOST_JOBS }
     requires sound { All (λ job. is_setup job.setup ≡ true) jobs.items }
     requires order { All (λ job. map D.kind job.devices.items ≡ device_order) jobs.items }
     ensures finals { IfOk result (λ finals. finals.items
