@@ -23,10 +23,6 @@ and_right : (a b : Bool) → (a && b) ≡ true → b ≡ true
 and_right true b e = e
 and_right false b e = cc
 
-and_left : (a b : Bool) → (a && b) ≡ true → a ≡ true
-and_left true b e = refl
-and_left false b e = e
-
 in_digits : (text : List ℕ) → is_numeral text ≡ true → list_all is_ascii_digit text ≡ true
 in_digits text e = and_right _ _ e
 

@@ -1,18 +1,13 @@
 -- A plan read byte by byte.
-use Rattle.std.proofs.Common.{◌≡◌, ◌≢◌, ℕ, suc, ◌+◌, ◌<◌, ◌≤◌, length, drop, get_or, option_map, drop-cons, length-drop, arith, true, if◌then◌else◌, List, [], ◌∷◌, ◌++◌, Option, Some, None, Ok, Err, append_assoc, refl, ap, sym, ◌∙◌}
+use Rattle.std.proofs.Common.{◌≡◌, ◌≢◌, ℕ, suc, ◌+◌, ◌<◌, ◌≤◌, length, drop, get_or, option_map, drop-cons, length-drop, arith, true, if◌then◌else◌, List, [], ◌∷◌, ◌++◌, Some, None, Ok, Err, refl, ap, sym, ◌∙◌}
 use Rattle.std.proofs.lemmas.List.{append-nil, nil_from_length}
-use Rattle.std.specs.List.{filter_map, cons_option, position_from}
-use Rattle.std.specs.Option.{option_to_list}
+use Rattle.std.specs.List.{filter_map, position_from}
 use Rattle.split_core.specs.declared.event.Event.{Event}
 use Rattle.fast_jobs.specs.Gives.{unless}
 use Rattle.fast_jobs.specs.Job.{plan_in}
 use Rattle.fast_jobs.specs.Plan.{IsBadAt, event_of, is_bad, plan_events, first_bad}
 use Rattle.report_text.specs.declared.status.Status.{Status}
 use Rattle.report_text.specs.declared.status.Status.TheVariants.{Pass, Fail, Limit, OutputFull, Running, Shown, Usage, Image, Machine, Missing, ReadFault, WriteFault, Memory, TooLong, BadPlan, BadScript, Sets}
-
-added : (xs zs : List Event) (o : Option Event) → (xs ++ option_to_list o) ++ zs ≡ xs ++ cons_option o zs
-added xs zs None = ap (λ ys. ys ++ zs) (append-nil xs)
-added xs zs (Some event) = append_assoc xs (event ∷ []) zs
 
 -- the first bad byte of what is left
 

@@ -11,7 +11,6 @@ use Rattle.timing_core.specs.Small.{IsSmall}
 use Rattle.time_model.specs.declared.side.Taken.TheVariants.{Used, Dropped}
 use Rattle.time_model.specs.declared.telling.Telling.{Telling}
 use Rattle.time_model.specs.declared.turn.Turn.{Turn}
-use Rattle.time_model.specs.declared.turn.Turn.TheVariants.{Want}
 use Rattle.time_model.specs.Telling.{told_behind}
 use Rattle.time_model.specs.Running.{IsRun, start}
 use Rattle.time_model.specs.Turning.{held_by}
@@ -29,7 +28,7 @@ use Rattle.inorder_model.specs.Feeding.{holding, IsFed}
 use Rattle.inorder_model.proofs.Bool.{and_false}
 use Rattle.inorder_model.proofs.Small.{held_small}
 use Rattle.inorder_model.proofs.Steps.{told_side, step_made}
-use Rattle.inorder_model.proofs.Sides.{waiting_step, going_step, try_holds, turned_due}
+use Rattle.inorder_model.proofs.Sides.{going_step, try_holds, turned_due}
 
 pub holding_stands : (s : Setup) (k : ℕ) (e : Entry) (side : InorderState) → InorderStandsFor s k side → e ≡ needed_entry s (seen s k) → InorderStandsFor s k (holding e side)
 holding_stands s k e side h needed = record { lane = h.lane; at = h.at; owed = h.owed; epoch = h.epoch; held = λ all. needed }
@@ -126,7 +125,7 @@ module _ (e : Entry) (old mid : InorderState) (orders : Orders) (wants : wants_i
 pub run_once : (old new : InorderState) (turn : Turn) → Steps old new turn → IsRun Steps old new turn
 run_once old new turn step = record { behind = old; silent = start; last = step }
 
--- an entry of the side's epoch, and one of another
+-- an entry of the side's epoch
 pub fed_used : (e : Entry) (old new : InorderState) (turn : Turn) → e.epoch ≡ old.telling.epoch → IsRun Steps (holding e old) new turn → IsFed e old new turn
 fed_used e old new turn same run = record {
   answer = Used;
@@ -138,17 +137,4 @@ fed_used e old new turn same run = record {
 }
   where
     no : Used ≡ Dropped → ⊥
-    no is = cc
-
-pub fed_dropped : (e : Entry) (old : InorderState) → wants_in old ≡ true → (e.epoch ≡ old.telling.epoch → ⊥) → IsFed e old old Want
-fed_dropped e old wants other = record {
-  answer = Dropped;
-  taken = old;
-  used = λ is. absurd (no is);
-  dropped = λ is. refl;
-  by_epoch = (λ is. absurd (no is), λ is. absurd (other is));
-  run = run_once old old Want (λ s k allowed h. waiting_step s k old h wants);
-}
-  where
-    no : Dropped ≡ Used → ⊥
     no is = cc

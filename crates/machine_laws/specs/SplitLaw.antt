@@ -94,12 +94,6 @@ pub record IsRunIn (s : Setup) (r : DemandRun) (x : Split) : Type 0 where
   pub next : (e : Entry) (es : List Entry) → needs_entry x.place ≡ true → x.held ≡ None → x.entries ≡ e ∷ es → e.epoch ≡ openings (told x.place) → e ≡ needed_entry s x.place
 
 -- Of the monolithic machine's demand run.
-abbrev pub IsSmall : Setup → Split → Type 0
-IsSmall s x = IsSmallIn s (mono_run s) x
-
-abbrev pub IsUnderWay : Setup → Split → Entry → Type 0
-IsUnderWay s x e = IsUnderWayIn s (mono_run s) x e
-
 abbrev pub IsRun : Setup → Split → Type 0
 IsRun s x = IsRunIn s (mono_run s) x
 

@@ -29,14 +29,6 @@ pub record Made {D : Type 0} (old new : Walk D) (result : Option Entry) : Type 0
   pub none : IsNone result ↔ IsAtRest old
   pub same : IfNone result (new ≡ old)
 
--- no entry was made
-pub none_made : {D T : Type 0} (timed : Timed T) (laws : IsTimed timed) (s : Setup) (x : At) (state : SplitState D T) (func : Walk D) (result : Option Entry) → result ≡ None → Made state.func func result → StandsOn timed s x state →
-    IsPlayed timed s x (record state { func = func })
-none_made {D} {T} timed laws s x state func None is made h =
-    let P : Walk D → Type 0 = λ f. StandsOn timed s x (record state { func = f }) in
-    record { events = []; stands = subst P (sym made.same) h }
-none_made timed laws s x state func (Some e) is made h = cc
-
 module _ {D T : Type 0} (timed : Timed T) (laws : IsTimed timed) (state : SplitState D T) (free : is_none state.computed ≡ true) (empty : state.entries.items ≡ []) (func : Walk D) (e : Entry) (result : Option Entry) (some : result ≡ Some e)
     (made : Made state.func func result) where
   -- the entry in the list
