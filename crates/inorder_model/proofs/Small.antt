@@ -1,13 +1,12 @@
 -- The numbers of the timing side are small at each place of a run that is allowed.
-use Rattle.std.proofs.Common.{◌≡◌, ℕ, ◌^◌, ◌≤◌, ◌<◌, ◌⊎◌, Bool, true, false, if◌then◌else◌, List, [], ◌∷◌, length, subst, sym, arith, inl, inr}
+use Rattle.std.proofs.Common.{◌≡◌, ℕ, ◌^◌, ◌≤◌, ◌<◌, ◌⊎◌, true, subst, sym, arith, inl, inr}
 use Rattle.std.proofs.lemmas.Bool.{cases_lt}
-use Rattle.rollback_cmds.specs.declared.order.Order.{Order}
-use Rattle.rollback_cmds.specs.Order.{opens_epoch_of}
 use Rattle.mono_model.specs.declared.setup.Setup.{Setup}
 use Rattle.mono_model.specs.Setup.{is_setup}
 use Rattle.mono_model.specs.Path.{openings}
 use Rattle.mono_model.specs.Demand.{told}
 use Rattle.mono_model.proofs.Sound.{setup_facts}
+use Rattle.machine_laws.proofs.SplitBounds.{openings_most}
 use Rattle.timing_laws.specs.Seen as timing
 use Rattle.timing_core.specs.Small.{IsSmall}
 use Rattle.time_model.proofs.Bounded.{IsBounded}
@@ -67,14 +66,6 @@ unfolding lane_held_at
 held_small s k allowed = place_small s k allowed
 
 -- and so is the epoch
-one_most : (b : Bool) → (if b then 1 else 0) ≤ 1
-one_most true = omega arith
-one_most false = omega arith
-
-openings_most : (os : List Order) → openings os ≤ length os
-openings_most [] = omega arith
-openings_most (o ∷ os) = omega (arith, one_most (opens_epoch_of o), openings_most os)
-
 told_within : (s : Setup) (k : ℕ) → IsInorder s → k ≤ lane_step_bound s → openings (told (seen s k)) ≤ 2 ^ 44
 told_within s k allowed within =
     let bounded = run_bounded s k (setup_facts s allowed.sound).some_cycle allowed.window in

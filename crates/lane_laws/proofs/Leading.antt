@@ -1,14 +1,14 @@
 -- The turns of a cycle lead from the in-order machine before it to the one behind it.
-use Rattle.std.proofs.Common.{◌≡◌, ℕ, suc, ◌+◌, ◌≤◌, if◌then◌else◌, Bool, true, false, Option, Some, None, length, refl, ap, sym, ◌∙◌, subst, arith}
+use Rattle.std.proofs.Common.{◌≡◌, ℕ, suc, ◌≤◌, if◌then◌else◌, Bool, true, false, Option, Some, None, length, refl, ap, sym, ◌∙◌, subst, arith}
 use Rattle.std.proofs.lemmas.Bool.{cond-false, cond_both}
 use Rattle.mono_model.specs.declared.setup.Setup.{Setup}
 use Rattle.mono_model.specs.Final.{has_ended}
-use Rattle.mono_model.specs.Machine.{Machine, machine_start, flushed}
+use Rattle.mono_model.specs.Machine.{machine_start, flushed}
 use Rattle.mono_model.specs.Fetch.{Try, misses, appends, turns, fetch_try, after_try}
-use Rattle.mono_model.specs.Cycle.{end_of_cycle}
 use Rattle.mono_model.specs.Issue.{replayed}
 use Rattle.mono_model.specs.Demand.{Demand, demand_try}
 use Rattle.machine_laws.proofs.Phases.{interrupt_cycle, commits_from, completes_from, by_kept, Tries, try_tries}
+use Rattle.machine_laws.proofs.Reaching.{cycle_end_cycle}
 use Rattle.lane_model.specs.Lane.{Lane, lane_start, Executing, in_execute}
 use Rattle.lane_model.specs.Write.{lane_interrupt, write_width, lane_commit, lane_write}
 use Rattle.lane_model.specs.Memory.{lane_memory}
@@ -131,10 +131,6 @@ try_leads s c (turns behind) d memory is here leads = record { cycle = is.cycle 
 next_leads : (s : Setup) (c : ℕ) (l : Lane) → l.machine.cycle ≡ c → l ≡ lane s c → (b : Bool) → has_ended l.machine.end ≡ b → LeadsTo s c (if b then stopping else interrupting) l
 next_leads s c l here is true ended = record { cycle = here; state = is; ended = ended }
 next_leads s c l here is false ended = record { cycle = here; state = is; ended = ended }
-
-cycle_end_cycle : (s : Setup) (m : Machine) → (end_of_cycle s m).cycle ≡ m.cycle + 1
-unfolding end_of_cycle
-cycle_end_cycle s m = refl
 
 end_leads : (s : Setup) (c : ℕ) (l : Lane) → LeadsTo s c ending l →
     LeadsTo s (suc c) (if has_ended (lane_cycle_end s l).machine.end then stopping else interrupting) (lane_cycle_end s l)

@@ -2,13 +2,13 @@
 use Rattle.std.proofs.Common.{◌≡◌, ℕ, ◌≤◌, Option, List, length, refl, sym, subst, arith}
 use Rattle.std.proofs.lemmas.Bool.{cond_both}
 use Rattle.mono_model.specs.declared.setup.Setup.{Setup}
-use Rattle.mono_model.specs.Arch.{Arch, start}
-use Rattle.mono_model.specs.Machine.{Machine, machine_start, flushed}
+use Rattle.mono_model.specs.Arch.{start}
+use Rattle.mono_model.specs.Machine.{machine_start, flushed}
 use Rattle.mono_model.specs.Issue.{replayed}
 use Rattle.mono_model.specs.Fetch.{Try, misses, appends, turns, fetch_try}
-use Rattle.mono_model.specs.Cycle.{end_of_cycle}
 use Rattle.mono_model.specs.Demand.{Demand, demand_try}
 use Rattle.machine_laws.proofs.Always.{demand_start}
+use Rattle.machine_laws.proofs.OutputRoom.{same_output, cycle_end_arch}
 use Rattle.machine_laws.proofs.Phases.{interrupt_output, commits_from, by_kept, Tries, try_tries}
 use Rattle.lane_model.specs.Lane.{Lane, in_execute}
 use Rattle.lane_model.specs.Write.{write_width, lane_commit}
@@ -25,10 +25,6 @@ start_output : (s : Setup) → HasOutput s (demand_start s)
 unfolding machine_start start
 start_output s = omega arith
 
--- where the committed state stays
-same_output : (s : Setup) (a b : Arch) → b ≡ a → length a.output ≤ s.output → length b.output ≤ s.output
-same_output s a b is within = subst (λ (x : Arch). length x.output ≤ s.output) (sym is) within
-
 try_output : (s : Setup) (t : Try) (d : Demand) → Tries d.machine t → HasOutput s d → HasOutput s (demand_try s t d)
 try_output s (misses behind) d made within = same_output s d.machine.arch behind.arch made.arch within
 try_output s (appends behind) d made within = same_output s d.machine.arch behind.arch made.arch within
@@ -43,10 +39,6 @@ execute_arch s d memory =
 issue_arch : (s : Setup) (l : Lane) → (issue_machine s l).arch ≡ l.machine.arch
 unfolding flushed
 issue_arch s l = cond_both (lane_wants_time s l.machine) (replayed l.machine) (issued s l) (λ x. x.arch ≡ l.machine.arch) (λ e. refl) (λ e. refl)
-
-cycle_end_arch : (s : Setup) (m : Machine) → (end_of_cycle s m).arch ≡ m.arch
-unfolding end_of_cycle
-cycle_end_arch s m = refl
 
 turn_output : (s : Setup) (at : LaneAt) (d : Demand) (memory : Option ℕ) → HasOutput s d → HasOutput s (lane_turn_at s at d memory).demand
 unfolding lane_commit

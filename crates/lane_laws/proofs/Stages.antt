@@ -14,6 +14,7 @@ use Rattle.mono_model.specs.Fetch.{Try, misses, appends, turns, cache_read, miss
 use Rattle.mono_model.proofs.Commits.{done_case}
 use Rattle.mono_model.specs.Cycle.{end_of_cycle}
 use Rattle.mono_model.specs.Demand.{Demand, demand_committed, demand_try}
+use Rattle.machine_laws.proofs.Numbering.{cycle_end_window}
 use Rattle.machine_laws.proofs.Phases.{by_window}
 use Rattle.lane_model.specs.Lane.{Lane, Executing, in_execute, done_count, memory_count, has_write, memory_behind}
 use Rattle.lane_model.specs.Write.{lane_commit}
@@ -218,10 +219,6 @@ tried_stands : (s : Setup) (t : Try) (d : Demand) (memory : Option ℕ) → Trie
 tried_stands s (misses behind) d memory are = record { staged = are; tries = tt }
 tried_stands s (appends behind) d memory are = record { staged = are; tries = tt }
 tried_stands s (turns behind) d memory are = record { staged = are; tries = tt }
-
-cycle_end_window : (s : Setup) (m : Machine) → (end_of_cycle s m).window ≡ m.window
-unfolding end_of_cycle
-cycle_end_window s m = refl
 
 end_stands : (w : List Record) (memory : Option ℕ) → AreStaged (suc (memory_count memory)) w → (b : Bool) → Stands (if b then stopping else interrupting) w memory
 end_stands w memory are true = record { staged = are; tries = tt }

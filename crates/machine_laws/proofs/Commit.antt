@@ -177,7 +177,7 @@ commit_related s m n k os related =
       within = related.within;
     }
 
-order_related : (s : Setup) (m : Machine) (n left k : ℕ) (os : List Order) → Related s (numbered m n os) → Related s (numbered m n (commit_order left k os))
+pub order_related : (s : Setup) (m : Machine) (n left k : ℕ) (os : List Order) → Related s (numbered m n os) → Related s (numbered m n (commit_order left k os))
 order_related s m n zero k os related = related
 order_related s m n (suc left) k os related = commit_related s m n k os related
 

@@ -118,7 +118,7 @@ try_within s (appends behind) more d made is =
     try_or_end_within s more (demand_try s (appends behind) d) (path_orderly s d is.orders is.room) (omega (arith, made.window, is.room))
 try_within s (turns behind) more d made is = record { orders = path_orderly s d is.orders is.room; window = omega (arith, made.window, is.room); room = tt }
 
-cycle_end_window : (s : Setup) (m : Machine) → (end_of_cycle s m).window ≡ m.window
+pub cycle_end_window : (s : Setup) (m : Machine) → (end_of_cycle s m).window ≡ m.window
 unfolding end_of_cycle
 cycle_end_window s m = refl
 

@@ -17,7 +17,7 @@ unfolding machine_start start
 start_output s = omega arith
 
 -- where the committed state stays
-same_output : (s : Setup) (a b : Arch) → b ≡ a → length a.output ≤ s.output → length b.output ≤ s.output
+pub same_output : (s : Setup) (a b : Arch) → b ≡ a → length a.output ≤ s.output → length b.output ≤ s.output
 same_output s a b is within = subst (λ (x : Arch). length x.output ≤ s.output) (sym is) within
 
 try_output : (s : Setup) (t : Try) (more : ℕ) (d : Demand) → Tries d.machine t → length d.machine.arch.output ≤ s.output → length (tried_turn s t more d).demand.machine.arch.output ≤ s.output
@@ -25,7 +25,7 @@ try_output s (misses behind) more d made within = same_output s d.machine.arch b
 try_output s (appends behind) more d made within = same_output s d.machine.arch behind.arch made.arch within
 try_output s (turns behind) more d made within = same_output s d.machine.arch behind.arch made.arch within
 
-cycle_end_arch : (s : Setup) (m : Machine) → (end_of_cycle s m).arch ≡ m.arch
+pub cycle_end_arch : (s : Setup) (m : Machine) → (end_of_cycle s m).arch ≡ m.arch
 unfolding end_of_cycle
 cycle_end_arch s m = refl
 

@@ -32,7 +32,7 @@ one_most : (b : Bool) → (if b then 1 else 0) ≤ 1
 one_most true = omega arith
 one_most false = omega arith
 
-openings_most : (os : List Order) → openings os ≤ length os
+pub openings_most : (os : List Order) → openings os ≤ length os
 openings_most [] = omega arith
 openings_most (o ∷ os) = omega (arith, one_most (opens_epoch_of o), openings_most os)
 

@@ -25,7 +25,7 @@ use Rattle.mono_model.specs.Commit as mono
 use Rattle.mono_model.specs.Demand.{Demand, ending_orders, commit_order, demand_committed, demand_commit}
 use Rattle.machine_laws.specs.Relation.{Tracked, Tracks, Related, Within}
 use Rattle.mono_model.proofs.Path.{path_commit}
-use Rattle.machine_laws.proofs.Commit.{numbered, KeptBy, effect_is, leaving_kept, related_number, commit_related}
+use Rattle.machine_laws.proofs.Commit.{numbered, KeptBy, effect_is, leaving_kept, related_number, order_related}
 use Rattle.mono_model.proofs.Commits.{every_commit}
 use Rattle.mono_model.proofs.Commits as walk
 use Rattle.timing_side.specs.Slots.{found_in}
@@ -273,10 +273,6 @@ order_seen s m n (suc left) k os =
     let e : slots_of (entry s os) n m.window ≡ slots_of (entry s (Commit k ∷ os)) n m.window =
     sym (slots_same s os (Commit k ∷ os) n m.window (λ j. refl) (λ j under. ap (λ (p : ℕ → Arch). p j) (path_commit s k os))) in
     λ i. record (seen s (numbered m n os)) { slots = e i }
-
-order_related : (s : Setup) (m : Machine) (n left k : ℕ) (os : List Order) → Related s (numbered m n os) → Related s (numbered m n (commit_order left k os))
-order_related s m n zero k os related = related
-order_related s m n (suc left) k os related = commit_related s m n k os related
 
 ending_added : (handler number left : ℕ) (how : mono.Ending) (os : List Order) →
     timing.ending_orders (seen_ending handler how) number (commit_order left number []) ++ os ≡ ending_orders how handler number (commit_order left number os)
