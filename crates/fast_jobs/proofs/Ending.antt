@@ -1,6 +1,5 @@
 -- How the runs on the machine end, and what is reported of them.
-use Rattle.std.proofs.Common.{◌≡◌, ◌≢◌, ℕ, ◌==◌, ◌&&◌, ◌++◌, true, is_none, List, length, map, refl, ap, sym, ◌∙◌}
-use Rattle.std.proofs.lemmas.Bool.{and_parts}
+use Rattle.std.proofs.Common.{◌≡◌, ◌≢◌, ℕ, ◌++◌, true, List, map, refl, ap, sym, ◌∙◌}
 use Rattle.mono_model.specs.declared.setup.Setup.{Setup}
 use Rattle.mono_model.specs.declared.final_state.End.{End}
 use Rattle.mono_model.specs.declared.final_state.End.TheVariants.{Running}
@@ -11,26 +10,21 @@ use Rattle.mono_model.specs.Machine.{Machine, machine_final}
 use Rattle.mono_model.specs.Cycle.{mono, final}
 use Rattle.mono_model.specs.Demand.{Place, place, step_bound}
 use Rattle.mono_model.specs.Report.{closed_output, report_text, text}
-use Rattle.mono_model.specs.Split.{Split, is_boundary, is_place_boundary, to_boundary, boundary_rounds, run, reach}
+use Rattle.mono_model.specs.Split.{Split, is_boundary, to_boundary, boundary_rounds, run, reach}
 use Rattle.machine_laws.specs.Runs.{IsMono, Halts, is_over}
 use Rattle.machine_laws.specs.Reached.{IsReached}
 use Rattle.machine_laws.proofs.Halting.{run_halts}
-use Rattle.machine_laws.proofs.SplitReached.{reached_run, boundary_reached}
+use Rattle.machine_laws.proofs.SplitReached.{boundary_reached}
 use Rattle.machine_laws.proofs.SplitArriving.{comes_to_boundary}
 use Rattle.split_core.specs.declared.event.Event.{Event}
 use Rattle.split_core.specs.Events.{event_in}
+use Rattle.sweep_runs.proofs.Last.{boundary_mono}
 use Rattle.fast_jobs.specs.Outcome.{planned_cycle}
 use Rattle.mono_model.proofs.Sound.{setup_facts}
 
 final-end : (s : Setup) (m : Machine) → (machine_final s m).end ≡ m.end
 unfolding machine_final
 final-end s m = refl
-
--- The machine at a boundary is the monolithic one.
-pub boundary_mono : (s : Setup) (x : Split) → IsReached s x → is_boundary x ≡ true → IsMono s x.place
-boundary_mono s x reached at =
-    let both = and_parts (is_place_boundary x.place && is_none x.hand) (length x.listed_orders == 0) at in
-    (reached_run s x reached).machine (and_parts (is_place_boundary x.place) (is_none x.hand) both.0).0
 
 -- What is reported is the machine after so many cycles.
 pub record IsAt (s : Setup) (c : ℕ) (output : List ℕ) (last : Final) : Type 0 where

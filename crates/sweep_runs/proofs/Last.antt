@@ -12,7 +12,7 @@ use Rattle.machine_laws.proofs.SplitReached.{reached_run}
 use Rattle.sweep_runs.specs.Sweep.{last_of}
 
 -- the machine at a boundary is the monolithic one
-boundary_mono : (s : Setup) (x : Split) → IsReached s x → is_boundary x ≡ true → IsMono s x.place
+pub boundary_mono : (s : Setup) (x : Split) → IsReached s x → is_boundary x ≡ true → IsMono s x.place
 boundary_mono s x reached at =
     let both = and_parts (is_place_boundary x.place && is_none x.hand) (length x.listed_orders == 0) at in
     (reached_run s x reached).machine (and_parts (is_place_boundary x.place) (is_none x.hand) both.0).0
