@@ -5,13 +5,13 @@ use Rattle.rollback_cmds.specs.declared.order.Order.{Order}
 use Rattle.mono_model.specs.declared.setup.Setup.{Setup}
 use Rattle.mono_model.specs.Path.{openings}
 use Rattle.mono_model.specs.Demand.{At, interrupting, committing, completing, issuing, trying, ending, stopping, halted, Place, step, told, needs_entry}
-use Rattle.mono_model.specs.Split.{Split, sent, ticked_to, on_tick, may_tick, is_halted, is_cycle_start, is_place_boundary, is_boundary, event_at, round, rounds_to_boundary, boundary_rounds, to_boundary}
+use Rattle.mono_model.specs.Split.{Split, may_take, sent, ticked_to, on_tick, may_tick, is_halted, is_cycle_start, is_place_boundary, is_boundary, event_at, round, rounds_to_boundary, boundary_rounds, to_boundary}
 use Rattle.machine_laws.specs.SplitLaw.{IsListed}
 use Rattle.machine_laws.specs.Reached.{IsReached}
 use Rattle.machine_laws.proofs.SplitLeft.{steps_left, step_left, place_left}
 use Rattle.machine_laws.proofs.SplitRounds.{waiting_for, send_sends}
 use Rattle.machine_laws.proofs.SplitStale.{stale, stale_most}
-use Rattle.machine_laws.proofs.SplitBoundary.{before_step, Before, before_is, wait_of, wait_most, lacks, waits, none_from, some_none, orders_fewer}
+use Rattle.machine_laws.proofs.SplitBoundary.{before_step, Before, before_is, wait_of, wait_most, waits, none_from, some_none, orders_fewer}
 use Rattle.machine_laws.specs.DemandRun.{DemandRun, mono_run}
 use Rattle.machine_laws.proofs.Laws.{IsDemandRun}
 use Rattle.machine_laws.proofs.MonoRun.{mono_laws}
@@ -61,7 +61,7 @@ rank s left x = cost s * left + waits s x
 
 pub waits_most : (s : Setup) (x : Split) → IsListed s x → waits s x ≤ s.ring + 68
 waits_most s x listed =
-    wait_most s.ring (lacks x) (waiting_for x.listed_orders x.hand) (stale (openings (told x.place)) x.entries) (waiting_most x.listed_orders x.hand listed.orders)
+    wait_most s.ring (may_take x) (waiting_for x.listed_orders x.hand) (stale (openings (told x.place)) x.entries) (waiting_most x.listed_orders x.hand listed.orders)
     (omega (arith, stale_most (openings (told x.place)) x.entries, listed.entries))
 
 -- no step is made
@@ -103,7 +103,7 @@ module _ {s : Setup} {r : DemandRun} (laws : IsDemandRun s r) (x : Split) (is : 
           ap (λ (y : Split). waiting_for y.listed_orders y.hand) kept ∙ ap (waiting_for b.listed_orders) (before.hand ∙ empty.1) ∙ omega (arith, before.listed_orders, ap (λ (l : List Order). length l) empty.0) in
           let same : stale (openings (told z.place)) z.entries ≡ stale (openings (told x.place)) b.entries =
           ap (λ (y : Split). stale (openings (told y.place)) y.entries) kept ∙ ap (λ (p : Place). stale (openings (told p)) b.entries) before.place in
-          by_stale s.ring (lacks x) (lacks z) (waiting_for x.listed_orders x.hand) (waiting_for z.listed_orders z.hand) (stale (openings (told x.place)) x.entries) (stale (openings (told z.place)) z.entries)
+          by_stale s.ring (may_take x) (may_take z) (waiting_for x.listed_orders x.hand) (waiting_for z.listed_orders z.hand) (stale (openings (told x.place)) x.entries) (stale (openings (told z.place)) z.entries)
           (and_from (needs_entry x.place) (is_none x.held) needs (none_from x.held none_x)) none now (omega (arith, less, same))
 
   -- a round without a step leaves a lower rank

@@ -5,7 +5,7 @@ use Rattle.rollback_cmds.specs.declared.order.Order.{Order}
 use Rattle.mono_model.specs.declared.setup.Setup.{Setup}
 use Rattle.mono_model.specs.Path.{openings}
 use Rattle.mono_model.specs.Demand.{Place, told, needs_entry}
-use Rattle.mono_model.specs.Split.{Split, on_compute, pushed, on_obey, on_take, sent}
+use Rattle.mono_model.specs.Split.{Split, on_compute, pushed, on_obey, may_take, on_take, sent}
 use Rattle.machine_laws.proofs.SplitRounds.{compute_side, compute_listed, push_side, push_listed, obey_side, obey_count, take_takes, waiting_for, send_sends, send_waits}
 use Rattle.machine_laws.proofs.SplitStale.{stale}
 
@@ -59,11 +59,8 @@ fewer_wait ring false true (suc p) q st su less most gives = let lacks = gives r
 fewer_wait ring true true (suc p) zero st su less most gives = omega arith
 fewer_wait ring true true (suc p) (suc q) st su less most gives = omega arith
 
-abbrev pub lacks : Split → Bool
-lacks x = needs_entry x.place && is_none x.held
-
 abbrev pub waits : Setup → Split → ℕ
-waits s x = wait_of s.ring (lacks x) (waiting_for x.listed_orders x.hand) (stale (openings (told x.place)) x.entries)
+waits s x = wait_of s.ring (may_take x) (waiting_for x.listed_orders x.hand) (stale (openings (told x.place)) x.entries)
 
 pub waiting_is : (l : List Order) (h : Option Order) → waiting_for l h ≡ length l + waiting_for [] h
 waiting_is l None = omega arith
@@ -78,7 +75,7 @@ some_none (Some a) e = cc
 
 -- where orders wait there are fewer behind a round without a step
 pub orders_fewer : (s : Setup) (x : Split) → length x.listed_orders ≤ 64 → 1 ≤ waiting_for x.listed_orders x.hand → (su : ℕ) → su ≤ s.ring →
-    wait_of s.ring (lacks (sent (before_step s x).hand (before_step s x))) (waiting_for (sent (before_step s x).hand (before_step s x)).listed_orders (sent (before_step s x).hand (before_step s x)).hand) su < waits s x
+    wait_of s.ring (may_take (sent (before_step s x).hand (before_step s x))) (waiting_for (sent (before_step s x).hand (before_step s x)).listed_orders (sent (before_step s x).hand (before_step s x)).hand) su < waits s x
 orders_fewer s x most some su few =
     let b = before_step s x in
     let r = sent b.hand b in
@@ -87,7 +84,7 @@ orders_fewer s x most some su few =
     let same : waiting_for [] b.hand ≡ waiting_for [] x.hand = ap (waiting_for []) is.hand in
     let fewer : waiting_for r.listed_orders r.hand < length x.listed_orders + waiting_for [] b.hand =
     send_waits b.hand b (length x.listed_orders) refl is.listed_orders most (omega (arith, waiting_is x.listed_orders x.hand, waiting_is b.listed_orders b.hand, same)) in
-    fewer_wait s.ring (lacks x) (lacks r) (waiting_for x.listed_orders x.hand) (waiting_for r.listed_orders r.hand) (stale (openings (told x.place)) x.entries) su
+    fewer_wait s.ring (may_take x) (may_take r) (waiting_for x.listed_orders x.hand) (waiting_for r.listed_orders r.hand) (stale (openings (told x.place)) x.entries) su
     (omega (arith, fewer, waiting_is x.listed_orders x.hand, same)) few
     (λ now.
     let parts = and_parts (needs_entry r.place) (is_none r.held) now in
