@@ -13,14 +13,11 @@ use crate::memory::Memory;
 use crate::performed::{Interrupted, Made, OldRegister, PastStep, Performed, Stepped};
 use device_bus::{Bus, Device};
 use fsim_base::{Access, Class, Halt, NoMemory, Spot, Width};
-use machine_csr::Csrs;
+use machine_csr::{Csrs, TIMER_INTERRUPT};
 use mono_model::{End, Final, Setup, Stats, end_of};
 use std::alloc::Global;
 use trace_entry::Entry;
 use undo_journal::{Change, Past};
-
-/// The cause number of the machine timer interrupt: the interrupt bit and code 7.
-const TIMER_INTERRUPT: u32 = 0x8000_0007;
 
 /// The address of the low half of the timer's time; the high half stands behind it.
 const TIME: u32 = 0x0200_bff8;

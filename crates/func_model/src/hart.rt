@@ -113,16 +113,16 @@ fn extended(raw: u32, width: Width, signed: bool) -> u32
 /// The timer's place on the bus, and the numbers that are the halves of its mtimecmp.
 const TIMER: u32 = 1;
 
-const COMPARE_LOW: u32 = 0;
+const COMPARE_LOW_SLOT: u32 = 0;
 
-const COMPARE_HIGH: u32 = 1;
+const COMPARE_HIGH_SLOT: u32 = 1;
 
 /// mtimecmp, in cycles.
 pub fn compare<D: Device>(bus: &Bus<D>) -> u64
     ensures compare { result ≡ compare_of bus.now }
 {
-    let low = u64::from(bus.number(TIMER, COMPARE_LOW));
-    low + (u64::from(bus.number(TIMER, COMPARE_HIGH)) << 32)
+    let low = u64::from(bus.number(TIMER, COMPARE_LOW_SLOT));
+    low + (u64::from(bus.number(TIMER, COMPARE_HIGH_SLOT)) << 32)
 }
 
 /// A load or store as it is attempted where it is misaligned.

@@ -7,17 +7,6 @@ ghost use Rattle.gen_image.specs.Assembly.{csrrs, csrrsi, ecall, mret};
 
 use rv_decode::{Insn, encode};
 
-/// The addresses of the CSRs that the programs use.
-pub const MSTATUS: u16 = 0x300;
-
-pub const MIE: u16 = 0x304;
-
-pub const MTVEC: u16 = 0x305;
-
-pub const MEPC: u16 = 0x341;
-
-pub const MCAUSE: u16 = 0x342;
-
 /// A negative immediate.
 pub fn minus(number: u32) -> u32
     requires positive { 0 < number }

@@ -8,13 +8,13 @@ ghost use Rattle.gen_image.specs.Soak.{handler, opening, first_value, operation,
 ghost use Rattle.gen_image.specs.Soak.{soak_code, generator, program_at, soak_image, plain_ram};
 
 use crate::assembly::{
-    MCAUSE, MEPC, MIE, MSTATUS, MTVEC, addi, auipc, blt, csrrs, csrrsi, csrrw, ecall, jal, lui, lw,
-    minus, mret, sw,
+    addi, auipc, blt, csrrs, csrrsi, csrrw, ecall, jal, lui, lw, minus, mret, sw,
 };
 use crate::blocks::{call, first_value, memory, operation, skip, turns};
 use crate::draws::draw;
 use elf_image::{Image, Segment, Segments};
 use fsim_base::{Bytes, NoMemory};
+use machine_csr::address::{MCAUSE, MEPC, MIE, MSTATUS, MTVEC};
 use rand_pcg::Lcg64Xsh32;
 use std::alloc::{AllocError, Global};
 

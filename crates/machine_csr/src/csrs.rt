@@ -3,12 +3,13 @@ use crate::address::{
     MEPC, MHARTID, MIE, MIMPID, MINSTRET, MINSTRETH, MIP, MISA, MSCRATCH, MSTATUS, MSTATUSH, MTVAL,
     MTVEC, MVENDORID, PMPADDR0, PMPCFG0, TIME, TIMEH,
 };
+use crate::flags::{MIE_BIT, MPIE_BIT, MPP, TIMER_BIT};
 use crate::form::{combine, does_read, does_write, is_allowed, operand};
 use fsim_base::wrap_add;
 use rv_decode::Insn;
 
 /// The cause number of the machine timer interrupt: the interrupt bit and code 7.
-const TIMER_INTERRUPT: u32 = 0x8000_0007;
+pub const TIMER_INTERRUPT: u32 = 0x8000_0007;
 
 /// The machine-mode registers that hold state, and the count of retired instructions.
 #[derive(Clone, Copy, Debug, PartialEq, Eq)]
@@ -106,10 +107,10 @@ impl Csrs {
         };
         match csr {
             MSTATUS => {
-                self.mie = value >> 3 & 1 == 1;
-                self.mpie = value >> 7 & 1 == 1;
+                self.mie = value >> MIE_BIT & 1 == 1;
+                self.mpie = value >> MPIE_BIT & 1 == 1;
             }
-            MIE => self.mtie = value >> 7 & 1 == 1,
+            MIE => self.mtie = value >> TIMER_BIT & 1 == 1,
             MTVEC => self.mtvec = value & !2,
             MSCRATCH => self.mscratch = value,
             MEPC => self.mepc = value & !3,
@@ -165,14 +166,16 @@ impl Csrs {
         ensures value { result ≡ option_map (λ r. shown r.shows self.now time cmp) (row_at csr) }
     {
         match csr {
-            MSTATUS => Some(0x1800 | u32::from(self.mpie) << 7 | u32::from(self.mie) << 3),
-            MIE => Some(u32::from(self.mtie) << 7),
+            MSTATUS => Some(
+                MPP | u32::from(self.mpie) << MPIE_BIT | u32::from(self.mie) << MIE_BIT,
+            ),
+            MIE => Some(u32::from(self.mtie) << TIMER_BIT),
             MTVEC => Some(self.mtvec),
             MSCRATCH => Some(self.mscratch),
             MEPC => Some(self.mepc),
             MCAUSE => Some(self.mcause),
             MTVAL => Some(self.mtval),
-            MIP => Some(u32::from(time >= cmp) << 7),
+            MIP => Some(u32::from(time >= cmp) << TIMER_BIT),
             MCYCLE | CYCLE | TIME => Some((time & 0xffff_ffff) as u32),
             MCYCLEH | CYCLEH | TIMEH => Some((time >> 32) as u32),
             MINSTRET | INSTRET => Some((self.retired & 0xffff_ffff) as u32),

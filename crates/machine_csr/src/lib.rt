@@ -4,9 +4,10 @@
 
 pub mod address;
 mod csrs;
+pub mod flags;
 mod form;
 
-pub use csrs::{CsrWrite, Csrs};
+pub use csrs::{CsrWrite, Csrs, TIMER_INTERRUPT};
 pub use form::reads_time;
 
 #[cfg(test)]

@@ -1,12 +1,13 @@
 ghost use Rattle.std.specs.Prelude.{◌≡◌, ◌+◌, ◌≤◌, ◌<◌, length, codes, ◌++◌};
 ghost use Rattle.mono_model.specs.Report.{line, count_line, misses_line, status_text};
 ghost use Rattle.mono_model.specs.Report.{register_text, register_line};
-ghost use Rattle.machine_csr.specs.Csr.{mstatus_of};
+ghost use Rattle.machine_csr.specs.Csr.{mstatus_of, mie_of};
 ghost use Rattle.report_text.specs.Lines.{output_line, pc_line, interrupt_csrs_line};
 ghost use Rattle.report_text.specs.Lines.{trap_csrs_line};
 
 use crate::line::Line;
 use machine_csr::Csrs;
+use machine_csr::flags::{MIE_BIT, MPIE_BIT, MPP, TIMER_BIT};
 use mono_model::{End, Final};
 
 /// Appends how a run ended.
@@ -124,7 +125,7 @@ pub fn interrupt_csrs_line(csrs: &Csrs) -> Line
     line.bytes(b"mstatus=");
     line.hex(8, mstatus(csrs));
     line.bytes(b" mie=");
-    line.hex(8, if csrs.mtie { 0x80 } else { 0 });
+    line.hex(8, mie(csrs));
     line.bytes(b" mtvec=");
     line.hex(8, u64::from(csrs.mtvec));
     line.bytes(b" mscratch=");
@@ -154,7 +155,14 @@ pub fn trap_csrs_line(csrs: &Csrs, cmp: u64) -> Line
 fn mstatus(csrs: &Csrs) -> u64
     ensures value { result ≡ mstatus_of csrs.now }
 {
-    let enabled_before = if csrs.mpie { 0x80 } else { 0 };
-    let enabled = if csrs.mie { 8 } else { 0 };
-    0x1800 + enabled_before + enabled
+    let enabled_before = u64::from(csrs.mpie) << MPIE_BIT;
+    let enabled = u64::from(csrs.mie) << MIE_BIT;
+    u64::from(MPP) + enabled_before + enabled
+}
+
+/// The register mie: the timer interrupt's bit alone.
+fn mie(csrs: &Csrs) -> u64
+    ensures value { result ≡ mie_of csrs.now }
+{
+    u64::from(csrs.mtie) << TIMER_BIT
 }
