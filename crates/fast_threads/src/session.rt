@@ -63,16 +63,7 @@ impl<D: Device, K: Named> Session<D, K> {
         ensures reported { result ≡ final self.now.setup self.now.setup.cycles }
     {
         let arch = self.func.arch();
-        // No proof is generated of a literal that reads a field which is an array.
-        let regs = arch.regs;
-        Final {
-            end: self.time.end(),
-            stats: self.time.stats(),
-            pc: arch.pc,
-            regs,
-            csrs: arch.csrs,
-            cmp: arch.cmp,
-        }
+        arch.reported(self.time.end(), self.time.stats())
     }
 
     /// The output of the run.

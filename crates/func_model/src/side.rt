@@ -11,7 +11,7 @@ use crate::walk::Walk;
 use device_bus::Device;
 use fsim_base::{NoMemory, Width};
 use machine_csr::Csrs;
-use mono_model::{Final, Setup};
+use mono_model::{End, Final, Setup, Stats};
 use rollback_cmds::Order;
 use std::alloc::Global;
 use std::marker::Model;
@@ -28,6 +28,24 @@ pub struct Arch {
     pub csrs: Csrs,
     /// mtimecmp, in cycles.
     pub cmp: u64,
+}
+
+impl Arch {
+    ghost use Rattle.func_model.specs.Side.{reported_of};
+
+    /// What is reported of a run with these registers, this end and these counts.
+    pub fn reported(&self, end: End, stats: Stats) -> Final
+        ensures reported { result ≡ reported_of end stats self.now }
+    {
+        Final {
+            end,
+            stats,
+            pc: self.pc,
+            regs: self.regs,
+            csrs: self.csrs,
+            cmp: self.cmp,
+        }
+    }
 }
 
 /// The registers of what a side holds.

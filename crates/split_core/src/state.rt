@@ -254,16 +254,7 @@ impl<D: Device, T: Timing> SplitState<D, T> {
         self.func.obey(Order::Stop { n: number });
         self.is_reported = true;
         let arch = self.func.arch();
-        // No proof is generated of a literal that reads a field which is an array.
-        let regs = arch.regs;
-        Final {
-            end: self.time.end(),
-            stats: self.time.stats(),
-            pc: arch.pc,
-            regs,
-            csrs: arch.csrs,
-            cmp: arch.cmp,
-        }
+        arch.reported(self.time.end(), self.time.stats())
     }
 }
 

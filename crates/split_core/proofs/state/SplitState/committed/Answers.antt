@@ -1,6 +1,6 @@
 use Rattle.std.proofs.Common.{rules, ◌≡◌, length, ap, sym, ◌∙◌}
-use Rattle.mono_model.specs.declared.final_state.Final.{Final}
 use Rattle.func_model.specs.declared.side.Arch.{Arch}
+use Rattle.func_model.specs.Side.{reported_of}
 use Rattle.side_laws.specs.Along.{MayObey}
 use Rattle.split_core.proofs.Reporting.{can_stop, holds_committed, reports}
 use Rattle.rollback_cmds.specs.declared.order.Order.TheVariants.{Stop}
@@ -24,7 +24,8 @@ obey-requires g c =
 pub returns-clause-reported : goal.returns-clause-reported
 returns-clause-reported g c = λ s x sound reached h at.
     let whole : length c.arch-arch.result.regs ≡ 32 = search rules in
-    ap (λ (a : Arch). let it : Final = record { end = c.end.result; stats = c.stats.result; pc = a.pc; regs = a.regs; csrs = a.csrs; cmp = a.cmp } in it) c.arch-arch.ensures.arch
+    c.reported.ensures.reported
+    ∙ ap (λ (a : Arch). reported_of c.end.result c.stats.result a) c.arch-arch.ensures.arch
     ∙ reports g.T.Timing.timed g.met.T.Timing.laws s x c.obey.new.self c.end.result c.stats.result sound reached at
     (holds_committed g.T.Timing.timed g.met.T.Timing.laws s x c.args.self.now c.obey.new.self c.committed-number.result sound reached h at c.committed-number.ensures.number c.obey.ensures.stands c.obey.ensures.moved)
     (ap (λ (a : Arch). length a.regs) (sym c.arch-arch.ensures.arch) ∙ whole)
