@@ -116,8 +116,8 @@ impl<D: Device, K: Named> FuncWorker<D, K> {
         true
     }
 
-    /// What is done in a turn in which no entry may be made. An order that is foreseen is waited for
-    /// as long as the timing side has entries left, since it may come behind the last of them.
+    /// What is done in a turn in which no entry may be made. An order that is foreseen is waited
+    /// for as long as the timing side has entries left, since it may come behind the last of them.
     fn hold_back(&mut self)
         ensures same { self.new ≡ self.old }
     {
@@ -169,7 +169,8 @@ impl<D: Device, K: Named> Worker for FuncWorker<D, K> {
     }
 
     /// A turn: the next order is obeyed, or else the next entry made and handed over. Where there
-    /// is none, those that were handed over go into the ring. Says whether there was anything to do.
+    /// is none, those that were handed over go into the ring. Says whether there was anything to
+    /// do.
     fn turn(&mut self) -> bool {
         if self.obey() {
             return true;

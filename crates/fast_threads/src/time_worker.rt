@@ -1,5 +1,4 @@
 ghost use Rattle.std.specs.Prelude.{◌≡◌, true, Some, None, IfOk};
-ghost use Rattle.time_model.specs.Turns.{order_told};
 
 use crate::worker::Worker;
 use fsim_base::NoMemory;
@@ -104,34 +103,29 @@ impl<K: Named> TimeWorker<K> {
         };
         if entry.number == self.side.next_number() {
             let turn = self.side.feed(&entry);
-            self.hand = order_of(turn);
+            self.hand = turn.order();
         }
         true
     }
 
     /// Makes steps of the side up to the next order or want, at most as many as one call makes,
-    /// where no order is in hand.
-    fn step(&mut self)
+    /// where no order is in hand. Says whether there was anything to do: not so where the run is
+    /// over and its last orders found no room.
+    fn step(&mut self) -> bool
         requires none { self.old.hand ≡ None }
         ensures setup { self.new.setup ≡ self.old.setup }
     {
         match self.side.run() {
             Turn::Ordered(order) => self.hand = Some(order),
-            Turn::Halted => self.is_halted = self.end.flush(),
+            Turn::Halted => {
+                self.is_halted = self.end.flush();
+                return self.is_halted;
+            }
             Turn::Moved => {}
             Turn::Want => {}
             Turn::CycleEnd => {}
         }
-    }
-}
-
-/// The order that steps of the side told, if they told one.
-fn order_of(turn: Turn) -> Option<Order>
-    ensures told { result ≡ order_told turn }
-{
-    match turn {
-        Turn::Ordered(order) => Some(order),
-        Turn::Moved | Turn::Want | Turn::CycleEnd | Turn::Halted => None,
+        true
     }
 }
 
@@ -155,7 +149,6 @@ impl<K: Named> Worker for TimeWorker<K> {
         if self.side.wants() {
             return self.take();
         }
-        self.step();
-        true
+        self.step()
     }
 }

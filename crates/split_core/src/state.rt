@@ -1,5 +1,4 @@
 ghost use Rattle.std.specs.Prelude.{◌≡◌, ℕ, true, false, map, IfOk};
-ghost use Rattle.time_model.specs.Turns.{order_told};
 
 use crate::event::Event;
 use crate::timing::Timing;
@@ -10,7 +9,6 @@ use func_model::FuncSide;
 use mono_model::{Final, Setup};
 use rollback_cmds::{ORDER_ROOM, Order};
 use std::alloc::Global;
-use time_model::Turn;
 use trace_entry::Entry;
 
 /// Both sides, and what is under way between them.
@@ -118,7 +116,7 @@ impl<D: Device, T: Timing> SplitState<D, T> {
         ensures stepped { LeadsOn T.timed (λ s. event_on s (T.timed.run s) tick) self.old self.new }
     {
         if self.hand.is_none() {
-            self.hand = order_told(self.time.step());
+            self.hand = self.time.step().order();
         }
     }
 
@@ -255,15 +253,5 @@ impl<D: Device, T: Timing> SplitState<D, T> {
         self.is_reported = true;
         let arch = self.func.arch();
         arch.reported(self.time.end(), self.time.stats())
-    }
-}
-
-/// The order that a turn tells, if it tells one.
-fn order_told(turn: Turn) -> Option<Order>
-    ensures told { result ≡ order_told turn }
-{
-    match turn {
-        Turn::Ordered(order) => Some(order),
-        Turn::Moved | Turn::Want | Turn::CycleEnd | Turn::Halted => None,
     }
 }

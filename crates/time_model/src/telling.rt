@@ -30,8 +30,8 @@ impl Telling {
         }
     }
 
-    /// Tells the first of a turn's orders, and owes the second, if there is one. Entries made before
-    /// an order that opens an epoch are of no use behind it, so the held one is dropped.
+    /// Tells the first of a turn's orders, and owes the second, if there is one. Entries made
+    /// before an order that opens an epoch are of no use behind it, so the held one is dropped.
     pub fn tell(&mut self, orders: Orders) -> Option<Order>
         requires none { self.old.owed ≡ None }
         ensures told { result ≡ orders.first }

@@ -1,3 +1,6 @@
+ghost use Rattle.std.specs.Prelude.{◌≡◌};
+ghost use Rattle.time_model.specs.Turns.{order_told};
+
 use rollback_cmds::Order;
 
 /// What a step did.
@@ -13,4 +16,17 @@ pub enum Turn {
     CycleEnd,
     /// Nothing, since the run is over and its last order told.
     Halted,
+}
+
+impl Turn {
+    /// The order that it tells, if it tells one.
+    #[inline(always)]
+    pub fn order(self) -> Option<Order>
+        ensures told { result ≡ order_told self }
+    {
+        match self {
+            Turn::Ordered(order) => Some(order),
+            Turn::Moved | Turn::Want | Turn::CycleEnd | Turn::Halted => None,
+        }
+    }
 }

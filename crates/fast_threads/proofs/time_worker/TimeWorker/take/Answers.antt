@@ -22,10 +22,10 @@ invariant_of-self-then-entry-next_number g c =
     (if_some _ _ (IsNamed old.end.setup) c.in-Some.is c.next.ensures.named)
     (ap (λ (w : TimeWork). wants_in w.side) c.self.view_is ∙ c.requires.wants)
     (c.if-entry-next_number.true ∙ c.next_number.ensures.number old.end.setup c.self.invariant.steps c.self.invariant.stands) in
-    time_fed old.end c.next.new.self old.side c.feed-turn.new.self c.in-Some.entry old.hand c.order_of-self-inside.result old.is_halted c.feed-turn.result
+    time_fed old.end c.next.new.self old.side c.feed-turn.new.self c.in-Some.entry old.hand c.order-self-inside.result old.is_halted c.feed-turn.result
     (ap (λ (w : TimeWork). w.hand) c.self.view_is ∙ c.requires.none) c.self.invariant
     (if_some _ _ (λ e. c.next.new.self ≡ time_taken old.end e) c.in-Some.is c.next.ensures.taken)
-    needs c.feed-turn.ensures.fed c.order_of-self-inside.ensures.told
+    needs c.feed-turn.ensures.fed c.order-self-inside.ensures.told
 
 pub invariant_of-self-else-entry-next_number : goal.invariant_of-self-else-entry-next_number
 invariant_of-self-else-entry-next_number g c =
