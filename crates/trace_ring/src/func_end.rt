@@ -69,8 +69,8 @@ impl<K: Named> FuncEnd<K> {
     }
 
     /// Whether the timing thread has taken all entries out of the ring, as far as is seen now,
-    /// which no clause says. Both threads pay for the look: it takes a line of memory from the other
-    /// one.
+    /// which no clause says. Both threads pay for the look: it takes a line of memory from the
+    /// other one.
     pub fn is_drained(&mut self) -> bool
         ensures same { self.new ≡ self.old }
     {

@@ -40,8 +40,8 @@ impl Journal {
     ghost use Rattle.std.specs.List.{prefix_len};
     ghost use Rattle.undo_journal.specs.Journal.{IsRising, newest, from_number};
 
-    /// An empty journal with room for `capacity` steps. All its memory is taken here. More than 2^30
-    /// steps are refused as if there were no memory for them.
+    /// An empty journal with room for `capacity` steps. All its memory is taken here. More than
+    /// 2^30 steps are refused as if there were no memory for them.
     pub fn with_room(alloc: Global, capacity: u32) -> Result<Journal, NoMemory>
         ensures opening { IfOk result (λ j. j ≡ record { room = capacity; steps = [] }) }
     {
