@@ -6,6 +6,7 @@ use Rattle.std.specs.Option.{option_to_list}
 use Rattle.std.specs.Char.{is_digit}
 use Rattle.std.specs.Str.Parse.{digits_value}
 use Rattle.bstr.specs.Text.{lines_of, without_terminator}
+use Rattle.mono_model.specs.Setup.{cycle_limit}
 use Rattle.back_debug.specs.declared.script.Command.{Command}
 use Rattle.back_debug.specs.declared.script.Command.TheVariants.{Step, Back, To, Show}
 
@@ -14,9 +15,9 @@ abbrev pub value_in : ℕ → List ℕ → Option ℕ
 value_in radix word =
     if list_all (λ byte. is_digit byte radix) word then Some (digits_value radix word) else None
 
--- from 1 to 2^40
+-- from 1 to the most cycles that a run may have
 abbrev pub in_range : ℕ → Option ℕ
-in_range steps = if nat_le 1 steps && nat_le steps 1099511627776 then Some steps else None
+in_range steps = if nat_le 1 steps && nat_le steps cycle_limit then Some steps else None
 
 -- how many steps: one to twenty decimal digits
 abbrev pub steps_from : Option ℕ → Option ℕ

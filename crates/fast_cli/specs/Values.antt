@@ -53,11 +53,15 @@ name_or_none (Some text) = option_map (λ name. Some name) (name_in text)
 unfoldable pub input_at : Values → Option (Option Text)
 input_at values = name_or_none (first_at (codes "input") values)
 
+-- the options of a line that gives none
+unfoldable pub default_options : Options
+default_options = record { ring = 64; cycles = 10000000; output = 16777216; input = None }
+
 -- the options with their ranges and defaults; one that the command doesn't know has its default
 unfoldable pub options_at : Values → Option Options
 options_at values = do
-  ring ← number_at (codes "ring") 1 65536 64 values
-  cycles ← number_at (codes "cycles") 1 1099511627776 10000000 values
-  output ← number_at (codes "output") 0 16777216 16777216 values
+  ring ← number_at (codes "ring") 1 65536 default_options.ring values
+  cycles ← number_at (codes "cycles") 1 1099511627776 default_options.cycles values
+  output ← number_at (codes "output") 0 16777216 default_options.output values
   input ← input_at values
   Some (record { ring = ring; cycles = cycles; output = output; input = input })

@@ -16,3 +16,4 @@ mod values;
 pub use line::{Line, Options, UsageFault};
 pub use read::read_words;
 pub use texts::Texts;
+pub use values::default_options;

@@ -5,9 +5,10 @@ ghost use Rattle.fast_cli.specs.Command.{values_of};
 ghost use Rattle.fast_cli.specs.Given.{options_in};
 ghost use Rattle.fast_cli.specs.Number.{is_between};
 ghost use Rattle.fast_cli.specs.Ranges.{HasRanges, IsFrom};
-ghost use Rattle.fast_cli.specs.Values.{first_at, given_number_at, input_at, is_name, name_at};
-ghost use Rattle.fast_cli.specs.Values.{name_in, names_at, number_at, options_at};
+ghost use Rattle.fast_cli.specs.Values.{default_options, first_at, given_number_at, input_at};
+ghost use Rattle.fast_cli.specs.Values.{is_name, name_at, name_in, names_at, number_at, options_at};
 
+use crate::line::Options;
 use crate::number::number_in;
 use clap::ArgMatches;
 
@@ -124,15 +125,30 @@ pub(crate) struct GivenOptions<'a> {
     pub input: Option<&'a str>,
 }
 
+/// The options of a line that gives none.
+#[tactic(auto, unfolding(crate::specs::Values::default_options))]
+pub fn default_options() -> Options
+    ensures options { result ≡ default_options }
+    ensures ranges { HasRanges result }
+{
+    Options {
+        ring: 64,
+        cycles: 10_000_000,
+        output: 16_777_216,
+        input: None,
+    }
+}
+
 /// The options, each with its default where the words leave it out.
 #[tactic(auto, unfolding(crate::specs::Values::options_at))]
 pub(crate) fn options_at<'a>(matches: &ArgMatches<'a>) -> Option<GivenOptions<'a>>
     ensures options { option_map options_in result ≡ options_at (values_of matches.now) }
     ensures ranges { IfSome result (λ given. HasRanges (options_in given)) }
 {
-    let ring = number_at(matches, "ring", 1, 65_536, 64)?;
-    let cycles = number_at(matches, "cycles", 1, 1_099_511_627_776, 10_000_000)?;
-    let output = number_at(matches, "output", 0, 16_777_216, 16_777_216)?;
+    let defaults = default_options();
+    let ring = number_at(matches, "ring", 1, 65_536, u64::from(defaults.ring))?;
+    let cycles = number_at(matches, "cycles", 1, 1_099_511_627_776, defaults.cycles)?;
+    let output = number_at(matches, "output", 0, 16_777_216, u64::from(defaults.output))?;
     let input = input_at(matches)?;
     Some(GivenOptions {
         ring: ring as u32,

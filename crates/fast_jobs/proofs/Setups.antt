@@ -6,14 +6,14 @@ use Rattle.elf_image.specs.declared.image.Image.{Image}
 use Rattle.elf_image.specs.Sound.{IsSound, is_sound}
 use Rattle.mono_model.proofs.Sound.{is_setup-from}
 use Rattle.mono_model.specs.Ranges.{is_between, is_ram}
-use Rattle.mono_model.specs.Setup.{is_setup, is_version, are_core, are_units, is_predictor, are_caches, are_params, ram_range}
+use Rattle.mono_model.specs.Setup.{is_setup, is_version, are_core, are_units, is_predictor, are_caches, are_params, ram_range, cycle_limit, input_limit, output_limit, ring_limit}
 use Rattle.mono_model.specs.declared.setup.Setup.{Setup}
 use Rattle.fast_cli.specs.declared.line.Options.{Options}
 use Rattle.fast_cli.specs.Ranges.{HasRanges}
 use Rattle.inorder_model.specs.Standing.{IsInorder}
 use Rattle.fast_jobs.specs.Job.{inorder_params, inorder_setup, setup_for}
 
-pub is_setup-setup_for : (params : Params) (options : Options) (image : Image) (input : List ℕ) → are_params params ≡ true → IsSound image (ram_range params) → HasRanges options → length input ≤ 16777216 → is_setup (setup_for params options image input) ≡ true
+pub is_setup-setup_for : (params : Params) (options : Options) (image : Image) (input : List ℕ) → are_params params ≡ true → IsSound image (ram_range params) → HasRanges options → length input ≤ input_limit → is_setup (setup_for params options image input) ≡ true
 is_setup-setup_for params options image input in_range sound ranges short =
     is_setup-from (setup_for params options image input) sound in_range short ranges.cycles ranges.output ranges.ring
 
@@ -50,11 +50,11 @@ IsInorder-inorder_setup s sound =
     let image : Bool = is_sound s.image (ram_range s.params) in
     let params : Bool = are_params s.params in
     let next : Bool = are_params (inorder_params s.params) in
-    let input : Bool = nat_le (length s.input) 16777216 in
-    let cycles : Bool = is_between 1 1099511627776 s.cycles in
-    let output : Bool = nat_le s.output 16777216 in
+    let input : Bool = nat_le (length s.input) input_limit in
+    let cycles : Bool = is_between 1 cycle_limit s.cycles in
+    let output : Bool = nat_le s.output output_limit in
     record {
-      sound = first_other (image && params && input && cycles && output) (image && next && input && cycles && output) (is_between 1 65536 s.ring)
+      sound = first_other (image && params && input && cycles && output) (image && next && input && cycles && output) (is_between 1 ring_limit s.ring)
           (first_other (image && params && input && cycles) (image && next && input && cycles) output
           (first_other (image && params && input) (image && next && input) cycles
           (first_other (image && params) (image && next) input (second_other image params next (params-inorder s.params))))) sound;

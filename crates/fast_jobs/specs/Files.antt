@@ -1,5 +1,6 @@
 -- The files that a line names, and how long each may be.
 use Rattle.std.specs.Prelude.{ℕ, List, [], ◌∷◌, ◌++◌, map, Option, Some, None}
+use Rattle.mono_model.specs.Setup.{input_limit}
 use Rattle.report_text.specs.declared.status.Role.{Role}
 use Rattle.report_text.specs.declared.status.Role.TheVariants as role
 use Rattle.fast_cli.specs.declared.line.Line.{Line}
@@ -39,5 +40,5 @@ abbrev pub limit_of : Role → ℕ
 limit_of role.Image = 67108864
 limit_of role.Machine = 65536
 limit_of role.Plan = 1048576
-limit_of role.Input = 16777216
+limit_of role.Input = input_limit
 limit_of role.Script = 65536

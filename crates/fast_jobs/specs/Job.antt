@@ -1,9 +1,9 @@
 -- What a line and the bytes of its files ask for: a job, or the first refusal.
 use Rattle.std.specs.Prelude.{◌≡◌, ◌≤◌, ℕ, true, false, Bool, List, [], length}
-use Rattle.std.specs.Prelude.{Result, Ok, ◌==◌, None}
+use Rattle.std.specs.Prelude.{Result, Ok, ◌==◌}
 use Rattle.mono_model.specs.declared.params.Params.{Params}
 use Rattle.mono_model.specs.declared.setup.Setup.{Setup}
-use Rattle.mono_model.specs.Setup.{is_setup, ram_range}
+use Rattle.mono_model.specs.Setup.{input_limit, is_setup, ram_range}
 use Rattle.mono_model.specs.Plain.{plain_params}
 use Rattle.machine_file.specs.File.{params_of}
 use Rattle.report_text.specs.declared.status.Status.{Status}
@@ -11,6 +11,7 @@ use Rattle.fast_cli.specs.declared.line.Line.{Line}
 use Rattle.fast_cli.specs.declared.line.Line.TheVariants as line
 use Rattle.fast_cli.specs.declared.line.Options.{Options}
 use Rattle.fast_cli.specs.Ranges.{HasRanges}
+use Rattle.fast_cli.specs.Values.{default_options}
 use Rattle.gen_image.specs.Soak.{soak_image}
 use Rattle.gen_image.specs.Machine.{soak_machine}
 use Rattle.inorder_model.specs.Standing.{IsInorder}
@@ -72,10 +73,6 @@ back_job history options contents = do
   commands ← script_in (bytes_at contents 1)
   Ok (Back (setup_for plain_params options image (bytes_at contents 2)) history commands)
 
--- a line that has no options
-unfoldable pub default_options : Options
-default_options = record { ring = 64; cycles = 10000000; output = 16777216; input = None }
-
 -- the soak program of a seed, with 16,384 blocks, on its machine
 unfoldable pub soak_setup : ℕ → Setup
 soak_setup seed =
@@ -115,7 +112,7 @@ is_still (line.Sweep image machines options) = false
 -- its input
 pub record CanSweep (files : SweepFiles) : Type 0 where
   pub limits : HasRanges files.limits
-  pub input : length files.input ≤ 16777216
+  pub input : length files.input ≤ input_limit
 
 -- the run can be begun: its setup is sound
 abbrev pub CanStart : SingleJob → Type 0

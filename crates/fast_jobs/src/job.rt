@@ -1,11 +1,11 @@
 ghost use Rattle.std.specs.Prelude.{◌≡◌, ◌≤◌, true, length, Ok, IfOk};
-ghost use Rattle.mono_model.specs.Setup.{is_setup};
+ghost use Rattle.mono_model.specs.Setup.{input_limit, is_setup};
 ghost use Rattle.fast_cli.specs.Ranges.{HasRanges, IsInRange};
 ghost use Rattle.fast_jobs.specs.Files.{files_of};
 ghost use Rattle.fast_jobs.specs.Gives.{Gives};
 ghost use Rattle.fast_jobs.specs.declared.job.SingleJob.{SingleJob as AnyRun};
 ghost use Rattle.inorder_model.specs.Standing.{IsInorder};
-ghost use Rattle.fast_jobs.specs.Job.{back_job, bytes_at, default_options, func_job, inorder_job};
+ghost use Rattle.fast_jobs.specs.Job.{back_job, bytes_at, func_job, inorder_job};
 ghost use Rattle.fast_jobs.specs.Job.{inorder_setup, job_of, planned_run, run_job, sched_job};
 ghost use Rattle.fast_jobs.specs.Job.{CanBegin, CanStart, sets_for, soak_setup};
 ghost use Rattle.fast_jobs.specs.Reading.{AreWithin};
@@ -18,7 +18,7 @@ use crate::setup::setup_for;
 use crate::sweep_files::{SweepFiles, sweep_files};
 use crate::timed_image::timed_image;
 use back_debug::Script;
-use fast_cli::{Line, Options};
+use fast_cli::{Line, Options, default_options};
 use fsim_base::Bytes;
 use gen_image::{soak_image, soak_params};
 use mono_model::{Params, Setup};
@@ -82,7 +82,7 @@ pub fn job_of(alloc: Global, line: &Line, sets: usize, contents: Vec<Bytes>) -> 
 #[tactic(auto, unfolding(crate::specs::Job::func_job))]
 fn func_job(alloc: Global, options: &Options, contents: Vec<Bytes>) -> Result<SingleJob, Refusal>
     requires ranges { HasRanges options.now }
-    requires input { length (bytes_at contents.items 1) ≤ 16777216 }
+    requires input { length (bytes_at contents.items 1) ≤ input_limit }
     ensures job { Gives (func_job options.now contents.items) result }
     ensures can { IfOk result (λ job. CanStart job) }
 {
@@ -96,7 +96,7 @@ fn func_job(alloc: Global, options: &Options, contents: Vec<Bytes>) -> Result<Si
 #[tactic(auto, unfolding(crate::specs::Job::run_job))]
 fn run_job(alloc: Global, options: &Options, contents: Vec<Bytes>) -> Result<SingleJob, Refusal>
     requires ranges { HasRanges options.now }
-    requires input { length (bytes_at contents.items 2) ≤ 16777216 }
+    requires input { length (bytes_at contents.items 2) ≤ input_limit }
     ensures job { Gives (run_job options.now contents.items) result }
     ensures can { IfOk result (λ job. CanStart job) }
 {
@@ -121,7 +121,7 @@ fn planned_run(
     contents: Vec<Bytes>,
 ) -> Result<PlannedRun, Refusal>
     requires ranges { HasRanges options.now }
-    requires input { length (bytes_at contents.items 3) ≤ 16777216 }
+    requires input { length (bytes_at contents.items 3) ≤ input_limit }
     ensures planned { Gives (planned_run options.now contents.items) result }
     ensures sound { IfOk result (λ planned. is_setup planned.setup ≡ true) }
 {
@@ -137,7 +137,7 @@ fn planned_run(
 #[tactic(auto, unfolding(crate::specs::Job::sched_job))]
 fn sched_job(alloc: Global, options: &Options, contents: Vec<Bytes>) -> Result<SingleJob, Refusal>
     requires ranges { HasRanges options.now }
-    requires input { length (bytes_at contents.items 3) ≤ 16777216 }
+    requires input { length (bytes_at contents.items 3) ≤ input_limit }
     ensures job { Gives (sched_job options.now contents.items) result }
     ensures can { IfOk result (λ job. CanStart job) }
 {
@@ -149,7 +149,7 @@ fn sched_job(alloc: Global, options: &Options, contents: Vec<Bytes>) -> Result<S
 #[tactic(auto, unfolding(crate::specs::Job::inorder_job))]
 fn inorder_job(alloc: Global, options: &Options, contents: Vec<Bytes>) -> Result<SingleJob, Refusal>
     requires ranges { HasRanges options.now }
-    requires input { length (bytes_at contents.items 3) ≤ 16777216 }
+    requires input { length (bytes_at contents.items 3) ≤ input_limit }
     ensures job { Gives (inorder_job options.now contents.items) result }
     ensures can { IfOk result (λ job. CanStart job) }
 {
@@ -178,7 +178,7 @@ fn back_job(
     contents: Vec<Bytes>,
 ) -> Result<SingleJob, Refusal>
     requires ranges { HasRanges options.now }
-    requires input { length (bytes_at contents.items 2) ≤ 16777216 }
+    requires input { length (bytes_at contents.items 2) ≤ input_limit }
     ensures job { Gives (back_job history options.now contents.items) result }
     ensures can { IfOk result (λ job. CanStart job) }
 {
@@ -202,20 +202,6 @@ fn soak_job(alloc: Global, seed: u64) -> Result<SingleJob, Refusal>
     let image = soak_image(alloc, seed, SOAK_BLOCKS)?;
     let input = Bytes::new(Vec::new(alloc));
     Ok(SingleJob::Run(setup_for(soak_params(), &default_options(), image, input)))
-}
-
-/// The options of a line that has none.
-#[tactic(auto, unfolding(crate::specs::Job::default_options))]
-fn default_options() -> Options
-    ensures options { result ≡ default_options }
-    ensures ranges { HasRanges result }
-{
-    Options {
-        ring: 64,
-        cycles: 10_000_000,
-        output: 16_777_216,
-        input: None,
-    }
 }
 
 /// The bytes of the file at a place; none where there is no such file.

@@ -5,6 +5,7 @@ ghost use Rattle.fast_jobs.specs.Reading.{IsRead, StopsAt, status_of_load};
 
 use crate::files::NamedFile;
 use crate::refusal::Refusal;
+use device_bus::INPUT_LIMIT;
 use fsim_ports::{Files, LoadFault, load_file};
 use report_text::{Role, Status};
 use std::alloc::Global;
@@ -17,7 +18,7 @@ fn limit_of(role: Role) -> u64
         Role::Image => 67_108_864,
         Role::Machine => 65_536,
         Role::Plan => 1_048_576,
-        Role::Input => 16_777_216,
+        Role::Input => INPUT_LIMIT as u64,
         Role::Script => 65_536,
     }
 }

@@ -1,6 +1,6 @@
 ghost use Rattle.std.specs.Prelude.{◌≡◌, ◌≤◌, true, length};
 ghost use Rattle.elf_image.specs.Sound.{IsSound};
-ghost use Rattle.mono_model.specs.Setup.{is_setup, are_params, ram_range};
+ghost use Rattle.mono_model.specs.Setup.{input_limit, is_setup, are_params, ram_range};
 ghost use Rattle.fast_cli.specs.Ranges.{HasRanges};
 ghost use Rattle.fast_jobs.specs.Job.{setup_for};
 
@@ -14,7 +14,7 @@ pub fn setup_for(params: Params, options: &Options, image: Image, input: Bytes) 
     requires in_range { are_params params ≡ true }
     requires sound { IsSound image (ram_range params) }
     requires ranges { HasRanges options.now }
-    requires input { length input ≤ 16777216 }
+    requires input { length input ≤ input_limit }
     ensures setup { result ≡ setup_for params options.now image input }
     ensures sound { is_setup result ≡ true }
 {
