@@ -2,6 +2,7 @@ ghost use Rattle.std.specs.Prelude.{◌≡◌, ◌++◌, ◌∷◌, [], map, IfO
 ghost use Rattle.report_text.specs.declared.status.Role.TheVariants as role;
 ghost use Rattle.fast_jobs.specs.Files.{file, files_of, input_of};
 
+use crate::grow;
 use fast_cli::{Line, Options};
 use fsim_base::{NoMemory, Text};
 use report_text::Role;
@@ -109,14 +110,18 @@ fn files_of_sweep(
 fn push(alloc: Global, role: Role, name: &Text, files: &mut Vec<NamedFile>) -> Result<(), NoMemory>
     ensures pushed { OnOk result (files.new.items ≡ files.old.items ++ file role name.now ∷ []) }
 {
-    let Ok(name) = String::from_str(alloc, name.as_str()) else {
-        return Err(NoMemory);
-    };
-    let name = Text::new(name);
-    if files.push(NamedFile { role, name }).is_err() {
-        return Err(NoMemory);
+    let name = copy_of(alloc, name)?;
+    grow::push(files, NamedFile { role, name })
+}
+
+/// The same text once more.
+pub fn copy_of(alloc: Global, text: &Text) -> Result<Text, NoMemory>
+    ensures same { IfOk result (λ copy. copy ≡ text.now) }
+{
+    match String::from_str(alloc, text.as_str()) {
+        Ok(copy) => Ok(Text::new(copy)),
+        Err(_) => Err(NoMemory),
     }
-    Ok(())
 }
 
 /// Adds the machine files of a sweep.

@@ -1,11 +1,13 @@
 //! What a sweep has read.
 ghost use Rattle.std.specs.Prelude.{◌≡◌, ◌+◌, ◌≤◌, drop, length, IfOk, OnOk};
 ghost use Rattle.std.specs.Vec.Iter.{into_iter_items};
+ghost use Rattle.mono_model.specs.Setup.{input_limit};
 ghost use Rattle.fast_cli.specs.Ranges.{HasRanges};
 ghost use Rattle.fast_jobs.specs.Gives.{Gives};
 ghost use Rattle.fast_jobs.specs.Job.{CanSweep, bytes_at};
 ghost use Rattle.fast_jobs.specs.SweepFiles.{limits_of, named_machines, swept};
 
+use crate::files::copy_of;
 use crate::grow::push;
 use crate::refusal::Refusal;
 use fast_cli::{Options, Texts};
@@ -67,7 +69,7 @@ pub fn sweep_files(
     contents: Vec<Bytes>,
 ) -> Result<SweepFiles, Refusal>
     requires ranges { HasRanges options.now }
-    requires input { length (bytes_at contents.items (length names.now + 1)) ≤ 16777216 }
+    requires input { length (bytes_at contents.items (length names.now + 1)) ≤ input_limit }
     ensures files { Gives (swept names.now options.now sets contents.items) result }
     ensures sound { IfOk result (λ files. CanSweep files) }
     ensures room { IfOk result (λ files. length files.machines ≤ sets) }
@@ -108,16 +110,6 @@ fn named_machines(
         push(&mut list, machine)?;
     }
     Ok(list)
-}
-
-/// The same text once more.
-fn copy_of(alloc: Global, text: &Text) -> Result<Text, NoMemory>
-    ensures same { IfOk result (λ copy. copy ≡ text.now) }
-{
-    match String::from_str(alloc, text.as_str()) {
-        Ok(copy) => Ok(Text::new(copy)),
-        Err(_) => Err(NoMemory),
-    }
 }
 
 /// Takes the bytes of the next file; none where there is no such file.

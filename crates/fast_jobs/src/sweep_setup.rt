@@ -13,7 +13,6 @@ use crate::sweep_files::SweepFiles;
 use crate::timed_image::timed_image;
 use fsim_base::{Bytes, NoMemory};
 use mono_model::Setup;
-use report_text::Status;
 use std::alloc::Global;
 
 /// The setup of the run on a machine.
@@ -25,9 +24,7 @@ pub fn setup_of(alloc: Global, files: &SweepFiles, machine: &[u8]) -> Result<Set
     ensures line { IfErr result (λ status. status ≢ Memory → is_sweep_refusal status ≡ true) }
 {
     let loaded = timed_image(alloc, machine, files.image.as_slice())?;
-    let Ok(input) = copy_of(alloc, &files.input) else {
-        return Err(Refusal::new(Status::Memory));
-    };
+    let input = copy_of(alloc, &files.input)?;
     Ok(setup_for(loaded.params, &files.limits, loaded.image, input))
 }
 
