@@ -7,6 +7,7 @@ pub mod Finishing
 pub mod Fetching
 pub mod Walks
 pub mod Issuing
+pub mod Turning
 pub mod Idling
 pub mod Opcodes
 pub mod Retiring
