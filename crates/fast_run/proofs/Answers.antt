@@ -17,6 +17,12 @@ unfolding IsAnswer
 answer-closed line sets files sink status answer same cause written =
     subst (λ (given : Status). IsAnswer (Some line) sets files sink given) (sym same) (inl (record { cause = cause; written = written }))
 
+-- the same, where the code counted the sets
+pub answer-refused : (line : Line) (counted sets : ℕ) (files : Reading) (sink : Writing) (status answer : Status) → counted ≡ sets → answer ≡ status → Closes line counted files status →
+    WroteTo sink (fault_text status) → IsAnswer (Some line) sets files sink answer
+answer-refused line counted sets files sink status answer count same cause written =
+    subst (λ (n : ℕ). IsAnswer (Some line) n files sink answer) count (answer-closed line counted files sink status answer same cause written)
+
 -- there is one, and this is the answer to it
 pub answer-ran : (line : Line) (sets : ℕ) (files : Reading) (sink : Writing) (job : Job) (status : Status) → Asks line sets files (Ok job) → Ends job sink status →
     IsAnswer (Some line) sets files sink status

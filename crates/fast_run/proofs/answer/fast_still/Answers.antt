@@ -3,7 +3,7 @@ use Rattle.fast_jobs.specs.declared.job.Job.{Job}
 use Rattle.fast_jobs.specs.Ending.{Ends}
 use Rattle.fast_run.specs.Answer.{IsAnswer}
 use Rattle.fast_jobs.specs.Call.{reading_of, writing_of}
-use Rattle.fast_run.proofs.Answers.{answer-closed, answer-ran}
+use Rattle.fast_run.proofs.Answers.{answer-ran, answer-refused}
 use Rattle.fast_run.proofs.Settling.{answer-complete, answer-settled}
 use Rattle.fast_jobs.proofs.Jobs.{still-single}
 use Rattle.fast_run.proofs.answer.fast_still.Goals as goal
@@ -30,12 +30,8 @@ returns-in-Ok-Single-clause-complete g c =
 
 pub returns-in-Err-clause-answer : goal.returns-in-Err-clause-answer
 returns-in-Err-clause-answer g c =
-    let line = c.args.line.now in
-    let reading = reading_of g.F.Files.told g.F.Files.faults c.args.files.now c.open.new.files in
-    let writing = writing_of g.K.Sink.written g.K.Sink.faults c.args.sink.now c.tell.new.sink in
-    let sets : c.len.result / 3 ≡ vec_len c.args.devices / 3 = ap (λ (n : ℕ). n / 3) c.len.ensures in
-    subst (λ (n : ℕ). IsAnswer (Some line) n reading writing c.tell.result) sets
-    (answer-closed line (c.len.result / 3) reading writing c.in-Err.refusal c.tell.result c.tell.ensures.same c.in-Err.ensures.closes c.tell.ensures.line)
+    answer-refused c.args.line.now (c.len.result / 3) (vec_len c.args.devices / 3) (reading_of g.F.Files.told g.F.Files.faults c.args.files.now c.open.new.files)
+    (writing_of g.K.Sink.written g.K.Sink.faults c.args.sink.now c.tell.new.sink) c.in-Err.refusal c.tell.result (ap (λ (n : ℕ). n / 3) c.len.ensures) c.tell.ensures.same c.in-Err.ensures.closes c.tell.ensures.line
 
 pub returns-in-Err-clause-settled : goal.returns-in-Err-clause-settled
 returns-in-Err-clause-settled g c =
