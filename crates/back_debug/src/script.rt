@@ -4,6 +4,7 @@ ghost use Rattle.back_debug.specs.Script.{IsAdded, address_in, command_in, comma
 ghost use Rattle.back_debug.specs.Script.{first_bad_line, is_bad, steps_in, value_in, worded};
 
 use bstr::ByteSlice;
+use mono_model::CYCLE_LIMIT;
 use std::alloc::{AllocFailed, Global};
 use std::marker::Model;
 
@@ -126,10 +127,7 @@ fn worded(letter: u8, word: &[u8]) -> Option<Command>
     }
 }
 
-/// The most steps that a command may ask for, 2^40: no run makes more.
-const MOST_STEPS: u64 = 1_099_511_627_776;
-
-/// How many steps a word asks for, in one to twenty decimal digits.
+/// How many steps a word asks for, in one to twenty decimal digits: at most as many as a run makes.
 fn steps_in(word: &[u8]) -> Option<u64>
     ensures steps { result ≡ steps_in word.now }
 {
@@ -137,7 +135,7 @@ fn steps_in(word: &[u8]) -> Option<u64>
         return None;
     }
     match value_in(10, word) {
-        Some(steps) if 1 <= steps && steps <= u128::from(MOST_STEPS) => Some(steps as u64),
+        Some(steps) if 1 <= steps && steps <= u128::from(CYCLE_LIMIT) => Some(steps as u64),
         _ => None,
     }
 }
