@@ -233,6 +233,20 @@ impl InFlight {
         self.stations.first(sought, from)
     }
 
+    /// Whether the instruction at a place is sought.
+    #[inline(always)]
+    pub fn is_sought(&self, sought: Sought, place: u32) -> bool
+        ensures sought { result ≡ is_sought_at sought self.now.slots place }
+    {
+        if place <= 192 {
+            return self.stations.among(sought, place as u8).has_first();
+        }
+        match self.first(sought, place) {
+            Some(first) => first == place,
+            None => false,
+        }
+    }
+
     /// Those of the first 64 places at which an instruction is sought.
     #[inline(always)]
     pub fn snapshot(&self, sought: Sought) -> PlaceSet

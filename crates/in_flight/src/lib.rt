@@ -10,4 +10,4 @@ mod reading;
 mod registers;
 
 pub use flight::InFlight;
-pub use reservation_stations::Sought;
+pub use reservation_stations::{PlaceSet, Sought};

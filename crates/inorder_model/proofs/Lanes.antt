@@ -1,11 +1,12 @@
 -- The phases of the pipeline, from what its parts make.
-use Rattle.std.proofs.Common.{◌≡◌, ℕ, ◌+◌, Bool, true, false, if◌then◌else◌, Option, Some, None, List, [], ◌∷◌, length, refl, ap, sym, ◌∙◌, arith}
-use Rattle.std.specs.Prelude.{slice_get, slice_set}
+use Rattle.std.proofs.Common.{◌≡◌, ℕ, ◌+◌, Bool, true, false, if◌then◌else◌, Option, Some, None, List, [], ◌∷◌, length, refl, ap, sym, ◌∙◌, subst, arith}
+use Rattle.std.specs.Prelude.{slice_get, slice_set, nat_le}
 use Rattle.cache_timing.specs.Caches.{CachesState}
 use Rattle.rollback_cmds.specs.declared.order.Order.TheVariants.{Time}
 use Rattle.reorder_buffer.specs.declared.slot.Slot.{Slot}
 use Rattle.mono_model.specs.declared.setup.Setup.{Setup}
 use Rattle.timing_side.specs.Timing.{Timing, Phase, quiet, ordering}
+use Rattle.timing_side.specs.Commit.{commits, committed_phase}
 use Rattle.timing_side.specs.Issue.{replayed}
 use Rattle.timing_core.specs.declared.state.TimingCore.{TimingCore}
 use Rattle.timing_core.specs.CoreStandsFor.{CoreStandsFor}
@@ -13,6 +14,7 @@ use Rattle.timing_core.specs.Small.{IsSmall}
 use Rattle.timing_core.proofs.Walks.{same_slot}
 use Rattle.in_flight.specs.Flight.{older_at}
 use Rattle.lane_model.specs.Lane.{memory_behind}
+use Rattle.lane_model.specs.Memory.{went_on}
 use Rattle.lane_side.specs.Timing.{LaneTiming, Executing, in_execute, has_write, flushing, keeping}
 use Rattle.lane_side.specs.Phases.{write_width, with_caches, moved, may_move, moving_by, timing_lane_execute}
 use Rattle.lane_side.specs.Issue.{wants_time, may_issue, begun, issue_of, issue_from, issued, issue_phase}
@@ -22,12 +24,16 @@ use Rattle.inorder_model.specs.Stages.{executing_in}
 use Rattle.inorder_model.specs.LaneStandsFor.{LaneStandsFor}
 use Rattle.inorder_model.proofs.Deciding.{issue_youngest, issue_none}
 
-abbrev pub lane_of : TimingCore → Option ℕ → LaneCore
-lane_of core memory = record { core = core; memory = memory }
+pub flushed : (s : Setup) (p : Phase) (memory : Option ℕ) (core : TimingCore) (now : LaneCore) → CoreStandsFor s p.timing core → now.core ≡ core →
+    now.memory ≡ memory_behind core.flight.slots memory → LaneStandsFor s (flushing p memory).lane now
+flushed s p memory core now stands same is = record {
+  core = subst (λ (c : TimingCore). CoreStandsFor s p.timing c) (sym same) stands;
+  memory = is ∙ ap (λ (slots : List Slot). memory_behind slots memory) stands.slots;
+}
 
-pub flushed : (s : Setup) (p : Phase) (memory : Option ℕ) (core : TimingCore) (now : Option ℕ) → CoreStandsFor s p.timing core → now ≡ memory_behind core.flight.slots memory →
-    LaneStandsFor s (flushing p memory).lane (lane_of core now)
-flushed s p memory core now stands is = record { core = stands; memory = is ∙ ap (λ (slots : List Slot). memory_behind slots memory) stands.slots }
+-- Memory where it has a slot
+pub went_by : (cycle : ℕ) (memory : Option ℕ) (e : ℕ) (b : Bool) → memory ≡ Some e → nat_le e cycle ≡ b → went_on cycle memory ≡ (if b then None else Some e)
+went_by cycle memory e b is over = ap (went_on cycle) is ∙ ap (λ (b : Bool). if b then None else Some e) over
 
 -- caches change no number and no slot
 pub cached_small : (caches : CachesState) (t : Timing) → IsSmall t → IsSmall (with_caches caches t)
@@ -111,3 +117,8 @@ one_leaves l is = ap one_if is
 
 pub none_leaves : (l : LaneTiming) → false ≡ has_write l → 0 ≡ write_width l
 none_leaves l is = ap one_if is
+
+-- nothing leaves where none may
+pub none_written : (s : Setup) (t : Timing) → ((committed_phase (commits s 0 0 t)).timing ≡ t) × ((committed_phase (commits s 0 0 t)).orders ≡ [])
+unfolding commits
+none_written s t = (refl, refl)

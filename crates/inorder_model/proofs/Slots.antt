@@ -1,14 +1,14 @@
 -- What the slots in the stages come to: the one in Execute, how many are done, and whether Execute is empty.
 use Rattle.std.proofs.Common.{◌≡◌, ℕ, zero, suc, ◌+◌, ◌<◌, ◌≤◌, ◌&&◌, not, Bool, true, false, if◌then◌else◌, is_none, is_some, IfSome, IfNone, IsTrue, Option, Some, None, List, [], ◌∷◌, ◌++◌, length, take, drop, reverse, refl, ap, sym, ◌∙◌, arith}
-use Rattle.std.specs.Prelude.{slice_get}
+use Rattle.std.specs.Prelude.{slice_get, nat_lt}
+use Rattle.std.proofs.lemmas.Bool.{lt-ltb}
 use Rattle.std.proofs.Math.Bool.{and_comm}
 use Rattle.std.proofs.lemmas.List.{reverse-append}
 use Rattle.reorder_buffer.specs.declared.slot.Slot.{Slot}
 use Rattle.reorder_buffer.specs.declared.slot.SlotState.{SlotState}
 use Rattle.reorder_buffer.specs.declared.slot.SlotState.TheVariants.{Waiting, Until, Done}
 use Rattle.timing_side.specs.Slots.{is_waiting_state, is_done_state}
-use Rattle.timing_core.proofs.Issuing.{starts_there}
-use Rattle.in_flight.specs.Flight.{older_at, may_start_at, is_executing_state, executes_at}
+use Rattle.in_flight.specs.Flight.{older_at, is_executing_state, executes_at}
 use Rattle.lane_side.specs.Timing.{Executing, execute_by, in_execute, done_count}
 use Rattle.inorder_model.proofs.Bool.{and_true, and_assoc}
 use Rattle.inorder_model.proofs.Lists.{drop_there, ends_there}
@@ -21,6 +21,12 @@ done_next slots place slot b there is =
     ap done_count (drop_there slots place slot there)
     ∙ ap (λ (b : Bool). (if b then 1 else 0) + done_count (drop (suc place) slots)) is
     ∙ ap (λ (k : ℕ). (if b then 1 else 0) + done_count (drop k slots)) next
+
+-- one is done where the oldest is
+pub one_done : (slots : List Slot) (slot : Slot) → slice_get slots 0 ≡ Some slot → is_done_state slot.state ≡ true → true ≡ nat_lt 0 (done_count slots)
+one_done slots slot there is =
+    let one = done_next slots 0 slot true there is in
+    sym (lt-ltb 0 (done_count slots) (omega (arith, one)))
 
 -- the slot in Execute is the first that executes
 passed_over : (slot : Slot) (state : SlotState) (other : Option Executing) → is_executing_state state ≡ false → execute_by slot state other ≡ other
@@ -108,16 +114,6 @@ pub idle_is : (slots : List Slot) (r : Option ℕ) → IfSome r (λ place. IsTru
     is_none r ≡ is_idle slots
 idle_is slots None found none = sym (idle_none slots none)
 idle_is slots (Some place) found none = sym (busy_there slots place found)
-
--- whether the slot at the last place may start, by what is found from there on
-pub starts_is : (slots : List Slot) (place : ℕ) (r : Option ℕ) → length slots ≡ place + 1 →
-    IfSome r (λ k. place ≤ k) → IfSome r (λ k. IsTrue (may_start_at slots k)) → IfNone r ((k : ℕ) → place ≤ k → may_start_at slots k ≡ false) →
-    is_some r ≡ may_start_at slots place
-starts_is slots place None last behind found none = sym (none place (omega arith))
-starts_is slots place (Some k) last behind found none =
-    let within = (starts_there slots k found).1 in
-    let same : k ≡ place = omega (arith, within, last, behind) in
-    sym found ∙ ap (may_start_at slots) same
 
 pub none_by : {A : Type 0} (r : Option A) (b : Bool) → is_some r ≡ not b → b ≡ is_none r
 none_by None true is = refl

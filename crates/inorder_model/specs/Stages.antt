@@ -2,10 +2,15 @@
 use Rattle.std.specs.Prelude.{ℕ, ◌&&◌, Bool, false, Option, Some, None, List, [], ◌∷◌}
 use Rattle.reorder_buffer.specs.declared.slot.Slot.{Slot}
 use Rattle.mono_model.specs.Found.{destination_in}
+use Rattle.mono_model.specs.declared.setup.Setup.{Setup}
 use Rattle.timing_side.specs.Slots.{found_in}
+use Rattle.timing_side.specs.Timing.{Phase}
+use Rattle.timing_side.specs.Commit.{commits, committed_phase}
 use Rattle.in_flight.specs.Flight.{reads_from}
 use Rattle.lane_model.specs.Issue.{is_load_class}
 use Rattle.lane_side.specs.Timing as place
+use Rattle.lane_side.specs.Timing.{LaneTiming}
+use Rattle.lane_side.specs.Phases.{write_width}
 use Rattle.inorder_model.specs.declared.stages.Executing as code
 
 -- the slot in Execute
@@ -24,3 +29,7 @@ reads_load (youngest ∷ older) slot = is_load_class youngest.class && reads_fro
 abbrev pub waits_for_load : Option ℕ → List Slot → Slot → Bool
 waits_for_load None older slot = false
 waits_for_load (Some e) older slot = reads_load older slot
+
+-- Write, with Memory as it was
+abbrev pub write_phase : Setup → LaneTiming → Phase
+write_phase s l = committed_phase (commits s (write_width l) 0 l.timing)

@@ -1,6 +1,6 @@
 use crate::stages::{
     Executing, execute_latency, executing_place, in_execute, is_load, is_past_fetch,
-    memory_latency, more_are_done,
+    memory_latency, one_is_done, two_are_done,
 };
 use fsim_base::NoMemory;
 use in_flight::Sought;
@@ -36,19 +36,20 @@ impl LaneCore {
     ghost use Rattle.timing_core.specs.CoreStandsFor.{CoreStandsFor};
     ghost use Rattle.timing_core.specs.Small.{IsSmall};
     ghost use Rattle.timing_core.specs.Orders.{orders_in};
-    ghost use Rattle.in_flight.specs.Flight.{older_at, may_start_at};
+    ghost use Rattle.timing_core.specs.Finishing.{IsFirst};
+    ghost use Rattle.in_flight.specs.Flight.{older_at, may_start_at, executes_at};
+    ghost use Rattle.in_flight.specs.Snapshot.{IsSnapshot};
     ghost use Rattle.lane_model.specs.Lane.{memory_behind};
     ghost use Rattle.lane_model.specs.Memory.{went_on};
     ghost use Rattle.lane_side.specs.Timing.{LaneTiming, lane_timing_start, has_write};
     ghost use Rattle.lane_side.specs.Timing.{in_execute};
     ghost use Rattle.lane_side.specs.Phases.{timing_lane_interrupt, timing_lane_write};
-    ghost use Rattle.lane_side.specs.Phases.{write_width};
     ghost use Rattle.lane_side.specs.Phases.{timing_lane_memory, moved, may_move};
     ghost use Rattle.lane_side.specs.Phases.{timing_lane_execute};
     ghost use Rattle.lane_side.specs.Issue.{wants_time, may_issue, issued, issue_phase};
     ghost use Rattle.lane_side.specs.Issue.{timing_lane_issue, timing_lane_may_fetch};
     ghost use Rattle.lane_side.specs.Issue.{found_in_order};
-    ghost use Rattle.inorder_model.specs.Stages.{executing_as, waits_for_load};
+    ghost use Rattle.inorder_model.specs.Stages.{executing_as, waits_for_load, write_phase};
     ghost use Rattle.inorder_model.specs.LaneStandsFor.{LaneStandsFor};
 
     /// The pipeline before the first cycle of a run of this setup. All memory is taken here.
@@ -60,14 +61,15 @@ impl LaneCore {
         Ok(LaneCore { core, memory: None })
     }
 
-    /// Memory behind a phase that may flush all slots: it is empty where nothing is in flight.
-    fn memory_behind(&self) -> Option<u64>
-        ensures behind { result ≡ memory_behind self.now.core.flight.slots self.now.memory }
+    /// Behind a phase that may flush all slots, Memory is empty where nothing is in flight.
+    #[inline(always)]
+    fn clear_memory(&mut self)
+        ensures core { self.new.core ≡ self.old.core }
+        ensures behind { self.new.memory
+            ≡ memory_behind self.old.core.flight.slots self.old.memory }
     {
         if self.core.flight().len() == 0 {
-            None
-        } else {
-            self.memory
+            self.memory = None;
         }
     }
 
@@ -79,7 +81,7 @@ impl LaneCore {
             → IsSmall l.timing → orders_in result ≡ (timing_lane_interrupt l).orders }
     {
         let orders = self.core.interrupt();
-        self.memory = self.memory_behind();
+        self.clear_memory();
         orders
     }
 
@@ -91,26 +93,38 @@ impl LaneCore {
         ensures orders { (s : RunSetup) (l : LaneTiming) → LaneStandsFor s l self.old
             → IsSmall l.timing → orders_in result ≡ (timing_lane_write s l).orders }
     {
-        let most = self.write_width();
-        let orders = self.core.commit_at_most(most);
-        self.memory = self.memory_behind();
+        let orders = self.commit_written();
+        self.clear_memory();
         orders
     }
 
-    /// How many slots may leave: the one in Write, where there is one.
-    fn write_width(&self) -> u32
-        ensures width { (s : RunSetup) (l : LaneTiming) → LaneStandsFor s l self.now
-            → result ≡ write_width l }
+    /// The same, with Memory as it was.
+    #[inline(always)]
+    fn commit_written(&mut self) -> Orders
+        ensures kept { (s : RunSetup) (l : LaneTiming) → LaneStandsFor s l self.old
+            → IsSmall l.timing → CoreStandsFor s (write_phase s l).timing self.new.core }
+        ensures memory { self.new.memory ≡ self.old.memory }
+        ensures orders { (s : RunSetup) (l : LaneTiming) → LaneStandsFor s l self.old
+            → IsSmall l.timing → orders_in result ≡ (write_phase s l).orders }
     {
-        if self.has_write() { 1 } else { 0 }
+        if self.has_write() {
+            self.core.commit_one()
+        } else {
+            Orders::none()
+        }
     }
 
     /// Whether a slot is in Write.
+    #[inline(always)]
     fn has_write(&self) -> bool
         ensures write { (s : RunSetup) (l : LaneTiming) → LaneStandsFor s l self.now
             → result ≡ has_write l }
     {
-        more_are_done(self.core.flight(), u32::from(self.memory.is_some()))
+        if self.memory.is_none() {
+            one_is_done(self.core.flight())
+        } else {
+            two_are_done(self.core.flight())
+        }
     }
 
     /// The third phase: the slot in Memory goes on to Write once its access is over.
@@ -118,17 +132,10 @@ impl LaneCore {
         ensures kept { (s : RunSetup) (l : LaneTiming) → LaneStandsFor s l self.old
             → LaneStandsFor s (timing_lane_memory l) self.new }
     {
-        self.memory = self.went_on();
-    }
-
-    /// Memory behind this cycle's accesses.
-    fn went_on(&self) -> Option<u64>
-        ensures went { (s : RunSetup) (l : LaneTiming) → LaneStandsFor s l self.now
-            → result ≡ went_on l.timing.cycle l.memory }
-    {
-        match self.memory {
-            Some(end) if self.core.cycle() < end => Some(end),
-            _ => None,
+        if let Some(end) = self.memory {
+            if end <= self.core.cycle() {
+                self.memory = None;
+            }
         }
     }
 
@@ -161,6 +168,10 @@ impl LaneCore {
     /// The slot in Execute goes on to Memory.
     #[inline(always)]
     fn go_on(&mut self, leaving: &Executing) -> Orders
+        requires first { IsFirst self.old.core.flight.slots leaving.now.place leaving.now.slot
+            leaving.now.from }
+        requires all { IsSnapshot (executes_at self.old.core.flight.slots)
+            (leaving.now.place + 1) leaving.now.later }
         ensures kept { (s : RunSetup) (l : LaneTiming) → LaneStandsFor s l self.old
             → IsSmall l.timing
             → LaneStandsFor s (moved s (executing_as leaving.now) l).lane self.new }
@@ -176,7 +187,8 @@ impl LaneCore {
             .wrapping_add(u64::from(latency))
             .wrapping_add(u64::from(added));
         self.memory = Some(end);
-        self.core.complete_until(leaving.from)
+        self.core
+            .complete_first(leaving.place, &leaving.slot, leaving.later, leaving.from)
     }
 
     /// The fifth phase: the slot in Decode goes on to Execute. But where the oldest reads the time
@@ -189,7 +201,7 @@ impl LaneCore {
             → IsSmall l.timing → orders_in result ≡ (timing_lane_issue s l).orders }
     {
         let orders = self.replay_or_issue();
-        self.memory = self.memory_behind();
+        self.clear_memory();
         orders
     }
 
@@ -267,11 +279,10 @@ impl LaneCore {
         executing_place(self.core.flight()).is_none()
     }
 
-    /// Whether the sources of the youngest slot, at this place, have values, if it waits.
+    /// Whether the sources of the slot at a place have values, if it waits.
     #[inline(always)]
     fn has_operands(&self, place: u32, slot: &Slot) -> bool
         requires there { slice_get self.now.core.flight.slots place ≡ Some slot.now }
-        requires last { length self.now.core.flight.slots ≡ place + 1 }
         ensures operands { is_waiting_state slot.now.state ≡ true → result
             ≡ has_operands (found_in_order self.now.memory
             (older_at self.now.core.flight.slots place)) slot.now }
@@ -279,19 +290,12 @@ impl LaneCore {
         self.is_ready(place) && !self.waits_for_load(place, slot)
     }
 
-    /// Whether the youngest slot, at this place, waits and has its operands. In a run no other slot
-    /// waits, so it is the first that is found.
+    /// Whether the slot at a place waits and has its operands.
     #[inline(always)]
     fn is_ready(&self, place: u32) -> bool
-        requires last { length self.now.core.flight.slots ≡ place + 1 }
         ensures ready { result ≡ may_start_at self.now.core.flight.slots place }
     {
-        let flight = self.core.flight();
-        let mut ready = flight.snapshot(Sought::Ready);
-        match flight.next(Sought::Ready, &mut ready, 0) {
-            Some(first) => first == place || flight.first(Sought::Ready, place).is_some(),
-            None => false,
-        }
+        self.core.flight().is_sought(Sought::Ready, place)
     }
 
     /// Whether the slot at a place reads what a load in Memory, which has no value yet, writes.

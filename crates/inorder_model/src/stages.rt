@@ -1,7 +1,9 @@
 //! Which slots stand in a stage, and how long an instruction stays there.
-ghost use Rattle.std.specs.Prelude.{◌≡◌, ◌<◌, ℕ, false, nat_lt, IsTrue, IfSome, IfNone};
+ghost use Rattle.std.specs.Prelude.{◌≡◌, ◌<◌, ◌+◌, ℕ, false, nat_lt, IsTrue, IfSome, IfNone};
 ghost use Rattle.timing_side.specs.Slots.{is_done_state};
+ghost use Rattle.timing_core.specs.Finishing.{IsFirst};
 ghost use Rattle.in_flight.specs.Flight.{executes_at};
+ghost use Rattle.in_flight.specs.Snapshot.{IsSnapshot};
 ghost use Rattle.lane_model.specs.Execute.{memory_latency};
 ghost use Rattle.lane_model.specs.Issue.{is_load_class, execute_latency};
 ghost use Rattle.lane_side.specs.Timing.{done_count, in_execute};
@@ -9,7 +11,7 @@ ghost use Rattle.lane_side.specs.Issue.{is_past_fetch};
 ghost use Rattle.inorder_model.specs.Stages.{executing_in};
 
 use fsim_base::Class;
-use in_flight::{InFlight, Sought};
+use in_flight::{InFlight, PlaceSet, Sought};
 use mono_model::Params;
 use reorder_buffer::{Slot, SlotState};
 use timing_core::latency_of;
@@ -17,7 +19,11 @@ use timing_core::latency_of;
 /// The slot in Execute.
 #[derive(Clone, Copy, Debug)]
 pub(crate) struct Executing {
+    /// Its place among the slots in flight.
+    pub place: u32,
     pub slot: Slot,
+    /// Those behind it that execute too, of the first 64 places: none in a run.
+    pub later: PlaceSet,
     /// The cycle from which on it may go on to Memory.
     pub from: u64,
 }
@@ -27,13 +33,22 @@ pub(crate) struct Executing {
 #[inline(always)]
 pub(crate) fn in_execute(flight: &InFlight) -> Option<Executing>
     ensures executing { executing_in result ≡ in_execute flight.now.slots }
+    ensures first { IfSome result (λ x. IsFirst flight.now.slots x.place x.slot x.from) }
+    ensures all { IfSome result (λ x.
+        IsSnapshot (executes_at flight.now.slots) (x.place + 1) x.later) }
 {
-    let Some(place) = executing_place(flight) else {
+    let mut later = flight.snapshot(Sought::Executing);
+    let Some(place) = flight.next(Sought::Executing, &mut later, 0) else {
         return None;
     };
     let slot = flight.at(place);
     match slot.state {
-        SlotState::Until(from) => Some(Executing { slot, from }),
+        SlotState::Until(from) => Some(Executing {
+            place,
+            slot,
+            later,
+            from,
+        }),
         SlotState::Waiting | SlotState::Done => None,
     }
 }
@@ -50,9 +65,34 @@ pub(crate) fn executing_place(flight: &InFlight) -> Option<u32>
     flight.next(Sought::Executing, &mut executes, 0)
 }
 
-/// Whether more slots than so many are done: those in Memory and Write, which are the oldest.
+/// Whether a slot is done. In a run that is the oldest, which is looked at first.
 #[inline(always)]
-pub(crate) fn more_are_done(flight: &InFlight, than: u32) -> bool
+pub(crate) fn one_is_done(flight: &InFlight) -> bool
+    ensures one { result ≡ nat_lt 0 (done_count flight.now.slots) }
+{
+    match flight.oldest() {
+        Some(slot) if is_done(&slot) => true,
+        _ => more_are_done(flight, 0),
+    }
+}
+
+/// Whether two slots are done. In a run those are the oldest, which are looked at first.
+#[inline(always)]
+pub(crate) fn two_are_done(flight: &InFlight) -> bool
+    ensures two { result ≡ nat_lt 1 (done_count flight.now.slots) }
+{
+    if flight.len() < 2 {
+        return more_are_done(flight, 1);
+    }
+    match flight.oldest() {
+        Some(slot) if is_done(&slot) && is_done(&flight.at(1)) => true,
+        _ => more_are_done(flight, 1),
+    }
+}
+
+/// Whether more slots than so many are done, wherever they stand.
+#[inline(never)]
+fn more_are_done(flight: &InFlight, than: u32) -> bool
     ensures more { result ≡ nat_lt than (done_count flight.now.slots) }
 {
     let mut left = than;

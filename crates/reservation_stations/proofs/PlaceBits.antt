@@ -3,7 +3,7 @@ use Rattle.std.proofs.Common.{◌≡◌, ℕ, ◌+◌, ◌-◌, ◌*◌, ◌/◌
 use Rattle.std.specs.Prelude.{bit_and, nat_le}
 use Rattle.std.specs.Int.{bit_at, trailing_zeros}
 use Rattle.std.proofs.lemmas.Bool.{cases_eq, cases_lt, ne_eqb, le-leb, lt-leb, and_from, and_right}
-use Rattle.std.proofs.lemmas.Nat.Bits.{bit_at-trailing_zeros, bit_at_above}
+use Rattle.std.proofs.lemmas.Nat.Bits.{bit_at-trailing_zeros, bit_at_above, bit_at_lowest}
 use Rattle.reservation_stations.proofs.Bits.{is_one, bit_without_shifted}
 use Rattle.reservation_stations.proofs.Lowest.{lowest_is, none_behind}
 
@@ -19,6 +19,14 @@ absent from word place none = elim (cases_lt place from) [
   | inl before ↦ ap (λ b. b && is_one word (place - from)) (lt-leb from place before)
   | inr behind ↦ and_right (nat_le from place) (is_one word (place - from)) (ap (λ n. n == 1) (none behind))
 ]
+
+-- the place that bit 0 stands for
+pub lowest_there : (from word : ℕ) → (word % 2 == 1) ≡ is_there from word from
+lowest_there from word = sym (
+    ap (λ b. b && is_one word (from - from)) (le-leb from from (omega arith))
+    ∙ ap (is_one word) (let e : from - from ≡ 0 = omega arith in e)
+    ∙ ap (λ n. n == 1) (bit_at_lowest word)
+    )
 
 pub record IsFirst (from word at place : ℕ) : Type 0 where
   pub found : is_there from word place ≡ true

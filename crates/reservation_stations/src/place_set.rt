@@ -31,6 +31,14 @@ impl PlaceSet {
         Some(u32::from(self.from) + bit)
     }
 
+    /// Whether the first of the 64 places is in the set.
+    #[inline(always)]
+    pub fn has_first(&self) -> bool
+        ensures first { result ≡ has self.now self.now.from }
+    {
+        self.word % 2 == 1
+    }
+
     /// The first place of the set from one on, and None where there is none.
     pub fn first_from(&self, place: u32) -> Option<u32>
         ensures behind { IfSome result (λ found. place ≤ found) }

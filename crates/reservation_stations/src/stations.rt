@@ -269,6 +269,7 @@ impl Stations {
             → has result place ≡ is_sought_at sought self.now.stations place }
         ensures others { (place : ℕ) → IsTrue (has result place)
             → (from ≤ place) × (place < from + 64) }
+        ensures from { result.from ≡ from }
     {
         let turn = self.retired.wrapping_add(from);
         match sought {

@@ -1,21 +1,13 @@
 -- The phase of completion, slot by slot.
-use Rattle.std.proofs.Common.{◌≡◌, ℕ, zero, suc, ◌+◌, ◌-◌, ◌<◌, ◌≤◌, if◌then◌else◌, Bool, true, false, Some, None, List, [], ◌∷◌, length, take, drop, slice_get, slice_set, refl, ap, sym, ◌∙◌, inl, inr, arith}
+use Rattle.std.proofs.Common.{◌≡◌, ℕ, zero, suc, ◌+◌, ◌-◌, ◌<◌, ◌≤◌, if◌then◌else◌, Bool, true, false, Some, None, List, [], ◌∷◌, length, take, slice_get, slice_set, refl, ap, sym, ◌∙◌, inl, inr, arith, eq-eqb}
 use Rattle.std.proofs.lemmas.Option.{slice_get_cases}
 use Rattle.reorder_buffer.specs.declared.slot.Slot.{Slot}
 use Rattle.reorder_buffer.specs.declared.slot.SlotState.{SlotState}
 use Rattle.reorder_buffer.specs.declared.slot.SlotState.TheVariants.{Waiting, Until, Done}
 use Rattle.in_flight.specs.Flight.{is_executing_state, executes, executes_at}
-use Rattle.timing_side.specs.Complete.{Completed, is_finishing, is_mispredicted, finished, in_front, complete_next, completes}
+use Rattle.timing_side.specs.Complete.{is_finishing, is_mispredicted, finished, in_front, complete_next, completes}
 use Rattle.timing_side.proofs.Next.{completes-cons}
-
--- with some slots in front
-abbrev pub in_fronts : List Slot → Completed → Completed
-in_fronts [] c = c
-in_fronts (slot ∷ rest) c = in_front slot (in_fronts rest c)
-
--- the phase as far as it has come: the slots in front of a place are as they stay
-abbrev pub completed_from : ℕ → ℕ → List Slot → Completed
-completed_from cycle place slots = in_fronts (take place slots) (completes cycle (drop place slots))
+use Rattle.timing_core.specs.Finishing.{completed_from}
 
 -- a slot whose latency isn't over stays as it is
 pub passes : (cycle place : ℕ) (slots : List Slot) (slot : Slot) → slice_get slots place ≡ Some slot → is_finishing cycle slot.state ≡ false →
@@ -74,6 +66,18 @@ executes_there slots place there = elim (slice_get_cases slots place).1 [
   | inl found ↦ found.1
   | inr over ↦ let none = ap executes over.1 in let e : executes_at slots place ≡ false = none in cc
 ]
+
+pub first_there : (slots : List Slot) (place : ℕ) (slot : Slot) → slice_get slots place ≡ Some slot → place < length slots
+first_there [] place slot there = absurd (cc)
+first_there (x ∷ rest) zero slot there = omega arith
+first_there (x ∷ rest) (suc place) slot there = omega (arith, first_there rest place slot there)
+
+-- one that executes until a cycle is done in that
+due_at : (cycle : ℕ) (state : SlotState) → state ≡ Until cycle → is_finishing cycle state ≡ true
+due_at cycle state is = ap (is_finishing cycle) is ∙ eq-eqb cycle cycle refl
+
+pub due_there : (cycle : ℕ) (slot : Slot) → slot.state ≡ Until cycle → is_finishing cycle slot.state ≡ true
+due_there cycle slot is = due_at cycle slot.state is
 
 -- one whose latency is over is done
 pub finishes : (cycle place : ℕ) (slots : List Slot) (slot : Slot) → slice_get slots place ≡ Some slot → is_finishing cycle slot.state ≡ true → is_mispredicted slot ≡ false →

@@ -3,6 +3,7 @@ pub mod Orders
 pub mod Counts
 pub mod CoreStandsFor
 pub mod Leaving
+pub mod Finishing
 pub mod Retiring
 pub mod Units
 pub mod Idle

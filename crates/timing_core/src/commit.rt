@@ -170,6 +170,42 @@ impl TimingCore {
         )
     }
 
+    /// The oldest slot, once done, leaves, and no other. No loop is made for it.
+    #[inline(always)]
+    pub fn commit_one(&mut self) -> Orders
+        ensures kept { (s : Setup) (t : Timing) → CoreStandsFor s t self.old → IsSmall t
+            → CoreStandsFor s (committed_phase (commits s 1 0 t)).timing self.new }
+        ensures orders { (s : Setup) (t : Timing) → CoreStandsFor s t self.old → IsSmall t
+            → orders_in result ≡ (committed_phase (commits s 1 0 t)).orders }
+    {
+        let committed = self.leave_once();
+        let to_commit = self.to_commit;
+        Orders::in_turn(
+            commit_order(committed.left, to_commit),
+            ending_order(committed.ending, to_commit),
+        )
+    }
+
+    /// The oldest slot leaves, and no other.
+    #[inline(always)]
+    fn leave_once(&mut self) -> Committed
+        ensures kept { (s : Setup) (t : Timing) → CoreStandsFor s t self.old → IsSmall t
+            → CoreStandsFor s (commits s 1 0 t).timing self.new }
+        ensures left { (s : Setup) (t : Timing) → CoreStandsFor s t self.old → IsSmall t
+            → result.left ≡ (commits s 1 0 t).left }
+        ensures ending { (s : Setup) (t : Timing) → CoreStandsFor s t self.old → IsSmall t
+            → ending_in result.ending ≡ (commits s 1 0 t).ending }
+    {
+        let leaving = self.leave();
+        match ended_by(leaving, 0) {
+            Some(committed) => committed,
+            None => Committed {
+                left: 1,
+                ending: Ending::Plain,
+            },
+        }
+    }
+
     /// The oldest slots leave, at most so many.
     #[inline(always)]
     fn leave_in_order(&mut self, most: u32) -> Committed

@@ -1,9 +1,12 @@
-ghost use Rattle.std.specs.Prelude.{◌≡◌, ◌≤◌, length, take, None, Some, IfSome, IfNone};
+ghost use Rattle.std.specs.Prelude.{◌≡◌, ◌≤◌, ◌+◌, length, IfSome};
+ghost use Rattle.in_flight.specs.Flight.{executes_at};
+ghost use Rattle.in_flight.specs.Snapshot.{IsSnapshot};
 ghost use Rattle.timing_side.specs.Complete.{is_finishing, is_mispredicted, completes};
+ghost use Rattle.timing_core.specs.Finishing.{completed_from, completed_in, IsFirst};
 
 use crate::orders::Orders;
 use crate::state::TimingCore;
-use in_flight::{InFlight, Sought};
+use in_flight::{InFlight, PlaceSet, Sought};
 use reorder_buffer::{Slot, SlotState};
 use rollback_cmds::Order;
 
@@ -39,17 +42,30 @@ fn is_mispredicted(slot: &Slot) -> bool
 fn finish_due(flight: &mut InFlight, cycle: u64) -> Option<Redirect>
     ensures room { flight.new.capacity ≡ flight.old.capacity }
     ensures count { length flight.new.slots ≡ length flight.old.slots }
-    ensures all { IfNone result (completes cycle flight.old.slots ≡ record
-        { slots = flight.new.slots; redirect = None }) }
     ensures within { IfSome result (λ r. r.kept ≤ length flight.new.slots) }
-    ensures first { IfSome result (λ r. completes cycle flight.old.slots ≡ record
-        { slots = take r.kept flight.new.slots; redirect = Some r.addr }) }
+    ensures all { completes cycle flight.old.slots ≡ completed_in result flight.new.slots }
 {
     if flight.len() == 0 {
         return None;
     }
-    let mut executes = flight.snapshot(Sought::Executing);
-    let mut from = 0;
+    prove!(flight.len() <= 256);
+    let executes = flight.snapshot(Sought::Executing);
+    finish_from(flight, executes, 0, cycle)
+}
+
+/// The same of the slots from a place on, of which the set has those that execute.
+#[inline(always)]
+fn finish_from(flight: &mut InFlight, set: PlaceSet, start: u32, cycle: u64) -> Option<Redirect>
+    requires few { length flight.old.slots ≤ 256 }
+    requires all { IsSnapshot (executes_at flight.old.slots) start set }
+    ensures room { flight.new.capacity ≡ flight.old.capacity }
+    ensures count { length flight.new.slots ≡ length flight.old.slots }
+    ensures within { IfSome result (λ r. r.kept ≤ length flight.new.slots) }
+    ensures all { completed_from cycle start flight.old.slots
+        ≡ completed_in result flight.new.slots }
+{
+    let mut executes = set;
+    let mut from = start;
     while let Some(place) = flight.next(Sought::Executing, &mut executes, from) {
         let slot = flight.at(place);
         if is_finishing(slot.state, cycle) {
@@ -66,6 +82,36 @@ fn finish_due(flight: &mut InFlight, cycle: u64) -> Option<Redirect>
         from = place + 1;
     }
     None
+}
+
+/// The same of all slots, where the first that executes is known and is due. It isn't looked for
+/// anew, nor are those in front of it.
+#[inline(always)]
+fn finish_first(
+    flight: &mut InFlight,
+    place: u32,
+    slot: &Slot,
+    later: PlaceSet,
+    cycle: u64,
+) -> Option<Redirect>
+    requires few { length flight.old.slots ≤ 256 }
+    requires first { IsFirst flight.old.slots place slot.now cycle }
+    requires all { IsSnapshot (executes_at flight.old.slots) (place + 1) later }
+    ensures room { flight.new.capacity ≡ flight.old.capacity }
+    ensures count { length flight.new.slots ≡ length flight.old.slots }
+    ensures within { IfSome result (λ r. r.kept ≤ length flight.new.slots) }
+    ensures all { completes cycle flight.old.slots ≡ completed_in result flight.new.slots }
+{
+    let kept = place + 1;
+    if is_mispredicted(slot) {
+        flight.finish(place);
+        return Some(Redirect {
+            kept,
+            addr: slot.next,
+        });
+    }
+    flight.finish(place);
+    finish_from(flight, later, kept, cycle)
 }
 
 impl TimingCore {
@@ -97,7 +143,43 @@ impl TimingCore {
         ensures orders { (s : Setup) (t : Timing) → CoreStandsFor s t self.old → IsSmall t
             → orders_in result ≡ (completed_phase (completes until t.slots) t).orders }
     {
-        let Some(redirect) = finish_due(&mut self.flight, until) else {
+        let redirect = finish_due(&mut self.flight, until);
+        self.redirect(redirect)
+    }
+
+    /// The same, where the first slot that executes is known, with those behind it that do, and
+    /// executes until this cycle.
+    #[inline(always)]
+    pub fn complete_first(&mut self, place: u32, slot: &Slot, later: PlaceSet, until: u64) -> Orders
+        requires first { IsFirst self.old.flight.slots place slot.now until }
+        requires all { IsSnapshot (executes_at self.old.flight.slots) (place + 1) later }
+        ensures kept { (s : Setup) (t : Timing) → CoreStandsFor s t self.old → IsSmall t
+            → CoreStandsFor s (completed_phase (completes until t.slots) t).timing self.new }
+        ensures orders { (s : Setup) (t : Timing) → CoreStandsFor s t self.old → IsSmall t
+            → orders_in result ≡ (completed_phase (completes until t.slots) t).orders }
+    {
+        prove!(self.flight.len() <= 256);
+        let redirect = finish_first(&mut self.flight, place, slot, later, until);
+        self.redirect(redirect)
+    }
+
+    /// Fetch goes on elsewhere behind slots that are done, where one of them was mispredicted: all
+    /// younger ones are flushed.
+    #[inline(always)]
+    fn redirect(&mut self, to: Option<Redirect>) -> Orders
+        requires within { IfSome to (λ r. r.kept ≤ length self.old.flight.slots) }
+        ensures kept { (s : Setup) (t : Timing) → IsSmall t
+            → CoreStandsFor s (record t { slots = self.old.flight.slots }) self.old
+            → length self.old.flight.slots ≡ length t.slots
+            → CoreStandsFor s
+            (completed_phase (completed_in to self.old.flight.slots) t).timing self.new }
+        ensures orders { (s : Setup) (t : Timing) → IsSmall t
+            → CoreStandsFor s (record t { slots = self.old.flight.slots }) self.old
+            → length self.old.flight.slots ≡ length t.slots
+            → orders_in result
+            ≡ (completed_phase (completed_in to self.old.flight.slots) t).orders }
+    {
+        let Some(redirect) = to else {
             return Orders::none();
         };
         self.flush(redirect.kept);

@@ -20,7 +20,7 @@ returns-clause-kept c = λ s l h small.
     let ends = end_cycle _ _ c.cycle.result t.cycle c.from.result c.from-2.result refl refl
     (c.cycle.ensures.cycle s cold kept) small.cycle (omega arith) (omega arith) in
     record {
-      core = c.complete_until.ensures.kept s cold kept (cached_small d.state t small);
+      core = c.complete_first.ensures.kept s cold kept (cached_small d.state t small);
       memory = ap Some (ends ∙ ap (λ (n : ℕ). t.cycle + n + c.from-2.result) latency ∙ ap (λ (n : ℕ). t.cycle + memory_latency s.params slot.class + n) added);
     }
 
@@ -28,4 +28,4 @@ pub returns-clause-orders : goal.returns-clause-orders
 returns-clause-orders c = λ s l h small.
     let slot = c.args.leaving.now.slot in
     let d = cached s slot.cause slot.access l.timing.caches in
-    c.complete_until.ensures.orders s (with_caches d.state l.timing) (c.access-added.ensures.kept s l.timing h.core) (cached_small d.state l.timing small)
+    c.complete_first.ensures.orders s (with_caches d.state l.timing) (c.access-added.ensures.kept s l.timing h.core) (cached_small d.state l.timing small)

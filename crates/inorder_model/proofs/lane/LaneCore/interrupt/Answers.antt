@@ -9,8 +9,9 @@ pub returns-clause-kept : goal.returns-clause-kept
 unfolding timing_lane_interrupt
 returns-clause-kept c = λ s l h small.
     let core = c.interrupt-orders.new.self in
-    flushed s (timing_interrupt l.timing) l.memory core c.memory_behind-self.result (c.interrupt-orders.ensures.kept s l.timing h.core small)
-    (c.memory_behind-self.ensures.behind ∙ ap (λ (m : Option ℕ). memory_behind core.flight.slots m) h.memory)
+    flushed s (timing_interrupt l.timing) l.memory core c.clear_memory.new.self (c.interrupt-orders.ensures.kept s l.timing h.core small)
+    c.clear_memory.ensures.core
+    (c.clear_memory.ensures.behind ∙ ap (λ (m : Option ℕ). memory_behind core.flight.slots m) h.memory)
 
 pub returns-clause-orders : goal.returns-clause-orders
 unfolding timing_lane_interrupt

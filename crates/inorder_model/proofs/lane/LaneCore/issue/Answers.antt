@@ -8,8 +8,9 @@ pub returns-clause-kept : goal.returns-clause-kept
 unfolding timing_lane_issue
 returns-clause-kept c = λ s l h small.
     let core = c.replay_or_issue-orders.new.self.core in
-    flushed s (issue_phase s l) l.memory core c.memory_behind-self.result (c.replay_or_issue-orders.ensures.kept s l h small)
-    (c.memory_behind-self.ensures.behind ∙ ap (λ (m : Option ℕ). memory_behind core.flight.slots m) (c.replay_or_issue-orders.ensures.memory ∙ h.memory))
+    flushed s (issue_phase s l) l.memory core c.clear_memory.new.self (c.replay_or_issue-orders.ensures.kept s l h small)
+    c.clear_memory.ensures.core
+    (c.clear_memory.ensures.behind ∙ ap (λ (m : Option ℕ). memory_behind core.flight.slots m) (c.replay_or_issue-orders.ensures.memory ∙ h.memory))
 
 pub returns-clause-orders : goal.returns-clause-orders
 unfolding timing_lane_issue
