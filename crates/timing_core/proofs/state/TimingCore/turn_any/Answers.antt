@@ -24,13 +24,14 @@ returns-clause-kept c =
     begin_kept core c.args.place c.args.busy c.args.used found c.requires.there c.begin.new.self until c.begin.ensures.begun
     (sym c.may_begin.ensures.begins ∙ c.if-not-may_begin.false) c.load_cycles-added.new.caches
     (λ s t k small.
-        let latency : c.from-latency.result ≡ latency_of s.params found.class =
-        c.from-latency.ensures ∙ c.latency_of.ensures.latency ∙ ap (λ (p : Params). latency_of p found.class) k.params in
-        let added : c.from.result ≡ (cached s found.cause found.access t.caches).cycles = c.from.ensures ∙ c.load_cycles-added.ensures.cycles s t.caches k.caches in
-        let ends : until ≡ t.cycle + c.from-latency.result + c.from.result =
-        end_cycle until _ core.cycle t.cycle c.from-latency.result c.from.result refl refl k.cycle small (omega arith) (omega arith) in
-        (ends ∙ ap (λ (n : ℕ). t.cycle + n + c.from.result) latency ∙ ap (λ (n : ℕ). t.cycle + latency_of s.params found.class + n) added,
-        c.load_cycles-added.ensures.state s t.caches k.caches))
+    let latency : c.from-latency.result ≡ latency_of s.params found.class =
+    c.from-latency.ensures ∙ c.latency_of.ensures.latency ∙ ap (λ (p : Params). latency_of p found.class) k.params in
+    let added : c.from.result ≡ (cached s found.cause found.access t.caches).cycles = c.from.ensures ∙ c.load_cycles-added.ensures.cycles s t.caches k.caches in
+    let ends : until ≡ t.cycle + c.from-latency.result + c.from.result =
+    end_cycle until _ core.cycle t.cycle c.from-latency.result c.from.result refl refl k.cycle small (omega arith) (omega arith) in (
+      ends ∙ ap (λ (n : ℕ). t.cycle + n + c.from.result) latency ∙ ap (λ (n : ℕ). t.cycle + latency_of s.params found.class + n) added,
+      c.load_cycles-added.ensures.state s t.caches k.caches,
+    ))
 
 pub returns-clause-used : goal.returns-clause-used
 returns-clause-used c =

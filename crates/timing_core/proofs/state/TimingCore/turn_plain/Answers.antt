@@ -29,13 +29,14 @@ returns-clause-kept c =
     begin_kept core c.args.place c.args.busy c.args.used found c.requires.there c.begin.new.self until c.begin.ensures.begun
     (sym c.may_compute.ensures.begins ∙ c.if-not-may_compute.false) core.caches
     (λ s t k small.
-        let latency : c.from-latency.result ≡ latency_of s.params found.class =
-        c.from-latency.ensures ∙ ap (λ (p : Params). p.alu_latency) k.params ∙ ap (latency_of s.params) (sym plain.0) in
-        let none : cached s found.cause found.access t.caches ≡ no_miss t.caches = goes_nowhere s found t.caches plain.1 in
-        let ends : until ≡ t.cycle + c.from-latency.result + 0 =
-        end_cycle until _ core.cycle t.cycle c.from-latency.result 0 refl (omega arith) k.cycle small (omega arith) (omega arith) in
-        (ends ∙ ap (λ (n : ℕ). t.cycle + n + 0) latency ∙ ap (λ (d : Served). t.cycle + latency_of s.params found.class + d.cycles) (sym none),
-        subst (λ (d : Served). CachesStandFor core.caches (caches_params s.params) d.state) (sym none) k.caches))
+    let latency : c.from-latency.result ≡ latency_of s.params found.class =
+    c.from-latency.ensures ∙ ap (λ (p : Params). p.alu_latency) k.params ∙ ap (latency_of s.params) (sym plain.0) in
+    let none : cached s found.cause found.access t.caches ≡ no_miss t.caches = goes_nowhere s found t.caches plain.1 in
+    let ends : until ≡ t.cycle + c.from-latency.result + 0 =
+    end_cycle until _ core.cycle t.cycle c.from-latency.result 0 refl (omega arith) k.cycle small (omega arith) (omega arith) in (
+      ends ∙ ap (λ (n : ℕ). t.cycle + n + 0) latency ∙ ap (λ (d : Served). t.cycle + latency_of s.params found.class + d.cycles) (sym none),
+      subst (λ (d : Served). CachesStandFor core.caches (caches_params s.params) d.state) (sym none) k.caches,
+    ))
 
 pub returns-clause-used : goal.returns-clause-used
 returns-clause-used c =
