@@ -31,6 +31,11 @@ class Row:
         return self.cycles is None
 
     @property
+    def is_whole(self) -> bool:
+        """Whether the program came to its end, so that cycles can be compared."""
+        return self.end == "pass" or self.end.startswith("fail")
+
+    @property
     def rate(self) -> float | None:
         """Instructions per cycle."""
         if not self.cycles or self.instructions is None:

@@ -14,7 +14,7 @@ from dataclasses import dataclass
 from pathlib import Path
 
 from .answers import Refusal, Row, read_answer
-from .journal import identity
+from .journal import Work, identity
 from .machine_file import machine_text
 from .space import Machine, Space
 
@@ -23,12 +23,13 @@ PREFIX = "explore-"
 
 SCRIPT = """\
 #!/bin/sh
-# Runs one batch: writes the lines of `sweep`, and behind them its status. Ends with 1 where the
-# answer isn't whole, so that the batch is tried again.
+# Runs one batch, whose name begins with its image's number: writes the lines of `sweep`, and after
+# them its status. Ends with 1 if the answer isn't whole, so that the batch is tried again.
 cd "$(dirname "$0")" && here=$(pwd) && place=$(mktemp -d "$here/$1.XXXXXX") || exit 1
 trap 'rm -rf "$place"' EXIT
 tar -xf "$1.tar" -C "$place" && cd "$place" || exit 1
-"$here/fast" sweep "$here/image.elf" *.toml{options} </dev/null
+image=$here/image${{1%%-*}}.elf
+"$here/fast" sweep "$image" *.toml{options} </dev/null
 status=$?
 {squashed}echo "status $status"
 case $status in
@@ -39,7 +40,7 @@ exit 1
 
 SQUASHED = """\
 [ "$status" = 5 ] && for machine in *.toml; do
-    "$here/fast" run "$here/image.elf" "$machine"{options} </dev/null >report
+    "$here/fast" run "$image" "$machine"{options} </dev/null >report
     case $? in
         [0-3]) ;;
         1[12]) continue ;;
@@ -56,13 +57,15 @@ class Batch:
     """Machines that one call of `sweep` runs; each by the name of its file and its identity."""
 
     name: str
+    image: str
+    work: Work
     machines: dict[str, str]
 
     @property
     def title(self) -> str:
         """The batch as a user knows it."""
         numbers = [int(Path(file).stem) for file in self.machines]
-        return f"machines {numbers[0]} to {numbers[-1]}"
+        return f"{self.image} on machines {numbers[0]} to {numbers[-1]}"
 
     def read(self, text: str) -> dict[str, Row] | Refusal | None:
         """The rows of an answer by their machines; None where the answer isn't whole."""
@@ -79,8 +82,10 @@ class WorkFolder:
         self.path = Path(tempfile.mkdtemp(prefix=PREFIX, dir=folder)).absolute()
         self._space = space
         shutil.copy(program, self.path / "fast")
-        self.image = self.path / "image.elf"
-        shutil.copyfile(space.image, self.image)
+        self.images = []
+        for number, image in enumerate(space.images, 1):
+            self.images += [self.path / f"image{number}.elf"]
+            shutil.copyfile(image.path, self.images[-1])
         words = []
         if space.options.cycles is not None:
             words += [f" --cycles {space.options.cycles}"]
@@ -96,11 +101,12 @@ class WorkFolder:
         script.chmod(0o755)
         self.common = sorted(path.name for path in self.path.iterdir())
 
-    def lay(self, machines: Sequence[Machine], size: int) -> list[Batch]:
-        """Writes the machine files, in batches of a size."""
+    def lay(self, work: Work, number: int, machines: Sequence[Machine], size: int) -> list[Batch]:
+        """Writes the machine files for the image of a number, in batches of a size."""
+        image = self._space.images[number - 1].name
         batches = []
         for first in range(0, len(machines), size):
-            name = f"{first // size + 1:06}"
+            name = f"{number}-{first // size + 1:06}"
             files = {}
             with tarfile.open(self.path / f"{name}.tar", "w") as archive:
                 for machine in machines[first : first + size]:
@@ -108,7 +114,7 @@ class WorkFolder:
                     file = f"{machine.number:06}.toml"
                     add_file(archive, file, machine_text(values).encode())
                     files[file] = identity(values)
-            batches.append(Batch(name, files))
+            batches.append(Batch(name, image, work, files))
         return batches
 
     def remove(self) -> None:

@@ -10,10 +10,10 @@ from pathlib import Path
 from .batches import MOST_IN_BATCH
 from .exploring import Exploration, Plan
 from .faults import Fault
-from .journal import Journal, Lock, work_of
+from .journal import Journal, Lock, Work, open_journals, other_rows
 from .space import Space
 from .space_file import read_space
-from .table import Entry, entries_of, write_table
+from .table import Entry, entries_of, write_means, write_table
 
 REPOSITORY = Path(__file__).resolve().parent.parent.parent
 USUAL_BATCH = 16
@@ -51,7 +51,8 @@ def explore(options: argparse.Namespace) -> int:
     """Checks the input, runs what is missing, and writes the table and the pictures."""
     space = read_space(options.space)
     if options.check:
-        print(f"{options.space}: {space.size} machines, {', '.join(space.varied)} vary")
+        suite = f", {space.title}" if space.is_suite else ""
+        print(f"{options.space}: {space.size} machines{suite}, {', '.join(space.varied)} vary")
         return 0
     for sign in (signal.SIGTERM, signal.SIGHUP):
         signal.signal(sign, signal.default_int_handler)
@@ -68,9 +69,9 @@ def explore(options: argparse.Namespace) -> int:
         try:
             exploration.run()
         except BaseException:
-            tabulate(space, exploration.journal, plan)
+            tabulate(space, exploration.journals, plan)
             raise
-        return finish(space, exploration.journal, plan)
+        return finish(space, exploration.journals, plan)
 
 
 def plan_of(options: argparse.Namespace) -> Plan:
@@ -90,32 +91,37 @@ def plan_of(options: argparse.Namespace) -> Plan:
     )
 
 
-def tabulate(space: Space, journal: Journal, plan: Plan) -> list[Entry]:
-    """Writes the table of the rows that are there."""
-    entries = entries_of(space, journal)
+def tabulate(space: Space, journals: dict[Work, Journal], plan: Plan) -> list[Entry]:
+    """Writes the table of the rows that are there, and of a suite that of its means."""
+    entries = entries_of(space, list(journals.values()))
     write_table(plan.folder / "rows.csv", space, entries, plan.squashed)
+    if space.is_suite:
+        write_means(plan.folder / "machines.csv", space, entries)
     return entries
 
 
 def redraw(space: Space, plan: Plan) -> int:
     """Writes the table and the pictures anew, where there are rows."""
-    journal = Journal(plan.folder, work_of(space, plan.squashed))
-    others = journal.others()
+    journals = open_journals(plan.folder, space, plan.squashed)
+    others = other_rows(plan.folder, journals)
     if others and not plan.is_quiet:
         say(f"{others}; they are kept")
-    if not entries_of(space, journal):
+    if not entries_of(space, list(journals.values())):
         raise Fault("no machine has its row; table and pictures stay as they are")
-    return finish(space, journal, plan)
+    return finish(space, journals, plan)
 
 
-def finish(space: Space, journal: Journal, plan: Plan) -> int:
+def finish(space: Space, journals: dict[Work, Journal], plan: Plan) -> int:
     """Writes the table and the pictures, and says where they are."""
-    entries = tabulate(space, journal, plan)
-    refused = sum(entry.row.is_refused for entry in entries)
+    entries = tabulate(space, journals, plan)
+    rows = [row for entry in entries for row in entry.rows if row is not None]
+    refused = sum(row.is_refused for row in rows)
     if not plan.is_quiet:
-        text = f"{len(entries)} of {space.size} machines, {refused} of them refused"
+        text = f"{len(rows)} of {space.run_count} {space.run_name}, {refused} of them refused"
         print(f"{plan.folder / 'rows.csv'}: {text}")
-    if not space.pictures or refused == len(entries):
+        if space.is_suite:
+            print(plan.folder / "machines.csv")
+    if not space.pictures or refused == len(rows):
         return 0
     from .pictures import draw
 
@@ -140,8 +146,9 @@ def parser() -> argparse.ArgumentParser:
     """The words that are known."""
     words = argparse.ArgumentParser(
         prog="explore",
-        description="Runs an image on each machine of a space by `fast sweep`, and writes a row "
-        "of CSV for each, and pictures. A run that was broken off goes on from where it stopped.",
+        description="Runs an image, or a suite of images, on each machine of a space by `fast "
+        "sweep`, and writes a row of CSV for each run, and pictures. A run that was broken off "
+        "goes on from where it stopped.",
         epilog="docs/EXPLORE.md has the input and all that is written.",
         allow_abbrev=False,
     )

@@ -9,7 +9,7 @@ from .batches import Batch, WorkFolder
 from .faults import Fault
 from .files import sum_of
 from .gnu_parallel import GnuParallel
-from .journal import Journal, identity, work_of
+from .journal import Work, identity, open_journals, other_rows
 from .program import find_program
 from .progress import Progress
 from .slurm import Slurm, take_left
@@ -48,30 +48,28 @@ class Exploration:
         self.space = space
         self._plan = plan
         self._tell = tell
-        self._work = work_of(space, plan.squashed)
         take_left(plan.folder)
-        self.journal = Journal(plan.folder, self._work)
+        self.journals = open_journals(plan.folder, space, plan.squashed)
 
-    def missing(self) -> list[Machine]:
-        """The machines without a row."""
-        rows = self.journal.rows
+    def missing(self, work: Work) -> list[Machine]:
+        """The machines without a row of an image."""
+        rows = self.journals[work].rows
         machines = self.space.machines()
         return [one for one in machines if identity(self.space.values(one)) not in rows]
 
     def run(self) -> None:
-        """Runs what is missing, in rounds, until each machine has its row."""
-        missing = self.missing()
-        self._say_what_is_there(len(missing))
-        if not missing:
+        """Runs what is missing, in rounds, until each machine has its rows."""
+        missing = {work: self.missing(work) for work in self.journals}
+        finished = self.space.run_count - sum(map(len, missing.values()))
+        self._say_what_is_there(finished)
+        if finished == self.space.run_count:
             return
         program = find_program(self._plan.fast)
         workers = self._workers()
-        progress = Progress(self.space.size - len(missing), self.space.size, self._plan.is_quiet)
+        progress = Progress(finished, self.space, self._plan.is_quiet)
         work = WorkFolder(self._plan.folder, program, self.space, self._plan.squashed)
         try:
-            if sum_of(work.image) != self._work.image:
-                raise Fault(f"{self.space.image} changed just now")
-            batches = work.lay(missing, self._plan.batch)
+            batches = self._lay(work, missing)
             tries = dict.fromkeys((batch.name for batch in batches), 0)
             while batches:
                 handed = batches[: workers.most]
@@ -83,6 +81,15 @@ class Exploration:
         finally:
             progress.end()
             work.remove()
+
+    def _lay(self, work: WorkFolder, missing: dict[Work, list[Machine]]) -> list[Batch]:
+        """Writes the machine files of what is missing, and checks the copies of the images."""
+        batches: list[Batch] = []
+        for number, (own, machines) in enumerate(missing.items(), 1):
+            if sum_of(work.images[number - 1]) != own.image:
+                raise Fault(f"{self.space.images[number - 1].path} changed just now")
+            batches += work.lay(own, number, machines, self._plan.batch)
+        return batches
 
     def _round(
         self, workers: Workers, work: WorkFolder, batches: list[Batch], progress: Progress
@@ -110,11 +117,12 @@ class Exploration:
             raise Fault(f"{batch.title}: {rows.line} (status {rows.status})")
         if rows is None or self._is_finished(batch):
             return False
-        self.journal.add(rows)
+        self.journals[batch.work].add(rows)
         return True
 
     def _is_finished(self, batch: Batch) -> bool:
-        return all(machine in self.journal.rows for machine in batch.machines.values())
+        rows = self.journals[batch.work].rows
+        return all(machine in rows for machine in batch.machines.values())
 
     def _count_tries(self, batches: list[Batch], tries: dict[str, int]) -> None:
         """Counts the rounds from which a batch didn't come back, and ends at too many."""
@@ -122,7 +130,8 @@ class Exploration:
             tries[batch.name] += 1
             if tries[batch.name] == TRIES:
                 count = sum(len(batch.machines) for batch in batches)
-                text = f"{count} machines came back from {TRIES} rounds without an answer"
+                text = f"{count} {self.space.run_name} came back from {TRIES} rounds"
+                text += " without an answer"
                 raise Fault(text + self._last_of_log())
 
     def _last_of_log(self) -> str:
@@ -136,13 +145,13 @@ class Exploration:
         if plan.on == "parallel":
             return GnuParallel(plan.logins, plan.jobs, plan.is_shared, plan.log)
         if plan.on == "slurm":
-            return Slurm(plan.sbatch, self._work, plan.log)
+            return Slurm(plan.sbatch, plan.log)
         return Here(plan.jobs or 1)
 
-    def _say_what_is_there(self, missing: int) -> None:
+    def _say_what_is_there(self, finished: int) -> None:
         """Says which rows of before are used, and which aren't."""
-        finished = self.space.size - missing
-        if finished and missing:
-            self._tell(f"{finished} of {self.space.size} machines have their row; going on")
-        if others := self.journal.others():
+        total = self.space.run_count
+        if 0 < finished < total:
+            self._tell(f"{finished} of {total} {self.space.run_name} have their row; going on")
+        if others := other_rows(self._plan.folder, self.journals):
             self._tell(f"{others}; they are kept")

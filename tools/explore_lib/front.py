@@ -2,7 +2,7 @@
 
 from collections.abc import Sequence
 
-Point = tuple[float, int]
+Point = tuple[float, float]
 
 
 def front_of(points: Sequence[Point]) -> list[int]:

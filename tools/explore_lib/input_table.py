@@ -67,7 +67,7 @@ class Table:
         value = self.content.get(name, [])
         names = value if isinstance(value, list) else [value]
         if not all(isinstance(text, str) and text for text in names) or value == [] != names:
-            raise self.fault(name, f"{show(value)} is no key")
+            raise self.fault(name, f"{show(value)} is no text and no list of texts")
         return names
 
     def table(self, name: str) -> "Table":
@@ -85,8 +85,10 @@ class Table:
     def path(self, name: str, most_bytes: int) -> Path | None:
         """A file that is named from the input's own folder, of no more than so many bytes."""
         text = self.text(name)
-        if text is None:
-            return None
+        return None if text is None else self.path_of(name, text, most_bytes)
+
+    def path_of(self, name: str, text: str, most_bytes: int) -> Path:
+        """The file of a text that stands at a name, as in `path`."""
         path = self.file.parent / text
         if not path.exists():
             raise self.fault(name, f"there is no file {path}")

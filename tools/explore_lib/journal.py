@@ -9,7 +9,8 @@ import fcntl
 import hashlib
 import json
 import os
-from collections.abc import Mapping
+from collections import Counter
+from collections.abc import Collection, Mapping
 from dataclasses import asdict, dataclass
 from pathlib import Path
 
@@ -18,7 +19,7 @@ from .faults import Fault
 from .files import sum_of, write_whole
 from .keys import Value
 from .machine_file import differing
-from .space import Space
+from .space import Image, Space
 
 FORMAT = "fast explore 1"
 USUAL_CYCLES = 10_000_000
@@ -47,17 +48,16 @@ class Work:
         """A short name that another image, input or option changes."""
         return hashlib.sha256(json.dumps(asdict(self)).encode()).hexdigest()[:16]
 
-    def changed_from(self, other: Mapping[str, object]) -> str:
+    def changed_from(self, other: Mapping[str, object]) -> list[str]:
         """What is another than in other work."""
-        parts = [NAMES[name] for name, value in asdict(self).items() if other.get(name) != value]
-        return " and ".join(parts)
+        return [NAMES[name] for name, value in asdict(self).items() if other.get(name) != value]
 
 
-def work_of(space: Space, squashed: bool) -> Work:
-    """The work of a space."""
+def work_of(space: Space, image: Image, squashed: bool) -> Work:
+    """The work of an image of a space."""
     options = space.options
     return Work(
-        image=sum_of(space.image),
+        image=sum_of(image.path),
         input=sum_of(options.input) if options.input else "",
         cycles=USUAL_CYCLES if options.cycles is None else options.cycles,
         output=USUAL_OUTPUT if options.output is None else options.output,
@@ -74,9 +74,8 @@ class Journal:
     """The finished rows of one work."""
 
     def __init__(self, folder: Path, work: Work):
-        self._folder = folder / "journal"
         self._work = work
-        self._own = self._folder / work.name
+        self._own = folder / "journal" / work.name
         self.rows: dict[str, Row] = {}
         self._count = 0
         for path in sorted(self._own.glob("*.json")):
@@ -95,15 +94,29 @@ class Journal:
         write_whole(self._own / f"{self._count:06}.json", text)
         self.rows |= rows
 
-    def others(self) -> str:
-        """Which other rows are in the journal: a line, or nothing."""
-        texts = []
-        for path in sorted(self._folder.glob("*/work")):
-            count = sum(len(read_batch(batch)) for batch in path.parent.glob("*.json"))
-            if path.parent != self._own and count:
-                changed = self._work.changed_from(json.loads(path.read_text()))
-                texts += [f"{count} rows of before aren't used, since {changed} changed"]
-        return "; ".join(texts)
+
+def open_journals(folder: Path, space: Space, squashed: bool) -> dict[Work, Journal]:
+    """The journals of a space's images, in their order."""
+    works = [work_of(space, image, squashed) for image in space.images]
+    return {work: Journal(folder, work) for work in works}
+
+
+def other_rows(folder: Path, works: Collection[Work]) -> str:
+    """Which rows of other work are in the journal: a line, or nothing."""
+    own = {work.name for work in works}
+    counts: Counter[str] = Counter()
+    for path in sorted((folder / "journal").glob("*/work")):
+        if path.parent.name not in own:
+            other = json.loads(path.read_text())
+            changed = min((work.changed_from(other) for work in works), key=len)
+            rows = sum(len(read_batch(batch)) for batch in path.parent.glob("*.json"))
+            counts[" and ".join(changed)] += rows
+    texts = [
+        f"{count} rows of before aren't used, since {changed} changed"
+        for changed, count in counts.items()
+        if count
+    ]
+    return "; ".join(texts)
 
 
 def read_batch(path: Path) -> dict[str, Row]:

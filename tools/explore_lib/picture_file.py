@@ -57,8 +57,9 @@ def read_picture(table: Table, space: Space) -> Picture:
 
 def usual_title(space: Space, kind: str) -> str:
     """The title of a picture that has none of its own."""
-    what = "Cost and cycles" if kind == "front" else "Instructions per cycle"
-    return f"{what}: {space.image.name} on {space.size:,} machines"
+    rate = "Speed" if space.is_suite else "Instructions per cycle"
+    what = "Cost and cycles" if kind == "front" else rate
+    return f"{what}: {space.title} on {space.size:,} machines"
 
 
 def read_axis(table: Table, space: Space, part: str) -> Axis | None:

@@ -34,7 +34,6 @@ STYLE = {
     "lines.markersize": 4.5,
     "svg.hashsalt": "explore",
 }
-RATE = "instructions per cycle"
 MOST_TICKS = 12
 MOST_CELLS = 200
 WIDE = 8
@@ -53,17 +52,48 @@ def draw(space: Space, entries: Sequence[Entry], folder: Path) -> Iterator[Path]
     with matplotlib.rc_context(STYLE):
         for picture in space.pictures:
             chosen = [entry for entry in entries if is_chosen(picture, entry)]
-            shown = [entry for entry in chosen if entry.row.rate is not None]
-            if not any(entry.is_whole or picture.kind != "front" for entry in shown):
-                what = "came to the program's end" if picture.kind == "front" else "ran"
-                raise Fault(f"no picture {picture.name}: none of its machines {what}")
-            figure = KINDS[picture.kind](space, picture, shown)
+            ran = [entry for entry in chosen if not entry.is_refused]
+            if not any(is_shown(picture, entry) for entry in ran):
+                raise Fault(f"no picture {picture.name}: {lack(space, picture)}")
+            figure = KINDS[picture.kind](space, picture, ran)
             yield from save(figure, folder / picture.name)
 
 
 def is_chosen(picture: Picture, entry: Entry) -> bool:
     """Whether a picture shows a machine."""
     return all(entry.values[name] == value for name, value in picture.at.items())
+
+
+def is_shown(picture: Picture, entry: Entry) -> bool:
+    """Whether a machine that was chosen has a place in a picture."""
+    return entry.is_whole if picture.kind == "front" else entry.rate is not None
+
+
+def lack(space: Space, picture: Picture) -> str:
+    """Why a picture has nothing to show."""
+    if space.is_suite:
+        return "machine 1 or each of its machines didn't come to all programs' ends"
+    what = "came to the program's end" if picture.kind == "front" else "ran"
+    return f"none of its machines {what}"
+
+
+def left_out_note(space: Space, ran: Sequence[Entry], shown: Sequence[Entry]) -> str:
+    """How many machines that ran a picture doesn't show."""
+    count = len(ran) - len(shown)
+    what = "all programs' ends" if space.is_suite else "the program's end"
+    return f"left out: {count} machines that didn't come to {what}" if count else ""
+
+
+def compared_label(space: Space, of_one: str, of_suite: str) -> str:
+    """The name of an axis of what is compared: of one image, or of a suite."""
+    if not space.is_suite:
+        return of_one
+    return f"{of_suite} against machine 1\n(geometric mean of {space.title})"
+
+
+def rate_label(space: Space) -> str:
+    """The name of an axis of rates."""
+    return compared_label(space, "instructions per cycle", "speed")
 
 
 def save(figure, path: Path) -> Iterator[Path]:
@@ -88,7 +118,7 @@ def shared_points(x: Axis, y: Axis, entries: Sequence[Entry]) -> dict[tuple, lis
     rates: dict[tuple, list[float]] = {}
     for entry in entries:
         pair = (x.place(entry.values), y.place(entry.values))
-        rates.setdefault(pair, []).append(entry.row.rate or 0.0)
+        rates.setdefault(pair, []).append(entry.rate or 0.0)
     return rates
 
 
@@ -143,13 +173,15 @@ def x_axis(axes, label: str, places_: Sequence[Place]) -> None:
     axes.set_xlabel(label)
 
 
-def draw_lines(space: Space, picture: Picture, entries: Sequence[Entry]):
-    """A key against instructions per cycle, with a line for each value of a second."""
+def draw_lines(space: Space, picture: Picture, ran: Sequence[Entry]):
+    """A key against the rate, with a line for each value of a second."""
+    entries = [entry for entry in ran if is_shown(picture, entry)]
     x, lines = picture.axes["x"], picture.axes["lines"]
     shared = shared_points(x, lines, entries)
     rates = {pair: SUM[picture.of](part) for pair, part in shared.items()}
     note = f"ring: the first point within {picture.knee:g} percent of its line's highest"
-    figure, axes = begin(picture, [chosen_note(picture, shared), note], (4.6, 3.4))
+    notes = [chosen_note(picture, shared), left_out_note(space, ran, entries), note]
+    figure, axes = begin(picture, notes, (4.6, 3.4))
     all_x, all_lines = places(x, entries), places(lines, entries)
     at = dict(zip(all_x, scale(all_x), strict=True))
     for number, line in enumerate(all_lines):
@@ -161,7 +193,7 @@ def draw_lines(space: Space, picture: Picture, entries: Sequence[Entry]):
         axes.plot(at[there[knee]], heights[knee], "o", color=colour_of(number), **ring)
     x_axis(axes, x.label, all_x)
     axes.set_ylim(bottom=0)
-    axes.set_ylabel(RATE)
+    axes.set_ylabel(rate_label(space))
     axes.grid(axis="y", color="#dddddd", linewidth=0.6)
     axes.set_axisbelow(True)
     put_legend(axes, lines)
@@ -194,15 +226,17 @@ def put_legend(axes, axis: Axis | None) -> None:
     axes.legend(title=title, loc="upper left", bbox_to_anchor=(1.01, 1), alignment="left")
 
 
-def draw_map(space: Space, picture: Picture, entries: Sequence[Entry]):
+def draw_map(space: Space, picture: Picture, ran: Sequence[Entry]):
     """A heat map of two keys."""
+    entries = [entry for entry in ran if is_shown(picture, entry)]
     x, y = picture.axes["x"], picture.axes["y"]
     shared = shared_points(x, y, entries)
     rates = {pair: SUM[picture.of](part) for pair, part in shared.items()}
     note = f"framed: within {picture.knee:g} percent of the highest"
     across, up = places(x, entries), places(y, entries)
     size = (2.2 + 0.55 * max(len(across), 4), 1.3 + 0.38 * max(len(up), 4))
-    figure, axes = begin(picture, [chosen_note(picture, shared), note], size)
+    notes = [chosen_note(picture, shared), left_out_note(space, ran, entries), note]
+    figure, axes = begin(picture, notes, size)
     cells = [[rates.get((column, row), float("nan")) for column in across] for row in up]
     colours = matplotlib.colormaps["cividis"].with_extremes(bad="#e5e5e5")
     image = axes.imshow(cells, cmap=colours, origin="lower", aspect="auto")
@@ -214,7 +248,7 @@ def draw_map(space: Space, picture: Picture, entries: Sequence[Entry]):
     axes.tick_params(length=0)
     write_cells(axes, cells, picture.knee)
     bar = figure.colorbar(image, ax=axes, pad=0.03)
-    bar.set_label(RATE)
+    bar.set_label(rate_label(space))
     bar.outline.set_visible(False)
     return figure
 
@@ -236,14 +270,13 @@ def write_cells(axes, cells: Sequence[Sequence[float]], percent: float) -> None:
                 axes.add_patch(frame)
 
 
-def draw_front(space: Space, picture: Picture, entries: Sequence[Entry]):
+def draw_front(space: Space, picture: Picture, ran: Sequence[Entry]):
     """Cost against cycles, with the best front."""
-    whole = [entry for entry in entries if entry.is_whole]
+    whole = [entry for entry in ran if is_shown(picture, entry)]
     front = in_front(whole)
-    left_out = len(entries) - len(whole)
     notes = [
         chosen_note(picture),
-        f"left out: {left_out} machines that didn't come to the program's end" if left_out else "",
+        left_out_note(space, ran, whole),
         *knee_notes(space, picture, front),
     ]
     figure, axes = begin(picture, notes, (5.2, 3.8))
@@ -264,12 +297,12 @@ def draw_front(space: Space, picture: Picture, entries: Sequence[Entry]):
     axes.plot(costs, cycles, "o", mfc="none", color="black", ms=5.5, label="best front")
     if front:
         knee = front_knee(picture, front)
-        axes.plot(knee.cost, knee.row.cycles, "o", mfc="none", color="black", ms=12, label="knee")
+        axes.plot(knee.cost, knee.cycles, "o", mfc="none", color="black", ms=12, label="knee")
     costs, cycles = costs_and_cycles(whole)
     number_axis(axes, axes.xaxis, costs)
     number_axis(axes, axes.yaxis, cycles)
     axes.set_xlabel(space.cost.axis if space.cost else "")
-    axes.set_ylabel("cycles")
+    axes.set_ylabel(compared_label(space, "cycles", "cycles"))
     axes.grid(color="#e5e5e5", linewidth=0.6)
     axes.set_axisbelow(True)
     put_legend(axes, picture.axes.get("lines"))
@@ -287,20 +320,20 @@ def groups(picture: Picture, entries: Sequence[Entry]) -> list[tuple[str, list[E
     ]
 
 
-def costs_and_cycles(entries: Sequence[Entry]) -> tuple[list[float], list[int]]:
+def costs_and_cycles(entries: Sequence[Entry]) -> tuple[list[float], list[float]]:
     """What a scatter shows."""
     return [entry.cost or 0.0 for entry in entries], cycle_list(entries)
 
 
-def cycle_list(entries: Sequence[Entry]) -> list[int]:
+def cycle_list(entries: Sequence[Entry]) -> list[float]:
     """The cycles of machines that ran."""
-    return [entry.row.cycles or 0 for entry in entries]
+    return [entry.cycles or 0 for entry in entries]
 
 
 def front_knee(picture: Picture, front: Sequence[Entry]) -> Entry:
     """The cheapest machine within some percent of the fewest cycles."""
     most = min(cycle_list(front)) * (1 + picture.knee / 100)
-    return next(entry for entry in front if (entry.row.cycles or 0) <= most)
+    return next(entry for entry in front if (entry.cycles or 0) <= most)
 
 
 def knee_notes(space: Space, picture: Picture, front: Sequence[Entry]) -> list[str]:

@@ -3,6 +3,8 @@
 import sys
 import time
 
+from .space import Space
+
 WIDTH = 30
 SECONDS_BETWEEN_LINES = 10.0
 
@@ -10,10 +12,11 @@ SECONDS_BETWEEN_LINES = 10.0
 class Progress:
     """A bar with the time left: in place on a terminal, else a line from time to time."""
 
-    def __init__(self, finished: int, total: int, is_quiet: bool):
+    def __init__(self, finished: int, space: Space, is_quiet: bool):
         self._first = finished
         self._finished = finished
-        self._total = total
+        self._total = space.run_count
+        self._name = space.run_name
         self._is_quiet = is_quiet
         self._is_terminal = sys.stderr.isatty()
         self._began = time.monotonic()
@@ -21,7 +24,7 @@ class Progress:
         self._told_count = finished
 
     def add(self, count: int) -> None:
-        """Counts machines as finished."""
+        """Counts runs as finished."""
         self._finished += count
 
     def draw(self) -> None:
@@ -51,7 +54,7 @@ class Progress:
         if done:
             seconds = (now - self._began) / done * (self._total - self._finished)
             left = f"{duration(seconds)} left"
-        return f"{self._finished} of {self._total} machines, {left}"
+        return f"{self._finished} of {self._total} {self._name}, {left}"
 
 
 def duration(seconds: float) -> str:

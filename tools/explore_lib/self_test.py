@@ -3,6 +3,7 @@
 import contextlib
 import csv
 import io
+import math
 import re
 import shutil
 import subprocess
@@ -22,6 +23,7 @@ from .keys import DEFAULTS, KEYS, Key
 from .program import call, find_program
 
 IMAGE = command.REPOSITORY / "examples" / "hello" / "hello.elf"
+OTHER_IMAGE = command.REPOSITORY / "examples" / "traps" / "traps.elf"
 KEY_TABLE = command.REPOSITORY / "docs" / "PIPELINE.md"
 SECONDS = 60
 
@@ -37,6 +39,7 @@ picture = []
 core.window = [1, 8]
 predictor.kind = ["static", "bimodal"]
 """
+SUITE = SPACE.replace(f'image = "{IMAGE}"', f'images = ["{IMAGE}", "{OTHER_IMAGE}"]')
 MACHINES = [
     "core.window = 1",
     'core.window = 1\npredictor.kind = "bimodal"',
@@ -48,7 +51,7 @@ MACHINES = [
 # while another file is there.
 COUNTING = """#!/bin/sh
 case $2 in
-    */image.elf)
+    */image*.elf)
         echo "$@" >>'{folder}/calls'
         [ ! -e '{folder}/die' ] || {{ rm '{folder}/die'; kill -9 $$; }}
         ;;
@@ -62,6 +65,10 @@ WRONG = {
     "image is missing": "[grid]\ncore.window = [1]",
     "image: there is no file": SPACE.replace("hello.elf", "none.elf"),
     "image: {here}/input.toml is no linked ELF file": SPACE.replace(str(IMAGE), "input.toml"),
+    "images: image is given too": f'image = "{IMAGE}"\n{SUITE}',
+    "images: there is no file": SUITE.replace("traps.elf", "none.elf"),
+    "images: [] is no list of files": "images = []\n[grid]\ncore.window = [1]",
+    "has the bytes of": SUITE.replace(str(OTHER_IMAGE), str(IMAGE)),
     "base: there is no file": SPACE.replace("base.toml", "none.toml"),
     "isn't TOML: ": SPACE.replace("base.toml", str(IMAGE)),
     "imago: unknown": f'imago = "x"\n{SPACE}',
@@ -136,9 +143,9 @@ class SelfTest:
         self.expect(f"{name}: status ({done.stderr.strip()})", done.returncode, 0)
         return done.stderr
 
-    def rows(self, name: str) -> list[dict[str, str]]:
+    def rows(self, name: str, table: str = "rows") -> list[dict[str, str]]:
         """The rows of a table."""
-        with (self.folder / name / "rows.csv").open(newline="") as file:
+        with (self.folder / name / f"{table}.csv").open(newline="") as file:
             return list(csv.DictReader(file))
 
     def calls(self) -> Counter[str]:
@@ -214,6 +221,26 @@ class SelfTest:
         self.expect("grid: machines run", set(self.calls().values()), {1})
         self.explore(self.write_input(SPACE.replace("[1, 8]", "[8, 16, 1]")), "grid")
         self.expect("longer list: machines run", sum(self.calls().values()), 2)
+
+    def check_suite(self) -> None:
+        """The rows of a suite are those of its images alone; one that is added alone is run."""
+        self.explore(self.write_input(SUITE.replace(f', "{OTHER_IMAGE}"', "")), "suite")
+        self.calls()
+        self.explore(self.write_input(SUITE), "suite")
+        self.expect("suite: machines run", sum(self.calls().values()), 4)
+        cycles: list[list[int]] = []
+        for image in (IMAGE, OTHER_IMAGE):
+            alone = self.folder / image.stem
+            self.explore(self.write_input(SPACE.replace(str(IMAGE), str(image))), alone.name)
+            rows = [row for row in self.rows("suite") if row.pop("image") == str(image)]
+            self.expect(f"suite: {image.name}", rows, self.rows(alone.name))
+            cycles += [[int(row["cycles"]) for row in rows]]
+        wanted = [f"{math.sqrt(a * b / cycles[0][0] / cycles[1][0]):.6f}" for a, b in zip(*cycles)]
+        means = [row["relative_cycles"] for row in self.rows("suite", "machines")]
+        self.expect("suite: means", means, wanted)
+        self.explore(self.write_input(f"cycles = 1000\n{SUITE}"), "bounded")
+        means = [row["relative_cycles"] for row in self.rows("bounded", "machines")]
+        self.expect("suite: means of runs that were ended", means, [""] * 4)
 
     def check_refused(self) -> None:
         """A refused machine is a row with its reason."""
@@ -343,6 +370,7 @@ def self_test(fast: Path) -> int:
             test.check_parts,
             test.check_wrong_inputs,
             test.check_grid,
+            test.check_suite,
             test.check_refused,
             test.check_break,
             test.check_killed,

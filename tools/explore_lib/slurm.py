@@ -13,7 +13,7 @@ from .faults import Fault
 from .journal import Journal, Work
 from .workers import Workers, end_group, start_group
 
-ARRAY = "array.json"
+ARRAY = "batches.json"
 
 TASK = """\
 #!/bin/sh
@@ -30,12 +30,11 @@ class Slurm(Workers):
 
     most = 1000
 
-    def __init__(self, options: list[str], work: Work, log: Path):
+    def __init__(self, options: list[str], log: Path):
         for program in ("sbatch", "scancel"):
             if not shutil.which(program):
                 raise Fault(f"{program} isn't there (Debian: apt-get install slurm-client)")
         self._options = options
-        self._work = work
         self._log = log
         self._process: subprocess.Popen[bytes] | None = None
         self._path = Path()
@@ -45,11 +44,7 @@ class Slurm(Workers):
         self._path = work.path
         self._missing = [batch.name for batch in batches]
         (work.path / "batches").write_text("".join(f"{name}\n" for name in self._missing))
-        content = {
-            "work": asdict(self._work),
-            "batches": {batch.name: batch.machines for batch in batches},
-        }
-        (work.path / ARRAY).write_text(json.dumps(content))
+        (work.path / ARRAY).write_text(json.dumps([asdict(batch) for batch in batches]))
         task = work.path / "task.sh"
         task.write_text(TASK)
         words = ["sbatch", "--wait", f"--job-name={work.path.name}", f"--chdir={work.path}"]
@@ -87,13 +82,12 @@ def take_left(folder: Path) -> None:
     for path in folder.glob(f"{PREFIX}*"):
         if (path / ARRAY).exists():
             cancel(path.name)
-            content = json.loads((path / ARRAY).read_text())
-            journal = Journal(folder, Work(**content["work"]))
-            for name, machines in content["batches"].items():
-                answer = path / f"{name}.answer"
-                rows = Batch(name, machines).read(answer.read_text()) if answer.exists() else None
+            for content in json.loads((path / ARRAY).read_text()):
+                batch = Batch(**content | {"work": Work(**content["work"])})
+                answer = path / f"{batch.name}.answer"
+                rows = batch.read(answer.read_text()) if answer.exists() else None
                 if isinstance(rows, dict):
-                    keep_new(journal, rows)
+                    keep_new(Journal(folder, batch.work), rows)
         shutil.rmtree(path, ignore_errors=True)
 
 

@@ -13,6 +13,14 @@ Lists = Mapping[str, tuple[Value, ...]]
 
 
 @dataclass(frozen=True)
+class Image:
+    """An image: its name, as the input writes it, and its file."""
+
+    name: str
+    path: Path
+
+
+@dataclass(frozen=True)
 class Machine:
     """A machine of the space: its number, from 1, and its values of the keys that vary."""
 
@@ -75,10 +83,11 @@ class Picture:
 
 @dataclass(frozen=True)
 class Space:
-    """What is explored: an image on the machines of a grid."""
+    """What is explored: an image, or a suite of them, on the machines of a grid."""
 
     path: Path
-    image: Path
+    images: tuple[Image, ...]
+    is_suite: bool
     options: Options
     set: dict[str, Value]
     grid: Lists
@@ -95,6 +104,21 @@ class Space:
     def size(self) -> int:
         """How many machines there are."""
         return math.prod(len(axis) for axis in self._axes())
+
+    @property
+    def run_count(self) -> int:
+        """How many runs there are: one of each image on each machine."""
+        return self.size * len(self.images)
+
+    @property
+    def title(self) -> str:
+        """What is run, in a few words."""
+        return f"{len(self.images)} images" if self.is_suite else self.images[0].path.name
+
+    @property
+    def run_name(self) -> str:
+        """What a row stands for, as it is counted: of one image each machine has one."""
+        return "runs" if self.is_suite else "machines"
 
     def machines(self) -> Iterator[Machine]:
         """All machines in order: the last list of the input changes first."""

@@ -6,26 +6,27 @@ from dataclasses import replace
 from pathlib import Path
 
 from .faults import InputFault
+from .files import sum_of
 from .formula import Formula
 from .input_table import Table
 from .keys import KEYS, Value, show
 from .machine_file import MOST_BYTES, key_values, known_keys, read_base, read_toml
 from .picture_file import read_pictures
-from .space import Cost, Lists, Options, Space
+from .space import Cost, Image, Lists, Options, Space
 
 MOST_MACHINES = 100_000
 MOST_IMAGE = 67_108_864
 MOST_TEXT = 16_777_216
 MOST_CYCLES = 1_099_511_627_776
 
-TOP = "image base cycles output input set grid together cost picture".split()
+TOP = "image images base cycles output input set grid together cost picture".split()
 
 
 def read_space(path: Path) -> Space:
     """The space that a file describes; each formula has a value for each machine."""
     table = read_toml(path)
     table.known(TOP)
-    image = read_image(table)
+    images = read_images(table)
     base = table.path("base", MOST_BYTES)
     values = read_base(base) if base else {}
     fixed = key_values(table.table("set"))
@@ -38,23 +39,46 @@ def read_space(path: Path) -> Space:
         table.whole("output", 0, MOST_TEXT),
         table.path("input", MOST_TEXT),
     )
-    space = Space(path, image, options, values, grid, together, read_cost(table.table("cost")))
+    cost = read_cost(table.table("cost"))
+    is_suite = "images" in table.content
+    space = Space(path, images, is_suite, options, values, grid, together, cost)
     check_size(table, space)
     space = replace(space, pictures=read_pictures(table, space))
     check_formulas(table, space)
     return space
 
 
-def read_image(table: Table) -> Path:
-    """The image, whose first bytes have to be those of an ELF file for this machine."""
-    path = table.path("image", MOST_IMAGE)
-    if path is None:
-        raise table.fault("", "image is missing")
+def read_images(table: Table) -> tuple[Image, ...]:
+    """The image, or the suite of images, no two of which are equal."""
+    names = table.names("images")
+    if "images" not in table.content:
+        name = table.text("image")
+        if name is None:
+            raise table.fault("", "image is missing")
+        return (read_image(table, "image", name),)
+    if "image" in table.content:
+        raise table.fault("images", "image is given too")
+    if not isinstance(table.content["images"], list) or not names:
+        raise table.fault("images", f"{show(table.content['images'])} is no list of files")
+    images = [read_image(table, "images", name) for name in names]
+    known: dict[str, str] = {}
+    for image in images:
+        content = sum_of(image.path)
+        if content in known:
+            same = f"{show(image.name)} has the bytes of {show(known[content])}"
+            raise table.fault("images", same)
+        known[content] = image.name
+    return tuple(images)
+
+
+def read_image(table: Table, place: str, name: str) -> Image:
+    """An image, whose first bytes have to be those of an ELF file for this machine."""
+    path = table.path_of(place, name, MOST_IMAGE)
     with path.open("rb") as file:
         head = file.read(52)
     if len(head) < 52 or head[:6] + head[16:20] != b"\x7fELF\x01\x01\x02\x00\xf3\x00":
-        raise table.fault("image", f"{path} is no linked ELF file for 32-bit RISC-V")
-    return path
+        raise table.fault(place, f"{path} is no linked ELF file for 32-bit RISC-V")
+    return Image(name, path)
 
 
 def read_lists(table: Table) -> Lists:

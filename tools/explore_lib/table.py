@@ -1,9 +1,11 @@
-"""The table: one row a machine, as CSV."""
+"""The tables as CSV: one row a run, and of a suite of images also one row a machine."""
 
 import csv
 import io
+from collections.abc import Sequence
 from dataclasses import dataclass
 from pathlib import Path
+from statistics import geometric_mean
 
 from .answers import Row
 from .files import write_whole
@@ -12,60 +14,131 @@ from .journal import Journal, identity
 from .keys import Value
 from .space import Machine, Space
 
+Rows = tuple[Row | None, ...]
+
 
 @dataclass(frozen=True)
 class Entry:
-    """A machine with its row, all its values, and its cost where the input has one."""
+    """A machine with its rows, one for each image, all its values, and its cost if there is one.
+
+    `cycles` and `rate` are what is compared and drawn. Of a suite, `cycles` is the geometric mean
+    of the cycles against those of machine 1, and `rate` is its inverse.
+    """
 
     machine: Machine
     values: dict[str, Value]
-    row: Row
+    rows: Rows
     cost: float | None
+    cycles: float | None
+    rate: float | None
+
+    @property
+    def is_refused(self) -> bool:
+        """Whether the machine was refused."""
+        return any(row is not None and row.is_refused for row in self.rows)
 
     @property
     def is_whole(self) -> bool:
-        """Whether the program came to its end, so that cycles can be compared."""
-        return self.row.end == "pass" or self.row.end.startswith("fail")
+        """Whether all programs came to their end, so that cycles can be compared."""
+        return self.cycles is not None and len(whole_cycles(self.rows)) == len(self.rows)
 
 
-def entries_of(space: Space, journal: Journal) -> list[Entry]:
+def whole_cycles(rows: Rows) -> list[int]:
+    """The cycles of the runs that came to their program's end."""
+    return [row.cycles for row in rows if row is not None and row.is_whole and row.cycles]
+
+
+def entries_of(space: Space, journals: Sequence[Journal]) -> list[Entry]:
     """The machines that have a row, in the order of the space."""
     entries = []
+    first: Rows = ()
     for machine in space.machines():
         values = space.values(machine)
-        row = journal.rows.get(identity(values))
-        if row is not None:
+        name = identity(values)
+        rows = tuple(journal.rows.get(name) for journal in journals)
+        first = first or rows
+        if any(row is not None for row in rows):
             cost = space.cost.formula.value(values) if space.cost else None
-            entries.append(Entry(machine, values, row, cost))
+            cycles, rate = compared(space, rows, first)
+            entries.append(Entry(machine, values, rows, cost, cycles, rate))
     return entries
+
+
+def compared(space: Space, rows: Rows, first: Rows) -> tuple[float | None, float | None]:
+    """The cycles and the rate of a machine, given its rows and those of machine 1."""
+    if not space.is_suite:
+        return (rows[0].cycles, rows[0].rate) if rows[0] else (None, None)
+    cycles, others = whole_cycles(rows), whole_cycles(first)
+    if not len(cycles) == len(others) == len(rows):
+        return None, None
+    mean = geometric_mean(own / other for own, other in zip(cycles, others, strict=True))
+    return mean, 1 / mean
 
 
 def in_front(entries: list[Entry]) -> list[Entry]:
     """The best front of cost and cycles, the cheapest first."""
     whole = [entry for entry in entries if entry.is_whole and entry.cost is not None]
-    points = [(entry.cost or 0.0, entry.row.cycles or 0) for entry in whole]
+    points = [(entry.cost or 0.0, entry.cycles or 0) for entry in whole]
     return [whole[place] for place in front_of(points)]
 
 
 def write_table(path: Path, space: Space, entries: list[Entry], squashed: bool) -> None:
-    """Writes the table."""
-    front = {entry.machine.number for entry in in_front(entries)} if space.cost else set()
-    names = ["machine", *space.varied, "end", "cycles", "instructions", "instructions_per_cycle"]
+    """Writes the table of the runs. The cost stands beside what it is compared with."""
+    has_cost = space.cost is not None and not space.is_suite
+    front = numbers_in_front(entries) if has_cost else set()
+    names = ["machine", *space.varied, *(["image"] if space.is_suite else [])]
+    names += ["end", "cycles", "instructions", "instructions_per_cycle"]
     names += ["mispredicted", "icache_misses", "dcache_misses"]
     names += ["squashed"] if squashed else []
-    names += ["cost", "in_front"] if space.cost else []
-    text = io.StringIO()
-    writer = csv.writer(text, lineterminator="\n")
-    writer.writerow([*names, "reason"])
+    names += ["cost", "in_front"] if has_cost else []
+    lines: list[list[object]] = [[*names, "reason"]]
     for entry in entries:
-        row = entry.row
-        fields: list[object] = [entry.machine.number, *entry.machine.varied.values(), row.end]
-        fields += [row.cycles, row.instructions, decimals(row.rate)]
-        fields += [row.mispredicted, row.icache_misses, row.dcache_misses]
-        fields += [row.squashed] if squashed else []
-        if space.cost:
-            fields += [f"{entry.cost:.12g}", "yes" if entry.machine.number in front else "no"]
-        writer.writerow([*fields, row.reason])
+        for image, row in zip(space.images, entry.rows, strict=True):
+            if row is not None:
+                fields = machine_fields(entry) + ([image.name] if space.is_suite else [])
+                fields += row_fields(row, squashed)
+                fields += cost_fields(entry, front) if has_cost else []
+                lines.append([*fields, row.reason])
+    write_csv(path, lines)
+
+
+def write_means(path: Path, space: Space, entries: list[Entry]) -> None:
+    """Writes the table of a suite's machines."""
+    front = numbers_in_front(entries) if space.cost else set()
+    names: list[object] = ["machine", *space.varied, "relative_cycles"]
+    lines: list[list[object]] = [names + (["cost", "in_front"] if space.cost else [])]
+    for entry in entries:
+        fields = [*machine_fields(entry), decimals(entry.cycles)]
+        lines.append(fields + (cost_fields(entry, front) if space.cost else []))
+    write_csv(path, lines)
+
+
+def numbers_in_front(entries: list[Entry]) -> set[int]:
+    """The numbers of the machines of the best front."""
+    return {entry.machine.number for entry in in_front(entries)}
+
+
+def machine_fields(entry: Entry) -> list[object]:
+    """What a machine is, for a table."""
+    return [entry.machine.number, *entry.machine.varied.values()]
+
+
+def row_fields(row: Row, squashed: bool) -> list[object]:
+    """What a run gave, for a table."""
+    fields: list[object] = [row.end, row.cycles, row.instructions, decimals(row.rate)]
+    fields += [row.mispredicted, row.icache_misses, row.dcache_misses]
+    return fields + ([row.squashed] if squashed else [])
+
+
+def cost_fields(entry: Entry, front: set[int]) -> list[object]:
+    """What a machine costs, for a table."""
+    return [f"{entry.cost:.12g}", "yes" if entry.machine.number in front else "no"]
+
+
+def write_csv(path: Path, lines: list[list[object]]) -> None:
+    """Writes a table."""
+    text = io.StringIO()
+    csv.writer(text, lineterminator="\n").writerows(lines)
     write_whole(path, text.getvalue())
 
 
