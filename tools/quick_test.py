@@ -3,7 +3,7 @@
 
 It has to answer with the same bytes and the same status as PROGRAM, which the gate made of the same
 sources: on the examples, on refused words and on 50 made programs. QUICK is made first if it isn't
-named. Silent, with status 0, where all answers are the same; else a line for each that isn't.
+named. Silent, with status 0, where all answers are the same; else lines on the first that aren't.
 """
 
 import subprocess
@@ -17,6 +17,7 @@ EXAMPLES = REPOSITORY / "examples"
 SEEDS = range(1, 51)
 CYCLES = "--cycles=100000"
 SECONDS = 120
+MOST_SHOWN = 5
 REFUSED: list[list[str]] = [[], ["func"], ["func", "none"], ["run", __file__, __file__]]
 
 Answer = tuple[int, bytes, bytes]
@@ -82,8 +83,10 @@ def main(words: list[str]) -> int:
         quick = Path(words[1] if len(words) == 2 else f"{folder}/fast").absolute()
         fault = None if len(words) == 2 else make(quick)
         faults = [fault] if fault else compare(program, quick)
-    for fault in faults:
+    for fault in faults[:MOST_SHOWN]:
         print(f"quick_test: {fault}", file=sys.stderr)
+    if len(faults) > MOST_SHOWN:
+        print(f"quick_test: {len(faults)} answers differ in all", file=sys.stderr)
     return 1 if faults else 0
 
 
