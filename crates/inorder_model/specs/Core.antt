@@ -9,7 +9,7 @@ use Rattle.lane_model.specs.Demand.{lane_in, lane_place, lane_step_bound}
 use Rattle.lane_model.specs.Split.{LaneSplit}
 use Rattle.lane_laws.specs.SplitLaw.{lane_demand_run, IsLaneReached}
 use Rattle.split_core.specs.Along.{At, IsReachedOn}
-use Rattle.split_core.specs.Standing.{StandsOn}
+use Rattle.split_core.specs.Standing.{StandsOn, HoldsCommitted}
 use Rattle.split_core.specs.declared.state.SplitState.{SplitState}
 use Rattle.inorder_model.specs.declared.state.InorderState.{InorderState}
 use Rattle.inorder_model.specs.Standing.{IsInorder}
@@ -72,3 +72,15 @@ LaneGoesBack old new =
     (s : Setup) (x : LaneSplit) → IsInorder s → IsLaneReached s x → LaneSplitStandsFor s x old
     → is_boundary x.split ≡ true
     → ContentsStandFor s (lane s x.place.run.demand.machine.cycle).machine.arch new.func.contents
+
+-- Whatever state of its run it stood for, what it had committed stays in the one that follows from it in this way.
+abbrev pub LaneKeeps : {D : Type 0} → (Setup → LaneSplit → LaneSplit) → SplitState D InorderState → SplitState D InorderState → Type 0
+LaneKeeps follow old new =
+    (s : Setup) (x : LaneSplit) → IsInorder s → IsLaneReached s x → LaneSplitStandsFor s x old
+    → HoldsCommitted s x.split (follow s x).split old new
+
+-- and at the end of the run
+abbrev pub LaneKeepsToEnd : {D : Type 0} → SplitState D InorderState → SplitState D InorderState → Type 0
+LaneKeepsToEnd old new =
+    (s : Setup) (x : LaneSplit) → IsInorder s → IsLaneReached s x → LaneSplitStandsFor s x old
+    → (end : IsLaneEnded s new) → HoldsCommitted s x.split end.split.split old new

@@ -13,8 +13,9 @@ use std::marker::Model;
 ///
 /// It stands for a state of the in-order machine's split run of its setup. In whatever order its
 /// events come, at each boundary that state has the cycle, the counts and the committed state of
-/// the in-order machine. Once [`InorderCore::committed`] was called, nothing may be played any
-/// more: it stands for no state of the run then, and only its output is still of use.
+/// the in-order machine. What it has committed stays. Once [`InorderCore::committed`] was called,
+/// nothing may be played any more: it stands for no state of the run then, and only its output is
+/// still of use.
 #[derive(Drop)]
 pub struct InorderCore<D: Device> {
     state: SplitState<D, InorderSide>,
@@ -44,7 +45,7 @@ impl<D: Device> InorderCore<D> {
     ghost use Rattle.inorder_model.specs.Standing.{IsInorder};
     ghost use Rattle.inorder_model.specs.Core.{LaneSplitStandsFor, LaneLeads, LaneLeadsToEnd};
     ghost use Rattle.inorder_model.specs.Core.{TellsLaneBoundary, IsAtLaneBoundary, LaneReports};
-    ghost use Rattle.inorder_model.specs.Core.{LaneGoesBack};
+    ghost use Rattle.inorder_model.specs.Core.{LaneGoesBack, LaneKeeps, LaneKeepsToEnd};
 
     /// The core at the start of a run: nothing was computed, and nothing is under way. All memory
     /// of the run is taken here; a refusal drops what it was given.
@@ -63,15 +64,18 @@ impl<D: Device> InorderCore<D> {
         requires going { self.old.is_reported ≡ false }
         ensures played { LaneLeads (λ s. lane_played s (map event_in events.now)) self.old
             self.new }
+        ensures kept { LaneKeeps (λ s. lane_played s (map event_in events.now)) self.old self.new }
         ensures going { self.new.is_reported ≡ false }
     {
         self.state.play(events);
     }
 
     /// Whether it is at a boundary: the start of a cycle, or the end of the run, with no order in
-    /// hand or under way.
+    /// hand or under way. If so, [`InorderCore::committed`] may be called, unless it was.
     pub fn at_boundary(&self) -> bool
         ensures boundary { TellsLaneBoundary self.now result }
+        ensures here { result ≡ true → self.now.is_reported ≡ false
+            → IsAtLaneBoundary self.now }
     {
         self.state.at_boundary()
     }
@@ -81,6 +85,7 @@ impl<D: Device> InorderCore<D> {
     pub fn to_boundary(&mut self)
         requires going { self.old.is_reported ≡ false }
         ensures stands { LaneLeads lane_to_boundary self.old self.new }
+        ensures kept { LaneKeeps lane_to_boundary self.old self.new }
         ensures boundary { IsAtLaneBoundary self.new }
     {
         self.state.to_boundary();
@@ -92,6 +97,7 @@ impl<D: Device> InorderCore<D> {
     pub fn to_end(&mut self)
         requires going { self.old.is_reported ≡ false }
         ensures ended { LaneLeadsToEnd self.old self.new }
+        ensures kept { LaneKeepsToEnd self.old self.new }
         ensures boundary { IsAtLaneBoundary self.new }
     {
         self.state.play_on_demand();

@@ -1,9 +1,9 @@
 -- The rounds to a boundary come to one.
-use Rattle.std.proofs.Common.{◌≡◌, ℕ, zero, suc, ◌+◌, ◌*◌, ◌≤◌, ◌<◌, if◌then◌else◌, Bool, true, false, refl, sym, ◌∙◌, subst, arith, inl, inr, mul-add, mul-le-mul_left}
+use Rattle.std.proofs.Common.{◌≡◌, ℕ, zero, suc, ◌+◌, ◌*◌, ◌≤◌, ◌<◌, Bool, true, false, refl, sym, ◌∙◌, subst, arith, inl, inr, mul-add, mul-le-mul_left}
 use Rattle.std.proofs.lemmas.Bool.{cond_both}
 use Rattle.mono_model.specs.declared.setup.Setup.{Setup}
 use Rattle.mono_model.specs.Demand.{Place}
-use Rattle.mono_model.specs.Split.{Split, compute, push, obey, tick, take, send, may_tick, ticked_to, sent, event_at, is_place_boundary, is_boundary}
+use Rattle.mono_model.specs.Split.{Split, may_tick, ticked_to, sent, event_at, is_place_boundary, is_boundary}
 use Rattle.machine_laws.specs.SplitLaw.{IsListed}
 use Rattle.machine_laws.proofs.SplitArriving.{cost, rank, waits_most, still, ticks}
 use Rattle.machine_laws.proofs.SplitBoundary.{before_step, before_is}
@@ -13,23 +13,13 @@ use Rattle.lane_laws.specs.Rounds.{lane_round, lane_rounds_to_boundary, lane_bou
 use Rattle.lane_laws.specs.SplitLaw.{IsLaneReached}
 use Rattle.lane_laws.proofs.Laws.{lane_laws}
 use Rattle.lane_laws.proofs.Left.{lane_steps_left, lane_step_left, lane_place_left}
-use Rattle.lane_laws.proofs.SplitRun.{LaneKnown, event_lane_reached, reached_lane_known}
+use Rattle.lane_laws.proofs.SplitRun.{round_keeps, rounds_keep, LaneKnown, event_lane_reached, reached_lane_known}
 
-pub round_lane_reached : (s : Setup) (x : LaneSplit) → IsLaneReached s x → IsLaneReached s (lane_round s x)
-round_lane_reached s x reached =
-    let a = lane_event_at s push (lane_event_at s compute (lane_event_at s obey x)) in
-    let b = lane_event_at s take a in
-    let a_reached : IsLaneReached s a =
-    event_lane_reached s push (lane_event_at s compute (lane_event_at s obey x)) (event_lane_reached s compute (lane_event_at s obey x) (event_lane_reached s obey x reached)) in
-    let b_reached : IsLaneReached s b = event_lane_reached s take a a_reached in
-    event_lane_reached s send (if is_place_boundary b.split.place then b else lane_event_at s tick b)
-    (cond_both (is_place_boundary b.split.place) b (lane_event_at s tick b) (IsLaneReached s) (λ e. b_reached) (λ e. event_lane_reached s tick b b_reached))
+round_lane_reached : (s : Setup) (x : LaneSplit) → IsLaneReached s x → IsLaneReached s (lane_round s x)
+round_lane_reached s x reached = round_keeps s (IsLaneReached s) (event_lane_reached s) x reached
 
 pub boundary_lane_reached : (s : Setup) (rounds : ℕ) (x : LaneSplit) → IsLaneReached s x → IsLaneReached s (lane_rounds_to_boundary s rounds x)
-unfolding lane_rounds_to_boundary
-boundary_lane_reached s zero x reached = reached
-boundary_lane_reached s (suc more) x reached =
-    cond_both (is_boundary x.split) x (lane_rounds_to_boundary s more (lane_round s x)) (IsLaneReached s) (λ e. reached) (λ e. boundary_lane_reached s more (lane_round s x) (round_lane_reached s x reached))
+boundary_lane_reached s rounds x reached = rounds_keep s (IsLaneReached s) (event_lane_reached s) rounds x reached
 
 abbrev lane_rank : Setup → LaneSplit → ℕ
 lane_rank s x = rank s (lane_steps_left x.place) x.split

@@ -19,9 +19,11 @@ mod FirstEnd
 pub mod Laws
 pub mod SplitRun
 mod SplitRising
+pub mod SplitStaying
 pub mod Left
 pub mod Arriving
 pub mod Stopping
 pub mod SplitRanges
 pub mod Places
+mod Onward
 pub mod Leading

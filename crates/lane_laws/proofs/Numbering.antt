@@ -20,8 +20,8 @@ use Rattle.lane_laws.proofs.Leading.{moved_fewer}
 use Rattle.lane_laws.proofs.Stages.{Stands, stands_length, stands_room, start_stands, turn_stands}
 
 -- At each turn the orders are numbered, and the stages are in order.
-record IsWithin (s : Setup) (at : LaneAt) (d : Demand) (memory : Option ℕ) : Type 0 where
-  orders : IsOrderly s d.to_commit d.orders
+pub record IsWithin (s : Setup) (at : LaneAt) (d : Demand) (memory : Option ℕ) : Type 0 where
+  pub orders : IsOrderly s d.to_commit d.orders
   stands : Stands at d.machine.window memory
 
 module _ (s : Setup) (room : 4 ≤ s.params.core_window) where
@@ -62,7 +62,7 @@ module _ (s : Setup) (room : 4 ≤ s.params.core_window) where
       IsWithin s (lane_turn_at s at d memory).at (lane_turn_at s at d memory).demand (lane_turn_at s at d memory).memory
   turn_within at d memory is = record { orders = turn_orderly at d memory is; stands = turn_stands s at d memory is.stands }
 
-  place_within : (k : ℕ) → IsWithin s (lane_place s k).run.at (lane_place s k).run.demand (lane_place s k).run.memory
+  pub place_within : (k : ℕ) → IsWithin s (lane_place s k).run.at (lane_place s k).run.demand (lane_place s k).run.memory
   place_within = always s (IsWithin s) (record { orders = record { to_commit = refl; numbers = tt; kinds = tt }; stands = start_stands s }) turn_within
 
 -- the orders told are numbered as all of them are

@@ -12,7 +12,7 @@ use Rattle.lane_laws.specs.SplitLaw.{IsLaneReached}
 use Rattle.lane_laws.proofs.SplitRun.{reached_lane_run}
 
 -- the split state sees an event that leads to the next place
-event_split : (s : Setup) (e : Event) (x : LaneSplit) → (lane_event_at s e x).split ≡ event_to s (seen_of (lane_step s x.place)) e x.split
+pub event_split : (s : Setup) (e : Event) (x : LaneSplit) → (lane_event_at s e x).split ≡ event_to s (seen_of (lane_step s x.place)) e x.split
 unfolding lane_event_at event_at event_to
 event_split s compute x = refl
 event_split s push x = refl

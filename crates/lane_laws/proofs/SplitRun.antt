@@ -1,23 +1,45 @@
 -- The law of the split state of the in-order machine.
-use Rattle.std.proofs.Common.{◌≡◌, ℕ, suc, ◌≤◌, true, List, [], ◌∷◌, ◌++◌, refl, ap, sym, ◌∙◌, subst}
+use Rattle.std.proofs.Common.{◌≡◌, ℕ, zero, suc, ◌≤◌, if◌then◌else◌, true, List, [], ◌∷◌, ◌++◌, length, refl, ap, sym, ◌∙◌, subst}
 use Rattle.std.proofs.lemmas.Bool.{cond_both, cond-true}
 use Rattle.mono_model.specs.declared.setup.Setup.{Setup}
+use Rattle.mono_model.specs.Path.{path}
 use Rattle.mono_model.specs.Demand.{Place, told}
-use Rattle.mono_model.specs.Split.{Split, split_start, Event, compute, push, obey, tick, take, send, on_compute, pushed, on_obey, may_tick, ticked_to, on_take, sent, event_at}
+use Rattle.mono_model.specs.Split.{Split, split_start, Event, compute, push, obey, tick, take, send, on_compute, pushed, on_obey, may_tick, ticked_to, on_take, sent, event_at, is_place_boundary, is_boundary}
 use Rattle.machine_laws.specs.Output.{AreInRoom}
 use Rattle.machine_laws.proofs.Laws.{IsDemandRun}
 use Rattle.machine_laws.proofs.SplitEvents.{event_to}
-use Rattle.machine_laws.proofs.SplitOutput.{told_in_room}
+use Rattle.machine_laws.proofs.SplitOutput.{run_output, told_in_room}
 use Rattle.machine_laws.proofs.SplitRounds.{compute_side, push_side, obey_side, take_takes, send_sends}
 use Rattle.machine_laws.proofs.SplitRun.{Known, start_known, event_known, known_run}
 use Rattle.lane_model.specs.Demand.{LanePlace, lane_step, lane_place, seen_of, seen}
 use Rattle.lane_model.specs.Split.{LaneSplit, lane_split_start, lane_ticked_to, lane_beside, lane_event_at, lane_played, lane_run}
+use Rattle.lane_laws.specs.Rounds.{lane_round, lane_rounds_to_boundary}
 use Rattle.lane_laws.specs.Runs.{starts_cycle, IsLane}
 use Rattle.lane_laws.specs.SplitLaw.{lane_demand_run, IsLaneRun, IsLaneReached}
 use Rattle.lane_laws.proofs.Leading.{is_lane}
 use Rattle.lane_laws.proofs.Laws.{lane_laws}
 
--- What each event keeps.
+-- What each event keeps, events and the rounds to a boundary keep.
+module _ (s : Setup) (P : LaneSplit → Type 0) (by_event : (e : Event) (x : LaneSplit) → P x → P (lane_event_at s e x)) where
+  pub played_keeps : (events : List Event) (x : LaneSplit) → P x → P (lane_played s events x)
+  played_keeps [] x is = is
+  played_keeps (e ∷ events) x is = played_keeps events (lane_event_at s e x) (by_event e x is)
+
+  pub round_keeps : (x : LaneSplit) → P x → P (lane_round s x)
+  round_keeps x is =
+      let a = lane_event_at s push (lane_event_at s compute (lane_event_at s obey x)) in
+      let b = lane_event_at s take a in
+      let b_is : P b = by_event take a (by_event push (lane_event_at s compute (lane_event_at s obey x)) (by_event compute (lane_event_at s obey x) (by_event obey x is))) in
+      by_event send (if is_place_boundary b.split.place then b else lane_event_at s tick b)
+      (cond_both (is_place_boundary b.split.place) b (lane_event_at s tick b) P (λ at. b_is) (λ away. by_event tick b b_is))
+
+  pub rounds_keep : (n : ℕ) (x : LaneSplit) → P x → P (lane_rounds_to_boundary s n x)
+  unfolding lane_rounds_to_boundary
+  rounds_keep zero x is = is
+  rounds_keep (suc more) x is =
+      cond_both (is_boundary x.split) x (lane_rounds_to_boundary s more (lane_round s x)) P (λ at. is) (λ away. rounds_keep more (lane_round s x) (round_keeps x is))
+
+-- What holds of the split state along the in-order machine's demand run.
 pub record LaneKnown (s : Setup) (x : LaneSplit) : Type 0 where
   pub steps : ℕ
   pub at : x.place ≡ lane_place s steps
@@ -67,12 +89,8 @@ module _ (s : Setup) (laws : IsDemandRun s (lane_demand_run s)) where
     event_lane take = beside take (on_take x.split.entries x.split) refl refl (take_takes x.split.entries x.split).place
     event_lane send = beside send (sent x.split.hand x.split) refl refl (send_sends x.split.hand x.split).place
 
-  played_lane : (events : List Event) (x : LaneSplit) → LaneKnown s x → LaneKnown s (lane_played s events x)
-  played_lane [] x is = is
-  played_lane (e ∷ events) x is = played_lane events (lane_event_at s e x) (event_lane x is e)
-
   pub lane_known : (events : List Event) → LaneKnown s (lane_run s events)
-  lane_known events = played_lane events (lane_split_start s) start_lane
+  lane_known events = played_keeps s (LaneKnown s) (λ e x is. event_lane x is e) events (lane_split_start s) start_lane
 
   pub known_lane_run : (x : LaneSplit) → LaneKnown s x → IsLaneRun s x
   known_lane_run x is = record {
@@ -86,7 +104,11 @@ module _ (s : Setup) (laws : IsDemandRun s (lane_demand_run s)) where
 pub is_lane_run : (s : Setup) (events : List Event) → 4 ≤ s.params.core_window → IsLaneRun s (lane_run s events)
 is_lane_run s events room = let laws = lane_laws s room in known_lane_run s laws (lane_run s events) (lane_known s laws events)
 
--- what each order told commits has room in the output
+-- what is committed under the orders told has room in the output
+pub lane_told_output : (s : Setup) (k : ℕ) → 4 ≤ s.params.core_window → length (path s (told (seen s k)) (lane_place s k).run.demand.to_commit).output ≤ s.output
+lane_told_output s k room = run_output (lane_laws s room) k
+
+-- so has what each of them commits
 pub lane_orders_have_room : (s : Setup) (k : ℕ) → 4 ≤ s.params.core_window → AreInRoom s (told (seen s k))
 lane_orders_have_room s k room = told_in_room (lane_laws s room) k
 

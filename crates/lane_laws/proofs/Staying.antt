@@ -11,7 +11,7 @@ use Rattle.machine_laws.specs.Numbers.{last_commit}
 use Rattle.machine_laws.specs.Stays.{StaysBelow, StaysAt}
 use Rattle.machine_laws.proofs.Making.{AreLater}
 use Rattle.machine_laws.proofs.Reaching.{interrupt_count, redirect_count, try_count, if_one_more}
-use Rattle.machine_laws.proofs.Staying.{all_earlier, later_append, later_drop, drop_front, at_later, below_later, FirstFrom, first_of_one, commit_first, one_fewer, below_owed, commit_owed}
+use Rattle.machine_laws.proofs.Staying.{all_earlier, later_append, later_drop, drop_front, below_later, TellsLater, later_stays, FirstFrom, first_of_one, commit_first, one_fewer, below_owed, commit_owed}
 use Rattle.lane_model.specs.Lane.{in_execute}
 use Rattle.lane_model.specs.Write.{write_width, lane_commit}
 use Rattle.lane_model.specs.Execute.{moving_by, moving}
@@ -75,22 +75,23 @@ onto_on s k (suc j) =
 onto : (s : Setup) (k l : ℕ) → k ≤ l → Onto (lane_place s k) (lane_place s l)
 onto s k l later = let e : (l - k) + k ≡ l = omega arith in subst (λ (n : ℕ). Onto (lane_place s k) (lane_place s n)) e (onto_on s k (l - k))
 
--- From a place with all orders told on, only interrupts change the path at what is committed.
-pub stays_at : (s : Setup) (k l : ℕ) → (seen s k).owed ≡ 0 → k ≤ l → StaysAt s (seen s k) (seen s l)
-stays_at s k l settled later =
+-- What is told from a place with all orders told on speaks of what isn't committed there: only interrupts change the path
+-- at that.
+pub tells_later : (s : Setup) (k l : ℕ) → (seen s k).owed ≡ 0 → k ≤ l → TellsLater (seen s k) (seen s l)
+tells_later s k l settled later =
     let p : Place = seen s k in
     let q : Place = seen s l in
     let o = onto s k l later in
     let rest : told p ≡ p.run.demand.orders = ap (λ (n : ℕ). drop n p.run.demand.orders) settled in
-    let orders : told q ≡ drop q.owed o.later ++ told p =
-    ap (λ (os : List Order). drop q.owed os) o.orders ∙ drop_front q.owed o.later p.run.demand.orders (omega (arith, o.owed))
-    ∙ ap (λ (os : List Order). drop q.owed o.later ++ os) (sym rest) in
     record {
       later = drop q.owed o.later;
-      orders = orders;
-      state = ap (λ (os : List Order). path s os p.run.demand.to_commit) orders
-          ∙ at_later s p.run.demand.to_commit (drop q.owed o.later) (told p) (later_drop p.run.demand.to_commit q.owed o.later o.are);
+      orders = ap (λ (os : List Order). drop q.owed os) o.orders ∙ drop_front q.owed o.later p.run.demand.orders (omega (arith, o.owed))
+          ∙ ap (λ (os : List Order). drop q.owed o.later ++ os) (sym rest);
+      are = later_drop p.run.demand.to_commit q.owed o.later o.are;
     }
+
+pub stays_at : (s : Setup) (k l : ℕ) → (seen s k).owed ≡ 0 → k ≤ l → StaysAt s (seen s k) (seen s l)
+stays_at s k l settled later = later_stays s (seen s k) (seen s l) (tells_later s k l settled later)
 
 -- The orders of a turn that aren't told yet.
 tried_orders : (s : Setup) (d : Demand) → length (demand_try s (fetch_try s d.machine) d).orders ≤ length d.orders + 1

@@ -6,6 +6,7 @@
 
 mod counts;
 mod end;
+mod going_on;
 mod numbers;
 mod on_path;
 mod orders;
@@ -16,6 +17,7 @@ mod stays;
 
 pub use counts::counts_in_order_agree;
 pub use end::run_in_order_ends_once;
+pub use going_on::path_in_order_goes_on_by_execution;
 pub use numbers::{
     numbers_of_a_run_in_order_are_bounded, orders_in_order_are_numbered_within_the_window,
     output_in_order_stays_within_its_limit,
@@ -30,5 +32,9 @@ pub use runs::{
 pub use split_run::{
     boundaries_in_order_are_reached, committed_number_in_order_never_falls,
     split_core_runs_as_the_in_order_machine, split_states_in_order_are_reached,
+    what_the_split_core_commits_in_order_stays,
 };
-pub use stays::{committed_in_order_stays, what_orders_in_order_commit_has_room};
+pub use stays::{
+    committed_in_order_stays, output_told_in_order_stays_within_its_limit,
+    what_orders_in_order_commit_has_room,
+};

@@ -4,9 +4,11 @@
 ghost use Rattle.std.specs.Prelude.{◌≡◌, ℕ, ◌≤◌, true, List};
 ghost use Rattle.mono_model.specs.declared.setup.Setup.{Setup};
 ghost use Rattle.mono_model.specs.Setup.{is_setup};
-ghost use Rattle.mono_model.specs.Split.{Event, is_boundary};
+ghost use Rattle.mono_model.specs.Split.{Event, is_halted, is_boundary};
 ghost use Rattle.machine_laws.specs.SplitLaw.{IsRanged};
-ghost use Rattle.lane_model.specs.Split.{LaneSplit, lane_split_start, lane_event_at, lane_run};
+ghost use Rattle.machine_laws.specs.Stays.{CommittedStays};
+ghost use Rattle.lane_model.specs.Split.{LaneSplit, lane_split_start, lane_event_at, lane_played};
+ghost use Rattle.lane_model.specs.Split.{lane_run};
 ghost use Rattle.lane_laws.specs.SplitLaw.{IsLaneRun, IsLaneReached};
 ghost use Rattle.lane_laws.specs.Rounds.{lane_rounds_to_boundary, lane_to_boundary};
 
@@ -38,6 +40,19 @@ pub fn committed_number_in_order_never_falls()
     ensures rises { (s : Setup) (e : Event) (x : LaneSplit) → 4 ≤ s.params.core_window
         → IsLaneReached s x
         → x.split.committed_number ≤ (lane_event_at s e x).split.committed_number }
+{}
+
+/// What the functional side has committed stays, from a state that events lead to: after more
+/// events, after rounds to a boundary, and at the end of the run.
+#[tactic(auto, using(crate::proofs::SplitStaying::events_stay, crate::proofs::SplitStaying::rounds_stay, crate::proofs::SplitStaying::end_stays))]
+pub fn what_the_split_core_commits_in_order_stays()
+    ensures events { (s : Setup) (events : List Event) (x : LaneSplit) → 4 ≤ s.params.core_window
+        → IsLaneReached s x → CommittedStays s x.split (lane_played s events x).split }
+    ensures rounds { (s : Setup) (n : ℕ) (x : LaneSplit) → 4 ≤ s.params.core_window
+        → IsLaneReached s x → CommittedStays s x.split (lane_rounds_to_boundary s n x).split }
+    ensures end { (s : Setup) (x y : LaneSplit) → 1 ≤ s.cycles → 4 ≤ s.params.core_window
+        → IsLaneReached s x → IsLaneReached s y → is_halted y.split.place.run.at ≡ true
+        → is_boundary y.split ≡ true → CommittedStays s x.split y.split }
 {}
 
 /// Every state that events lead to is brought to a boundary by the rounds that are allowed for it.

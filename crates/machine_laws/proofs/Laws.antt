@@ -1,5 +1,6 @@
 -- What the law of the split state takes of a demand run.
-use Rattle.std.proofs.Common.{◌≡◌, ℕ, zero, suc, ◌+◌, ◌-◌, ◌≤◌, true, false, [], length, reverse, ap, sym, ◌∙◌, subst, arith}
+use Rattle.std.proofs.Common.{◌≡◌, ℕ, zero, suc, ◌+◌, ◌-◌, ◌≤◌, true, false, Option, Some, None, List, [], ◌++◌, length, reverse, refl, ap, sym, ◌∙◌, subst, arith}
+use Rattle.rollback_cmds.specs.declared.order.Order.{Order}
 use Rattle.mono_model.specs.declared.setup.Setup.{Setup}
 use Rattle.mono_model.specs.Path.{entry}
 use Rattle.mono_model.specs.Demand.{Place, place_start, told, prefix_with}
@@ -34,6 +35,31 @@ pub record IsDemandRun (s : Setup) (r : DemandRun) : Type 0 where
   pub by_cycles : (k : ℕ) → is_cycle_start (r.places k).run.at ≡ true → IsByCycles r.machines (r.places k)
   -- an entry of an epoch goes by the orders of the whole run
   pub named : (epoch n : ℕ) → r.entry_of epoch n ≡ entry s (prefix_with [] (reverse (told (r.places r.bound))) epoch) n
+
+-- later places have told more
+pub record Grows (p q : Place) : Type 0 where
+  pub later : List Order
+  pub orders : told q ≡ later ++ told p
+
+with_order_append : (o : Option Order) (xs ys : List Order) → with_order o (xs ++ ys) ≡ with_order o xs ++ ys
+with_order_append None xs ys = refl
+with_order_append (Some o) xs ys = refl
+
+module _ {s : Setup} {r : DemandRun} (laws : IsDemandRun s r) where
+  pub grows_on : (k j : ℕ) → Grows (r.places k) (r.places (j + k))
+  grows_on k zero = let e : k ≡ zero + k = omega arith in subst (λ (n : ℕ). Grows (r.places k) (r.places n)) e (record { later = []; orders = refl })
+  grows_on k (suc j) =
+      let e : suc (j + k) ≡ suc j + k = omega arith in
+      let was = grows_on k j in
+      let o = told_by (r.places (j + k)) (r.places (suc (j + k))) in
+      subst (λ (n : ℕ). Grows (r.places k) (r.places n)) e
+      (record {
+        later = with_order o was.later;
+        orders = laws.tells (j + k) ∙ ap (λ (os : List Order). with_order o os) was.orders ∙ with_order_append o was.later (told (r.places k));
+      })
+
+  pub grows_to : (k l : ℕ) → k ≤ l → Grows (r.places k) (r.places l)
+  grows_to k l later = let e : (l - k) + k ≡ l = omega arith in subst (λ (n : ℕ). Grows (r.places k) (r.places n)) e (grows_on k (l - k))
 
 -- where it has halted
 module _ {s : Setup} {r : DemandRun} (laws : IsDemandRun s r) where

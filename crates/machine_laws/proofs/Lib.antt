@@ -5,7 +5,7 @@ pub mod FirstEnd
 pub mod Laws
 pub mod Making
 mod MonoRun
-mod Onward
+pub mod Onward
 pub mod Phases
 pub mod Reaching
 pub mod SplitBoundary
@@ -21,6 +21,7 @@ pub mod SplitRising
 pub mod SplitRounds
 pub mod SplitRun
 mod SplitStale
+pub mod SplitStaying
 pub mod Staying
 pub mod Whole
 pub mod Bounds

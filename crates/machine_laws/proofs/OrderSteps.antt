@@ -1,5 +1,5 @@
 -- Each order of a run is told by a step, and what holds of the orders told holds of those in its list.
-use Rattle.std.proofs.Common.{◌≡◌, ◌⊎◌, ℕ, zero, suc, ◌+◌, ◌-◌, ◌*◌, ◌≤◌, true, Option, Some, None, List, [], ◌∷◌, ◌++◌, length, reverse, drop, refl, ap, sym, ◌∙◌, subst, arith, inl, inr, ⊎_elim, mul-le-mul, length-append}
+use Rattle.std.proofs.Common.{◌≡◌, ◌⊎◌, ℕ, zero, suc, ◌+◌, ◌*◌, ◌≤◌, true, Option, Some, None, List, [], ◌∷◌, ◌++◌, length, reverse, drop, refl, ap, sym, ◌∙◌, subst, arith, inl, inr, ⊎_elim, mul-le-mul, length-append}
 use Rattle.std.proofs.lemmas.List.{reverse-append, length-reverse}
 use Rattle.std.proofs.lemmas.Bool.{cases_lt}
 use Rattle.rollback_cmds.specs.declared.order.Order.{Order}
@@ -22,7 +22,9 @@ use Rattle.mono_model.specs.Sound.{IsSetup}
 use Rattle.mono_model.proofs.Sound.{setup_facts}
 use Rattle.machine_laws.proofs.Staying.{done_told}
 use Rattle.machine_laws.proofs.Telling.{step_told}
-use Rattle.machine_laws.proofs.Whole.{Grows, grows_on, orders_are}
+use Rattle.machine_laws.proofs.Laws.{Grows, grows_to}
+use Rattle.machine_laws.proofs.MonoRun.{mono_laws}
+use Rattle.machine_laws.proofs.Whole.{orders_are}
 
 -- an order in a list with one more behind it is in the list, or is that one
 some_same : (x y : Order) → Some x ≡ Some y → x ≡ y
@@ -73,13 +75,10 @@ same_list (o ∷ later) os is = absurd (omega (arith, length-append (o ∷ later
 as_many : (p q : Place) → Grows p q → length (told q) ≡ length (told p) → told q ≡ told p
 as_many p q grows is = grows.orders ∙ same_list grows.later (told p) (sym (ap (λ (os : List Order). length os) grows.orders) ∙ is)
 
-grows_to : (s : Setup) (k l : ℕ) → k ≤ l → Grows (place s k) (place s l)
-grows_to s k l later = let e : (l - k) + k ≡ l = omega arith in subst (λ (n : ℕ). Grows (place s k) (place s n)) e (grows_on s k (l - k))
-
 pub same_told : (s : Setup) (k l : ℕ) → length (told (place s l)) ≡ length (told (place s k)) → told (place s l) ≡ told (place s k)
 same_told s k l is = ⊎_elim
-    (λ less. sym (as_many (place s l) (place s k) (grows_to s l k (omega arith)) (sym is)))
-    (λ more. as_many (place s k) (place s l) (grows_to s k l (omega arith)) is) (cases_lt l k)
+    (λ less. sym (as_many (place s l) (place s k) (grows_to (mono_laws s) l k (omega arith)) (sym is)))
+    (λ more. as_many (place s k) (place s l) (grows_to (mono_laws s) k l (omega arith)) is) (cases_lt l k)
 
 pub order_told_behind : (s : Setup) (os : List Order) (o : Order) → AreTold s os → order s (length os) ≡ Some o → IsToldBehind s os o
 order_told_behind s os o are is =

@@ -23,7 +23,7 @@ unfolding split_start
 start_counted s = record { committed = refl; least = omega arith; most = omega arith; stopped = refl; on = λ e. tt }
 
 -- the orders obeyed are the oldest of those told
-hand_front : (h : Option Order) (os : List Order) → with_order h os ≡ hand_list h ++ os
+pub hand_front : (h : Option Order) (os : List Order) → with_order h os ≡ hand_list h ++ os
 hand_front None os = refl
 hand_front (Some o) os = refl
 
@@ -36,7 +36,7 @@ next_front x o os ordered e =
     ordered.orders ∙ hand_front x.hand (reverse x.listed_orders ++ x.obeyed) ∙ ap (λ (l : List Order). hand_list x.hand ++ l) (ap (λ (l : List Order). reverse l ++ x.obeyed) e ∙ obey_list o os x.obeyed)
     ∙ sym (append_assoc (hand_list x.hand) (reverse os) (o ∷ x.obeyed))
 
-numbered_behind : (s : Setup) (xs ys : List Order) → AreNumbered s (xs ++ ys) → AreNumbered s ys
+pub numbered_behind : (s : Setup) (xs ys : List Order) → AreNumbered s (xs ++ ys) → AreNumbered s ys
 numbered_behind s [] ys are = are
 numbered_behind s (o ∷ xs) ys are = numbered_behind s xs ys are.1
 

@@ -1,11 +1,11 @@
 -- Every event, and the rounds to a boundary, lead on to states that events lead to.
-use Rattle.std.proofs.Common.{◌≡◌, ℕ, zero, suc, if◌then◌else◌, List, [], ◌∷◌, ◌++◌, refl, ap, sym, ◌∙◌, subst}
-use Rattle.std.proofs.lemmas.Bool.{cond_both}
+use Rattle.std.proofs.Common.{◌≡◌, ℕ, List, [], ◌∷◌, ◌++◌, refl, ap, sym, ◌∙◌, subst}
 use Rattle.mono_model.specs.declared.setup.Setup.{Setup}
-use Rattle.mono_model.specs.Split.{Split, split_start, Event, compute, push, obey, tick, take, send, event_at, played, is_place_boundary, is_boundary, round, rounds_to_boundary}
+use Rattle.mono_model.specs.Split.{Split, split_start, Event, event_at, played, round, rounds_to_boundary}
 use Rattle.machine_laws.specs.Reached.{IsReached}
 use Rattle.machine_laws.specs.SplitLaw.{IsRun}
 use Rattle.machine_laws.specs.DemandRun.{mono_run}
+use Rattle.machine_laws.proofs.SplitEvents.{round_keeps, rounds_keep}
 use Rattle.machine_laws.proofs.SplitRun.{Known, mono_known, is_run}
 
 played_last : (s : Setup) (es : List Event) (e : Event) (x : Split) → played s (es ++ e ∷ []) x ≡ event_at s e (played s es x)
@@ -22,20 +22,10 @@ event_reached s e x reached = record {
 }
 
 pub round_reached : (s : Setup) (x : Split) → IsReached s x → IsReached s (round s x)
-round_reached s x reached =
-    let a = event_at s push (event_at s compute (event_at s obey x)) in
-    let b = event_at s take a in
-    let a_reached : IsReached s a =
-    event_reached s push (event_at s compute (event_at s obey x)) (event_reached s compute (event_at s obey x) (event_reached s obey x reached)) in
-    let b_reached : IsReached s b = event_reached s take a a_reached in
-    event_reached s send (if is_place_boundary b.place then b else event_at s tick b)
-    (cond_both (is_place_boundary b.place) b (event_at s tick b) (IsReached s) (λ e. b_reached) (λ e. event_reached s tick b b_reached))
+round_reached s x reached = round_keeps s (IsReached s) (event_reached s) x reached
 
 pub boundary_reached : (s : Setup) (rounds : ℕ) (x : Split) → IsReached s x → IsReached s (rounds_to_boundary s rounds x)
-unfolding rounds_to_boundary
-boundary_reached s zero x reached = reached
-boundary_reached s (suc more) x reached =
-    cond_both (is_boundary x) x (rounds_to_boundary s more (round s x)) (IsReached s) (λ e. reached) (λ e. boundary_reached s more (round s x) (round_reached s x reached))
+boundary_reached s rounds x reached = rounds_keep s (IsReached s) (event_reached s) rounds x reached
 
 pub known : (s : Setup) (x : Split) → IsReached s x → Known s (mono_run s) x
 known s x reached = subst (Known s (mono_run s)) (sym reached.is) (mono_known s reached.events)

@@ -145,22 +145,35 @@ onto_on s k (suc j) =
 pub onto : (s : Setup) (k l : ℕ) → k ≤ l → Onto (place s k) (place s l)
 onto s k l later = let e : (l - k) + k ≡ l = omega arith in subst (λ (n : ℕ). Onto (place s k) (place s n)) e (onto_on s k (l - k))
 
--- From a place with all orders told on, only interrupts change the path at what is committed.
-pub stays_at : (s : Setup) (k l : ℕ) → (place s k).owed ≡ 0 → k ≤ l → StaysAt s (place s k) (place s l)
-stays_at s k l settled later =
+-- What is told from a place with all orders told on speaks of what isn't committed there.
+pub record TellsLater (p q : Place) : Type 0 where
+  pub later : List Order
+  pub orders : told q ≡ later ++ told p
+  pub are : AreLater p.run.demand.to_commit later
+
+pub tells_later : (s : Setup) (k l : ℕ) → (place s k).owed ≡ 0 → k ≤ l → TellsLater (place s k) (place s l)
+tells_later s k l settled later =
     let p = place s k in
     let q = place s l in
     let o = onto s k l later in
     let rest : told p ≡ p.run.demand.orders = ap (λ (n : ℕ). drop n p.run.demand.orders) settled in
-    let orders : told q ≡ drop q.owed o.later ++ told p =
-    ap (λ (os : List Order). drop q.owed os) o.orders ∙ drop_front q.owed o.later p.run.demand.orders (omega (arith, o.owed))
-    ∙ ap (λ (os : List Order). drop q.owed o.later ++ os) (sym rest) in
     record {
       later = drop q.owed o.later;
-      orders = orders;
-      state = ap (λ (os : List Order). path s os p.run.demand.to_commit) orders
-          ∙ at_later s p.run.demand.to_commit (drop q.owed o.later) (told p) (later_drop p.run.demand.to_commit q.owed o.later o.are);
+      orders = ap (λ (os : List Order). drop q.owed os) o.orders ∙ drop_front q.owed o.later p.run.demand.orders (omega (arith, o.owed))
+          ∙ ap (λ (os : List Order). drop q.owed o.later ++ os) (sym rest);
+      are = later_drop p.run.demand.to_commit q.owed o.later o.are;
     }
+
+-- So only interrupts change the path at what is committed.
+pub later_stays : (s : Setup) (p q : Place) → TellsLater p q → StaysAt s p q
+later_stays s p q o = record {
+  later = o.later;
+  orders = o.orders;
+  state = ap (λ (os : List Order). path s os p.run.demand.to_commit) o.orders ∙ at_later s p.run.demand.to_commit o.later (told p) o.are;
+}
+
+pub stays_at : (s : Setup) (k l : ℕ) → (place s k).owed ≡ 0 → k ≤ l → StaysAt s (place s k) (place s l)
+stays_at s k l settled later = later_stays s (place s k) (place s l) (tells_later s k l settled later)
 
 -- The orders of a turn that aren't told yet: none is a Commit, and they speak of what isn't committed.
 abbrev pub IsOwed : ℕ → Order → Type 0

@@ -1,5 +1,5 @@
 -- The orders told up to a place are the first ones of the whole run's.
-use Rattle.std.proofs.Common.{◌≡◌, ℕ, zero, suc, ◌+◌, ◌-◌, ◌≤◌, ◌<◌, Option, Some, None, IfSome, List, [], ◌∷◌, ◌++◌, length, reverse, refl, ap, sym, ◌∙◌, subst, arith, ⊎_elim, append_assoc, append-nil}
+use Rattle.std.proofs.Common.{◌≡◌, ℕ, suc, ◌≤◌, ◌<◌, Option, Some, None, IfSome, List, [], ◌∷◌, ◌++◌, length, reverse, refl, ap, sym, ◌∙◌, arith, ⊎_elim, append_assoc, append-nil}
 use Rattle.std.proofs.lemmas.List.{reverse-append, length-reverse}
 use Rattle.std.proofs.lemmas.Bool.{cases_lt}
 use Rattle.rollback_cmds.specs.declared.order.Order.{Order}
@@ -7,29 +7,10 @@ use Rattle.mono_model.specs.declared.setup.Setup.{Setup}
 use Rattle.mono_model.specs.Demand.{Place, place, told, step_bound, orders, order_in, order}
 use Rattle.mono_model.specs.Split.{told_by}
 use Rattle.machine_laws.specs.Telling.{with_order}
+use Rattle.machine_laws.proofs.Laws.{grows_to}
+use Rattle.machine_laws.proofs.MonoRun.{mono_laws}
 use Rattle.machine_laws.proofs.Halting.{run_halts}
 use Rattle.machine_laws.proofs.Telling.{step_told}
-
--- later places have told more
-pub record Grows (p q : Place) : Type 0 where
-  pub later : List Order
-  pub orders : told q ≡ later ++ told p
-
-with_order_append : (o : Option Order) (xs ys : List Order) → with_order o (xs ++ ys) ≡ with_order o xs ++ ys
-with_order_append None xs ys = refl
-with_order_append (Some o) xs ys = refl
-
-pub grows_on : (s : Setup) (k j : ℕ) → Grows (place s k) (place s (j + k))
-grows_on s k zero = let e : k ≡ zero + k = omega arith in subst (λ (n : ℕ). Grows (place s k) (place s n)) e (record { later = []; orders = refl })
-grows_on s k (suc j) =
-    let e : suc (j + k) ≡ suc j + k = omega arith in
-    let was = grows_on s k j in
-    let o = told_by (place s (j + k)) (place s (suc (j + k))) in
-    subst (λ (n : ℕ). Grows (place s k) (place s n)) e
-    (record {
-      later = with_order o was.later;
-      orders = step_told s (j + k) ∙ ap (λ (os : List Order). with_order o os) was.orders ∙ with_order_append o was.later (told (place s k));
-    })
 
 -- the whole list begins with what is told
 pub record Begins (s : Setup) (p : Place) : Type 0 where
@@ -56,8 +37,7 @@ begins s k limited = ⊎_elim behind within (cases_lt (step_bound s) k)
 
     within : k ≤ bound → Begins s (place s k)
     within under =
-        let e : (bound - k) + k ≡ bound = omega arith in
-        let grows = subst (λ (n : ℕ). Grows (place s k) (place s n)) e (grows_on s k (bound - k)) in
+        let grows = grows_to (mono_laws s) k bound under in
         record {
           rest = reverse grows.later;
           orders = orders_are s ∙ ap (λ (os : List Order). reverse os) grows.orders ∙ reverse-append grows.later (told (place s k));

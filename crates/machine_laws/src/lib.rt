@@ -33,7 +33,7 @@ pub use runs::{
 };
 pub use split_run::{
     boundaries_are_reached, committed_number_never_falls, split_core_runs_as_the_machine,
-    split_states_are_reached,
+    split_states_are_reached, what_the_split_core_commits_stays,
 };
 pub use stays::{
     committed_stays, output_stays_within_its_limit, output_told_stays_within_its_limit,

@@ -1,13 +1,16 @@
 -- A core with the monolithic machine's timing side stands for a state of that machine's split run.
-use Rattle.std.proofs.Common.{◌≡◌, ◌≤◌, Bool, List, map, refl, ap, sym, ◌∙◌, subst}
+use Rattle.std.proofs.Common.{◌≡◌, ◌≤◌, Bool, true, List, map, refl, ap, sym, ◌∙◌, subst, arith}
 use Rattle.mono_model.specs.declared.setup.Setup.{Setup}
 use Rattle.mono_model.specs.declared.final_state.Final.{Final}
+use Rattle.mono_model.specs.Setup.{is_setup}
 use Rattle.mono_model.specs.Demand.{Place, place, step_bound}
 use Rattle.mono_model.specs.Cycle.{mono, final}
 use Rattle.mono_model.specs.Split.{Split, split_start, played, to_boundary, boundary_rounds, is_halted, is_boundary}
 use Rattle.mono_model.proofs.Sound.{setup_facts}
 use Rattle.machine_laws.specs.DemandRun.{mono_run}
+use Rattle.machine_laws.specs.Stays.{CommittedStays}
 use Rattle.machine_laws.proofs.Halting.{run_halts}
+use Rattle.machine_laws.proofs.SplitStaying.{events_stay, rounds_stay, end_stays}
 use Rattle.machine_laws.proofs.Stopping.{halted_last}
 use Rattle.func_model.specs.Contents.{ContentsStandFor}
 use Rattle.time_model.specs.declared.state.TimeState.{TimeState}
@@ -17,8 +20,10 @@ use Rattle.split_core.specs.Events.{event_in}
 use Rattle.split_core.specs.Along.{start_at, played_on, rounds_on}
 use Rattle.split_core.specs.AlongLaws.{start_reached_on, played_reached_on, rounds_reached_on}
 use Rattle.split_core.specs.TimeSide.{mono_timed}
-use Rattle.split_core.specs.TimeSideLaws.{mono_sees, mono_reached, played_mono, rounds_mono}
-use Rattle.split_core.specs.Standing.{StandsOn, LeadsOn, IsAtBoundaryOn, IsEndedOn, EndsOn, TellsBoundaryOn, ReportsOn, GoesBackOn, SplitStandsFor, Leads, IsAtBoundary, LeadsToEnd, TellsBoundary, Reports, GoesBack}
+use Rattle.split_core.specs.TimeSideLaws.{mono_laws, mono_sees, mono_reached, played_mono, rounds_mono}
+use Rattle.split_core.proofs.Standing.{Agrees, agrees}
+use Rattle.split_core.proofs.Playing.{told_at_boundary}
+use Rattle.split_core.specs.Standing.{StandsOn, LeadsOn, IsStandingOn, IsAtBoundaryOn, IsEndedOn, EndsOn, TellsBoundaryOn, ReportsOn, GoesBackOn, SplitStandsFor, Leads, IsAtBoundary, LeadsToEnd, TellsBoundary, Reports, GoesBack, HoldsCommitted, Keeps, KeepsToEnd}
 
 -- inside the core
 pub stands_inside : {D : Type 0} (inside value : SplitState D TimeState) → inside ≡ value → (s : Setup) (x : Split) → SplitStandsFor s x value → SplitStandsFor s x inside
@@ -91,6 +96,30 @@ module _ {D : Type 0} (inside value : SplitState D TimeState) (is : inside ≡ v
         boundary = ap is_boundary i.is ∙ at.boundary;
       }
 
+-- its functional side has the committed number of the state that it stands for
+committed_is : {D : Type 0} (s : Setup) (x : Split) (state : SplitState D TimeState) → is_setup s ≡ true → SplitStandsFor s x state → state.func.committed ≡ x.committed_number
+committed_is s x state sound h =
+    let same : Agrees h.at state = agrees mono_timed mono_laws s h.at state sound h.reached h.stands in
+    same.committed ∙ ap (λ (y : Split). y.committed_number) h.is
+
+holds : {D : Type 0} (s : Setup) (x y : Split) (old new : SplitState D TimeState) → is_setup s ≡ true → SplitStandsFor s x old → SplitStandsFor s y new → CommittedStays s x y → HoldsCommitted s x y old new
+holds s x y old new sound from to stays = record { number = omega (arith, committed_is s x old sound from, committed_is s y new sound to, stays.number); stays = stays }
+
+module _ {D : Type 0} (old new : SplitState D TimeState) where
+  pub plays_keep : (events : List Event) → Leads (λ s. played s (map event_in events)) old new → Keeps (λ s. played s (map event_in events)) old new
+  plays_keep events leads = λ s x sound reached h.
+      let es = map event_in events in
+      holds s x (played s es x) old new sound h (leads s x sound reached h) (events_stay s es x reached)
+
+  pub rounds_keep : Leads to_boundary old new → Keeps to_boundary old new
+  rounds_keep leads = λ s x sound reached h. holds s x (to_boundary s x) old new sound h (leads s x sound reached h) (rounds_stay s (boundary_rounds s) x reached)
+
+  pub end_keeps : KeepsToEnd old new
+  end_keeps = λ s x sound reached h end.
+      let limited : 1 ≤ s.cycles = (setup_facts s sound).some_cycle in
+      let over : is_halted end.split.place.run.at ≡ true = ap (λ (p : Place). is_halted p.run.at) end.place ∙ ap is_halted (run_halts s limited).at in
+      holds s x end.split old new sound h end.stands (end_stays s x end.split limited reached end.reached over end.boundary)
+
 pub at_mono_boundary : {D : Type 0} (state : SplitState D TimeState) → IsAtBoundaryOn mono_timed state → IsAtBoundary state
 at_mono_boundary state at = record {
   standing = record {
@@ -102,3 +131,9 @@ at_mono_boundary state at = record {
   };
   boundary = at.boundary;
 }
+
+-- a core that tells that it is at a boundary
+pub told_boundary : {D : Type 0} (inside value : SplitState D TimeState) → inside ≡ value → (answer : Bool) → TellsBoundaryOn mono_timed inside answer → answer ≡ true → IsStandingOn mono_timed inside → IsAtBoundary value
+told_boundary {D} inside value is answer told at standing =
+    let P : SplitState D TimeState → Type 0 = λ state. IsAtBoundary state in
+    subst P is (at_mono_boundary inside (told_at_boundary mono_timed inside answer told at standing))

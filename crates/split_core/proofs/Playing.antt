@@ -10,7 +10,7 @@ use Rattle.split_core.specs.declared.event.Event.{Event}
 use Rattle.split_core.specs.declared.state.SplitState.{SplitState}
 use Rattle.split_core.specs.Along.{At, event_on, played_on, IsReachedOn, round_on, rounds_on}
 use Rattle.split_core.specs.Timed.{Timed, IsTimed}
-use Rattle.split_core.specs.Standing.{StandsOn, LeadsOn, IsStandingOn, IsAtBoundaryOn, IsEndedOn}
+use Rattle.split_core.specs.Standing.{StandsOn, LeadsOn, IsStandingOn, IsAtBoundaryOn, IsEndedOn, TellsBoundaryOn}
 use Rattle.split_core.proofs.Standing.{sees}
 use Rattle.split_core.specs.AlongLaws.{event_reached_on, played_reached_on, round_reached_on, rounds_reached_on}
 use Rattle.machine_laws.specs.DemandRun.{DemandRun}
@@ -172,6 +172,13 @@ at_the_end timed laws old new st made =
       standing = record { setup = st.setup; sound = st.sound; split = ended.split; reached = ended.reached; stands = ended.stands };
       boundary = ended.boundary;
     }
+
+-- a core that stands for a state is at a boundary where it tells so
+pub told_at_boundary : {D T : Type 0} (timed : Timed T) (state : SplitState D T) (answer : Bool) → TellsBoundaryOn timed state answer → answer ≡ true → IsStandingOn timed state → IsAtBoundaryOn timed state
+told_at_boundary timed state answer told at standing = record {
+  standing = standing;
+  boundary = sym (told standing.setup standing.split standing.reached standing.stands) ∙ at;
+}
 
 -- whether it is at a boundary
 all_three : (a b c : Bool) → (a && (b && c)) ≡ (a && b && c)

@@ -1,5 +1,5 @@
 -- What the two sides with what is under way between them stand for: a state of the split machine.
-use Rattle.std.specs.Prelude.{◌≡◌, Bool, true, false}
+use Rattle.std.specs.Prelude.{◌≡◌, ◌≤◌, Bool, true, false}
 use Rattle.circular_buffer.specs.Buffer.{buffer}
 use Rattle.mono_model.specs.declared.setup.Setup.{Setup}
 use Rattle.mono_model.specs.Setup.{is_setup}
@@ -10,6 +10,7 @@ use Rattle.mono_model.specs.Cycle.{final, mono}
 use Rattle.mono_model.specs.Split.{Split, is_boundary, is_halted}
 use Rattle.machine_laws.specs.DemandRun.{mono_run}
 use Rattle.machine_laws.specs.Reached.{IsReached}
+use Rattle.machine_laws.specs.Stays.{CommittedStays}
 use Rattle.func_model.specs.Contents.{ContentsStandFor}
 use Rattle.func_model.specs.Walk.{WalkStandsFor}
 use Rattle.time_model.specs.declared.state.TimeState.{TimeState}
@@ -89,6 +90,13 @@ GoesBackOn timed old new =
     → is_boundary x.split ≡ true
     → ContentsStandFor s ((timed.run s).machines x.split.place.run.demand.machine.cycle).arch new.func.contents
 
+-- What the core has committed stays, from one state of its run to a later one.
+pub record HoldsCommitted {D T : Type 0} (s : Setup) (x y : Split) (old new : SplitState D T) : Type 0 where
+  -- its functional side takes back no number that it has committed
+  pub number : old.func.committed ≤ new.func.committed
+  -- nor anything of the path below it
+  pub stays : CommittedStays s x y
+
 -- The same of the monolithic machine's timing side, in its own split run.
 pub record SplitStandsFor {D : Type 0} (s : Setup) (x : Split) (state : SplitState D TimeState) : Type 0 where
   pub at : At
@@ -140,3 +148,15 @@ GoesBack old new =
     (s : Setup) (x : Split) → is_setup s ≡ true → IsReached s x → SplitStandsFor s x old
     → is_boundary x ≡ true
     → ContentsStandFor s (mono s x.place.run.demand.machine.cycle).arch new.func.contents
+
+-- Whatever state of its run it stood for, what it had committed stays in the one that follows from it in this way.
+abbrev pub Keeps : {D : Type 0} → (Setup → Split → Split) → SplitState D TimeState → SplitState D TimeState → Type 0
+Keeps follow old new =
+    (s : Setup) (x : Split) → is_setup s ≡ true → IsReached s x → SplitStandsFor s x old
+    → HoldsCommitted s x (follow s x) old new
+
+-- and at the end of the run
+abbrev pub KeepsToEnd : {D : Type 0} → SplitState D TimeState → SplitState D TimeState → Type 0
+KeepsToEnd old new =
+    (s : Setup) (x : Split) → is_setup s ≡ true → IsReached s x → SplitStandsFor s x old
+    → (end : IsEnded s new) → HoldsCommitted s x end.split old new

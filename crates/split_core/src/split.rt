@@ -14,8 +14,8 @@ use time_model::TimeSide;
 ///
 /// It stands for a state of the split run of its setup. In whatever order its events come, at each
 /// boundary that state has the cycle, the counts and the committed state of the monolithic machine.
-/// Once [`SplitCore::committed`] was called, nothing may be played any more: it stands for no state
-/// of the run then, and only its output is still of use.
+/// What it has committed stays. Once [`SplitCore::committed`] was called, nothing may be played any
+/// more: it stands for no state of the run then, and only its output is still of use.
 #[derive(Drop)]
 pub struct SplitCore<D: Device> {
     state: SplitState<D, TimeSide>,
@@ -44,7 +44,7 @@ impl<D: Device> SplitCore<D> {
     ghost use Rattle.func_model.specs.Contents.{output_in};
     ghost use Rattle.split_core.specs.Events.{event_in};
     ghost use Rattle.split_core.specs.Standing.{SplitStandsFor, Leads, LeadsToEnd, TellsBoundary};
-    ghost use Rattle.split_core.specs.Standing.{IsAtBoundary, Reports, GoesBack};
+    ghost use Rattle.split_core.specs.Standing.{IsAtBoundary, Reports, GoesBack, Keeps, KeepsToEnd};
 
     /// The core at the start of a run: nothing was computed, and nothing is under way. All memory
     /// of the run is taken here; a refusal drops what it was given.
@@ -62,15 +62,17 @@ impl<D: Device> SplitCore<D> {
     pub fn play(&mut self, events: &[Event])
         requires going { self.old.is_reported ≡ false }
         ensures played { Leads (λ s. played s (map event_in events.now)) self.old self.new }
+        ensures kept { Keeps (λ s. played s (map event_in events.now)) self.old self.new }
         ensures going { self.new.is_reported ≡ false }
     {
         self.state.play(events);
     }
 
     /// Whether it is at a boundary: the start of a cycle, or the end of the run, with no order in
-    /// hand or under way.
+    /// hand or under way. If so, [`SplitCore::committed`] may be called, unless it was.
     pub fn at_boundary(&self) -> bool
         ensures boundary { TellsBoundary self.now result }
+        ensures here { result ≡ true → self.now.is_reported ≡ false → IsAtBoundary self.now }
     {
         self.state.at_boundary()
     }
@@ -80,6 +82,7 @@ impl<D: Device> SplitCore<D> {
     pub fn to_boundary(&mut self)
         requires going { self.old.is_reported ≡ false }
         ensures stands { Leads to_boundary self.old self.new }
+        ensures kept { Keeps to_boundary self.old self.new }
         ensures boundary { IsAtBoundary self.new }
     {
         self.state.to_boundary();
@@ -91,6 +94,7 @@ impl<D: Device> SplitCore<D> {
     pub fn to_end(&mut self)
         requires going { self.old.is_reported ≡ false }
         ensures ended { LeadsToEnd self.old self.new }
+        ensures kept { KeepsToEnd self.old self.new }
         ensures boundary { IsAtBoundary self.new }
     {
         self.state.play_on_demand();

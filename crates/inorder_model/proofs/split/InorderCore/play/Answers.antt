@@ -5,7 +5,7 @@ use Rattle.split_core.specs.Standing.{IsStandingOn}
 use Rattle.inorder_model.specs.LaneTimed.{lane_timed}
 use Rattle.inorder_model.specs.LaneTimedLaws.{lane_timed_laws}
 use Rattle.split_core.proofs.Playing.{after_events}
-use Rattle.inorder_model.proofs.LaneCore.{plays}
+use Rattle.inorder_model.proofs.LaneCore.{plays, plays_keep}
 use Rattle.inorder_model.proofs.split.InorderCore.play.Given as given
 use Rattle.inorder_model.proofs.split.InorderCore.play.Goals as goal
 
@@ -18,6 +18,9 @@ invariant_of-self g c = λ going. standing g c
 
 pub returns-clause-played : goal.returns-clause-played
 returns-clause-played g c = plays c.self.inside.state c.args.self.now c.play.new.self c.self.view_is c.args.events.now c.play.ensures.played
+
+pub returns-clause-kept : goal.returns-clause-kept
+returns-clause-kept g c = plays_keep c.args.self.now c.play.new.self c.args.events.now (returns-clause-played g c)
 
 pub returns-clause-going : goal.returns-clause-going
 returns-clause-going g c = let is = standing g c in is.stands.going

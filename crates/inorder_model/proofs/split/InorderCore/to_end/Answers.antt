@@ -7,7 +7,7 @@ use Rattle.inorder_model.specs.LaneTimedLaws.{lane_timed_laws}
 use Rattle.split_core.specs.Standing.{EndsOn}
 use Rattle.split_core.proofs.Playing.{at_the_end}
 use Rattle.split_core.proofs.OnDemand.{plays_standing, ends_behind}
-use Rattle.inorder_model.proofs.LaneCore.{ends, at_lane_boundary}
+use Rattle.inorder_model.proofs.LaneCore.{ends, end_keeps, at_lane_boundary}
 use Rattle.inorder_model.proofs.split.InorderCore.to_end.Given as given
 use Rattle.inorder_model.proofs.split.InorderCore.to_end.Goals as goal
 
@@ -29,6 +29,9 @@ invariant_of-self g c = λ going. let is = arrived g c in is.standing
 
 pub returns-clause-ended : goal.returns-clause-ended
 returns-clause-ended g c = ends c.self.inside.state c.args.self.now c.to_end.new.self c.self.view_is (ended g c)
+
+pub returns-clause-kept : goal.returns-clause-kept
+returns-clause-kept g c = end_keeps c.args.self.now c.to_end.new.self
 
 pub returns-clause-boundary : goal.returns-clause-boundary
 returns-clause-boundary g c = at_lane_boundary c.to_end.new.self (arrived g c)

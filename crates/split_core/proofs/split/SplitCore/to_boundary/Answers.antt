@@ -5,7 +5,7 @@ use Rattle.split_core.specs.Standing.{IsAtBoundaryOn}
 use Rattle.split_core.specs.TimeSide.{mono_timed}
 use Rattle.split_core.specs.TimeSideLaws.{mono_laws}
 use Rattle.split_core.proofs.Playing.{at_next_boundary}
-use Rattle.split_core.proofs.Mono.{comes, at_mono_boundary}
+use Rattle.split_core.proofs.Mono.{comes, rounds_keep, at_mono_boundary}
 use Rattle.split_core.proofs.split.SplitCore.to_boundary.Given as given
 use Rattle.split_core.proofs.split.SplitCore.to_boundary.Goals as goal
 
@@ -18,6 +18,9 @@ invariant_of-self g c = λ going. let is = arrived g c in is.standing
 
 pub returns-clause-stands : goal.returns-clause-stands
 returns-clause-stands g c = comes c.self.inside.state c.args.self.now c.to_boundary.new.self c.self.view_is c.to_boundary.ensures.stands
+
+pub returns-clause-kept : goal.returns-clause-kept
+returns-clause-kept g c = rounds_keep c.args.self.now c.to_boundary.new.self (returns-clause-stands g c)
 
 pub returns-clause-boundary : goal.returns-clause-boundary
 returns-clause-boundary g c = at_mono_boundary c.to_boundary.new.self (arrived g c)
