@@ -1,3 +1,4 @@
 pub mod Hex
 pub mod Signed
 pub mod Fitting
+pub mod Names

@@ -1,2 +1,4 @@
 pub mod Number
+pub mod Mnemonic
+pub mod CsrName
 pub mod Text

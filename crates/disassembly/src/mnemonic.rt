@@ -2,11 +2,11 @@
 //! a row.
 ghost use Rattle.std.specs.Prelude.{◌≡◌, ◌≢◌, ◌≤◌, ◌<◌, ◌⊎◌, length};
 ghost use Rattle.std.specs.Bool.{OnTrue};
-ghost use Rattle.disassembly.specs.Text.{by_funct3, branches, loads, stores, products, csr_forms};
-ghost use Rattle.disassembly.specs.Text.{immediate_name, register_name};
+ghost use Rattle.disassembly.specs.Mnemonic.{by_funct3, branches, loads, stores, products, csr_forms};
+ghost use Rattle.disassembly.specs.Mnemonic.{immediate_name, register_name};
 
 /// BEQ to BGEU.
-#[tactic(auto, unfolding(crate::specs::Text::branches))]
+#[tactic(auto, unfolding(crate::specs::Mnemonic::branches))]
 pub fn branch(kind: u8) -> &'static [u8]
     requires row { (kind < 8) × (kind ≢ 2) × (kind ≢ 3) }
     ensures name { result.now ≡ by_funct3 branches kind }
@@ -24,7 +24,7 @@ pub fn branch(kind: u8) -> &'static [u8]
 }
 
 /// LB to LHU.
-#[tactic(auto, unfolding(crate::specs::Text::loads))]
+#[tactic(auto, unfolding(crate::specs::Mnemonic::loads))]
 pub fn load(kind: u8) -> &'static [u8]
     requires row { (kind < 6) × (kind ≢ 3) }
     ensures name { result.now ≡ by_funct3 loads kind }
@@ -41,7 +41,7 @@ pub fn load(kind: u8) -> &'static [u8]
 }
 
 /// SB, SH and SW.
-#[tactic(auto, unfolding(crate::specs::Text::stores))]
+#[tactic(auto, unfolding(crate::specs::Mnemonic::stores))]
 pub fn store(kind: u8) -> &'static [u8]
     requires row { kind < 3 }
     ensures name { result.now ≡ by_funct3 stores kind }
@@ -56,7 +56,7 @@ pub fn store(kind: u8) -> &'static [u8]
 }
 
 /// ADDI to ANDI.
-#[tactic(auto, unfolding(crate::specs::Text::immediate_forms))]
+#[tactic(auto, unfolding(crate::specs::Mnemonic::immediate_forms))]
 pub fn immediate_form(kind: u8, alt: bool) -> &'static [u8]
     requires row { kind < 8 }
     requires alternative { OnTrue alt (kind ≡ 5) }
@@ -78,7 +78,7 @@ pub fn immediate_form(kind: u8, alt: bool) -> &'static [u8]
 }
 
 /// ADD to AND.
-#[tactic(auto, unfolding(crate::specs::Text::register_forms))]
+#[tactic(auto, unfolding(crate::specs::Mnemonic::register_forms))]
 pub fn register_form(kind: u8, alt: bool) -> &'static [u8]
     requires row { kind < 8 }
     requires alternative { OnTrue alt ((kind ≡ 0) ⊎ (kind ≡ 5)) }
@@ -101,7 +101,7 @@ pub fn register_form(kind: u8, alt: bool) -> &'static [u8]
 }
 
 /// MUL to REMU.
-#[tactic(auto, unfolding(crate::specs::Text::products))]
+#[tactic(auto, unfolding(crate::specs::Mnemonic::products))]
 pub fn product(kind: u8) -> &'static [u8]
     requires row { kind < 8 }
     ensures name { result.now ≡ by_funct3 products kind }
@@ -121,7 +121,7 @@ pub fn product(kind: u8) -> &'static [u8]
 }
 
 /// CSRRW, CSRRS and CSRRC.
-#[tactic(auto, unfolding(crate::specs::Text::csr_forms))]
+#[tactic(auto, unfolding(crate::specs::Mnemonic::csr_forms))]
 pub fn csr_form(kind: u8) -> &'static [u8]
     requires row { (kind < 4) × (kind ≢ 0) }
     ensures name { result.now ≡ by_funct3 csr_forms kind }
@@ -136,7 +136,7 @@ pub fn csr_form(kind: u8) -> &'static [u8]
 }
 
 /// CSRRWI, CSRRSI and CSRRCI.
-#[tactic(auto, unfolding(crate::specs::Text::csr_forms))]
+#[tactic(auto, unfolding(crate::specs::Mnemonic::csr_forms))]
 pub fn csr_immediate_form(kind: u8) -> &'static [u8]
     requires row { (5 ≤ kind) × (kind < 8) }
     ensures name { result.now ≡ by_funct3 csr_forms kind }

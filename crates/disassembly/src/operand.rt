@@ -4,7 +4,8 @@ ghost use Rattle.std.specs.Prelude.{IfSome, MatchBool};
 ghost use Rattle.rv_decode.specs.Fits.{IsRegister, IsImmediate};
 ghost use Rattle.disassembly.specs.Number.{prefixed};
 ghost use Rattle.disassembly.specs.Text.{register, based, immediate_text, target, letter};
-ghost use Rattle.disassembly.specs.Text.{accesses, csr_text, name_at};
+ghost use Rattle.disassembly.specs.Text.{accesses, csr_text};
+ghost use Rattle.disassembly.specs.CsrName.{name_at};
 
 use crate::text::{LONGEST, WordText};
 use fsim_base::wrap_add;
@@ -115,7 +116,7 @@ pub fn csr(text: &mut WordText, csr: u16)
 }
 
 /// The name of the CSR at an address, if there is one.
-#[tactic(auto, unfolding(crate::specs::Text::name_at))]
+#[tactic(auto, unfolding(crate::specs::CsrName::name_at))]
 fn csr_name(csr: u16) -> Option<&'static [u8]>
     ensures name { option_map (λ name. name.now) result ≡ name_at csr }
     ensures len { IfSome result (λ name. length name.now ≤ 13) }

@@ -1,13 +1,13 @@
-//! The text of a word: a mnemonic, and operands behind it.
+//! The text of a word: a mnemonic, and its operands after it.
 ghost use Rattle.std.specs.Prelude.{◌≡◌, ◌≢◌, ◌+◌, ◌/◌, ◌^◌, ◌≤◌, ◌<◌, ◌==◌, ◌||◌, [], ◌∷◌, ◌++◌};
 ghost use Rattle.std.specs.Prelude.{length, codes, MatchBool};
 ghost use Rattle.std.specs.Bool.{OnTrue};
 ghost use Rattle.fsim_base.specs.Number.{bits_of};
 ghost use Rattle.rv_decode.specs.Fits.{Fits, IsRegister, IsImmediate};
 ghost use Rattle.disassembly.specs.Number.{hex, prefixed};
-ghost use Rattle.disassembly.specs.Text.{with_operands, insn_text, word_text, by_funct3, csr_forms};
-ghost use Rattle.disassembly.specs.Text.{immediate_name, register, based, target, accesses};
-ghost use Rattle.disassembly.specs.Text.{immediate_text, csr_text, source_text};
+ghost use Rattle.disassembly.specs.Mnemonic.{by_funct3, csr_forms, immediate_name};
+ghost use Rattle.disassembly.specs.Text.{with_operands, insn_text, word_text, register, based};
+ghost use Rattle.disassembly.specs.Text.{target, accesses, immediate_text, csr_text, source_text};
 
 use crate::text::{LONGEST, WordText};
 use crate::{mnemonic, operand};
@@ -38,7 +38,7 @@ fn write_number(word: u32, text: &mut WordText)
 }
 
 /// Writes the text of an instruction at an address.
-#[tactic(auto, unfolding(crate::specs::Text::mnemonic, crate::specs::Text::operands))]
+#[tactic(auto, unfolding(crate::specs::Mnemonic::mnemonic, crate::specs::Text::operands))]
 fn write_insn(addr: u32, insn: Insn, text: &mut WordText)
     requires fits { Fits insn }
     requires empty { text.old ≡ [] }
@@ -197,7 +197,7 @@ fn immediate(text: &mut WordText, kind: u8, alt: bool, registers: (u8, u8), imm:
     operand::immediate(text, kind, imm);
 }
 
-/// FENCE, with the accesses before it and behind it that it orders.
+/// FENCE, with the accesses before it and after it that it orders.
 fn fence(text: &mut WordText, upper: u16)
     requires empty { text.old ≡ [] }
     ensures text { text.new ≡ with_operands (codes "fence")
