@@ -24,7 +24,7 @@ onto-append (suc k) n acc = ⊎_elim
     (λ l. onto_next k n acc l ∙ onto-append k (n / 16) (last n ∷ acc) ∙ sym (append_assoc (onto k (n / 16) []) (last n ∷ []) acc) ∙ ap (λ x. x ++ acc) (sym (onto_next k n [] l ∙ onto-append k (n / 16) (last n ∷ []))))
     (cases_lt n 16)
 
--- one step more is none where the number has fewer digits
+-- one step more changes nothing if the number has no digit left for it
 onto_enough : (k n : ℕ) (acc : List ℕ) → n < 16 ^ suc k → onto (suc (suc k)) n acc ≡ onto (suc k) n acc
 onto_enough zero n acc h = onto_last 1 n acc (omega arith) ∙ sym (onto_last 0 n acc (omega arith))
 onto_enough (suc k) n acc h = ⊎_elim
@@ -50,6 +50,13 @@ hex_last width n h narrow = rw (digits_last n h) (rw none refl)
     none : width - 1 ≡ 0
     none = omega arith
 
+zeros_more : (k : ℕ) (digits_after : List ℕ) → 0 < k → replicate k 48 ++ digits_after ≡ (replicate (k - 1) 48 ++ 48 ∷ []) ++ digits_after
+zeros_more zero digits_after h = absurd (omega arith)
+zeros_more (suc k) digits_after h =
+    let before : suc k - 1 ≡ k = omega arith in
+    let again : k + 1 ≡ suc k = omega arith in
+    rw (before, replicate_more {X = ℕ} k 48, again) refl
+
 -- all digits but the last are those of a sixteenth
 pub hex_next : (width n : ℕ) → (16 ≤ n) ⊎ (1 < width) → n < 2 ^ 32 → hex width n ≡ hex (width - 1) (n / 16) ++ digit_glyph false (n % 16) ∷ []
 unfolding hex
@@ -64,10 +71,10 @@ hex_next width n more small = ⊎_elim by_zeros by_digits (cases_lt n 16)
     by_zeros : n < 16 → hex width n ≡ hex (width - 1) (n / 16) ++ last n ∷ []
     by_zeros h =
         let zero_left : n / 16 ≡ 0 = omega arith in
-        let fewer : width - 1 ≡ width - 1 - 1 + 1 = omega arith in
         let e : digits 16 false n ≡ last n ∷ [] = digits_last n h in
         let front : digits 16 false (n / 16) ≡ 48 ∷ [] = ap (digits 16 false) zero_left ∙ digits_last 0 (omega arith) in
-        rw (e, front) (ap (λ k. replicate k 48 ++ last n ∷ []) fewer ∙ ap (λ x. x ++ last n ∷ []) (sym (replicate_more (width - 1 - 1) 48)))
+        let some : 0 < width - 1 = omega arith in
+        rw (e, front) (zeros_more (width - 1) (last n ∷ []) some)
 
 hex_longer : (width n : ℕ) → (16 ≤ n) ⊎ (1 < width) → n < 2 ^ 32 → length (hex width n) ≡ length (hex (width - 1) (n / 16)) + 1
 hex_longer width n more small =

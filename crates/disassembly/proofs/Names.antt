@@ -11,15 +11,18 @@ use Rattle.disassembly.specs.Number.{Text}
 use Rattle.disassembly.specs.Mnemonic.{branches, loads, stores, immediate_forms, register_forms, products, csr_forms, mnemonic, mnemonics}
 use Rattle.disassembly.specs.CsrName.{csr_names, name_in, name_at}
 
-abbrev is_new : Text → List Text → Bool
-is_new name [] = true
-is_new name (other ∷ others) = not (bytes_eq name other) && is_new name others
+abbrev pub all_pass : (Text → Bool) → List Text → Bool
+all_pass test [] = true
+all_pass test (name ∷ names) = test name && all_pass test names
 
-abbrev are_apart : List Text → Bool
+abbrev pub is_new : Text → List Text → Bool
+is_new name = all_pass (λ other. not (bytes_eq name other))
+
+abbrev pub are_apart : List Text → Bool
 are_apart [] = true
 are_apart (name ∷ names) = is_new name names && are_apart names
 
-differ : (name other : Text) → not (bytes_eq name other) ≡ true → name ≢ other
+pub differ : (name other : Text) → not (bytes_eq name other) ≡ true → name ≢ other
 differ name other h e = search (rules, bytes_eq-Decides)
 
 new_differs : (name : Text) (others : List Text) → is_new name others ≡ true → All (λ other. name ≢ other) others

@@ -6,7 +6,7 @@ use Rattle.std.specs.Int.{w32, cast_signed}
 abbrev pub Text : Type 0
 Text = List ℕ
 
--- in hexadecimal digits, with zeros before them where they are fewer than `width`
+-- in hexadecimal digits, with zeros before them if they are fewer than `width`
 unfoldable pub hex : ℕ → ℕ → Text
 hex width number = let figures = digits 16 false number in replicate (width - length figures) 48 ++ figures
 

@@ -2,7 +2,7 @@
 -- The address that a jump or branch leads to has all its eight digits, and no `0x`. A word that is no instruction is
 -- `.word` and all its digits, and not `.4byte`. A FENCE is written by its bits 27 to 20 alone, and an empty set of
 -- accesses is `0`, and not `unknown`; each FENCE.I is `fence.i`. A CSR that is not in the machine's table is a number.
-use Rattle.std.specs.Prelude.{ℕ, ◌/◌, ◌^◌, ◌==◌, ◌||◌, nat_lt, if◌then◌else◌, false, List, [], ◌∷◌, ◌++◌, codes, decimal, unwrap_or}
+use Rattle.std.specs.Prelude.{ℕ, ◌/◌, ◌^◌, ◌==◌, ◌||◌, nat_lt, if◌then◌else◌, true, false, List, [], ◌∷◌, ◌++◌, codes, decimal, unwrap_or}
 use Rattle.std.specs.Int.{bit_at}
 use Rattle.std.specs.List.{join_with_byte}
 use Rattle.std.specs.Option.{option_map_or}
@@ -77,3 +77,9 @@ insn_text addr insn = with_operands (mnemonic insn) (operands addr insn)
 -- The text of a word at an address; a word that is no instruction is written as a number.
 unfoldable pub word_text : ℕ → ℕ → Text
 word_text addr word = option_map_or (insn_text addr) (decode_of word) (codes ".word 0x" ++ hex 8 word)
+
+-- What counts of an instruction: of a FENCE its two sets of accesses, of a FENCE.I no field, of all others each.
+abbrev pub what_counts : Insn → Insn
+what_counts (Fence rd rs1 upper false) = Fence 0 0 (bits_of upper 7 0) false
+what_counts (Fence rd rs1 upper true) = Fence 0 0 0 true
+what_counts insn = insn

@@ -9,6 +9,6 @@ mod tests;
 mod text;
 mod writing;
 
-pub use law::each_row_has_its_name;
+pub use law::{each_row_has_its_name, text_tells_the_instruction};
 pub use text::{LONGEST, WordText};
 pub use writing::write_text;

@@ -2,8 +2,8 @@
 //! a row.
 ghost use Rattle.std.specs.Prelude.{◌≡◌, ◌≢◌, ◌≤◌, ◌<◌, ◌⊎◌, length};
 ghost use Rattle.std.specs.Bool.{OnTrue};
-ghost use Rattle.disassembly.specs.Mnemonic.{by_funct3, branches, loads, stores, products, csr_forms};
-ghost use Rattle.disassembly.specs.Mnemonic.{immediate_name, register_name};
+ghost use Rattle.disassembly.specs.Mnemonic.{by_funct3, branches, loads, stores, products};
+ghost use Rattle.disassembly.specs.Mnemonic.{csr_forms, immediate_name, register_name};
 
 /// BEQ to BGEU.
 #[tactic(auto, unfolding(crate::specs::Mnemonic::branches))]

@@ -71,7 +71,7 @@ pub fn target(text: &mut WordText, addr: u32, imm: u32)
     text.hex(8, wrap_add(addr, imm));
 }
 
-/// A letter, where the bit at a place is set.
+/// A letter, if the bit at its place is set.
 fn letter(text: &mut WordText, set: u16, place: u32, name: &[u8])
     requires place { place < 4 }
     requires name { length name.now ≡ 1 }

@@ -111,7 +111,8 @@ static TEXTS: [(u32, &str); 106] = [
     (0x0000_3003, ".word 0x00003003"),
 ];
 
-/// Address, word and text: targets past both ends of the address space.
+/// Address, word and text: targets past the ends of the address space, for which objdump writes
+/// `0x8`, `0xfffffffc` and `0x4`.
 static WRAPPED: [(u32, u32, &str); 3] = [
     (0xffff_fff8, 0x0100_00ef, "jal x1,00000008"),
     (0x0000_0000, 0xffdf_f0ef, "jal x1,fffffffc"),

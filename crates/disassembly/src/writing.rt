@@ -13,7 +13,7 @@ use crate::text::{LONGEST, WordText};
 use crate::{mnemonic, operand};
 use rv_decode::{Insn, decode};
 
-/// Writes the text of a word at an address, in place of what was there.
+/// Writes the text of a word at an address, in place of what the buffer held. It takes no memory.
 #[tactic(auto, using(crate::proofs::Fitting::decoded_fits), unfolding(crate::specs::Text::word_text))]
 pub fn write_text(addr: u32, word: u32, text: &mut WordText)
     ensures text { text.new ≡ word_text addr word }
@@ -95,7 +95,7 @@ fn write_insn(addr: u32, insn: Insn, text: &mut WordText)
 }
 
 /// A mnemonic, and a register as the first operand.
-fn opening(text: &mut WordText, name: &[u8], first: u8)
+fn first_operand(text: &mut WordText, name: &[u8], first: u8)
     requires name { length name.now ≤ 6 }
     requires first { IsRegister first }
     requires empty { text.old ≡ [] }
@@ -115,7 +115,7 @@ fn upper(text: &mut WordText, name: &[u8], rd: u8, imm: u32)
     ensures text { text.new ≡ with_operands name.now (register rd ∷ prefixed (imm / 2 ^ 12) ∷ []) }
     ensures len { length text.new ≤ LONGEST }
 {
-    opening(text, name, rd);
+    first_operand(text, name, rd);
     text.byte(b',');
     operand::prefixed(text, imm >> 12);
 }
@@ -127,7 +127,7 @@ fn jump(text: &mut WordText, addr: u32, rd: u8, imm: u32)
     ensures text { text.new ≡ with_operands (codes "jal") (register rd ∷ target addr imm ∷ []) }
     ensures len { length text.new ≤ LONGEST }
 {
-    opening(text, b"jal", rd);
+    first_operand(text, b"jal", rd);
     text.byte(b',');
     operand::target(text, addr, imm);
 }
@@ -141,7 +141,7 @@ fn branch(text: &mut WordText, addr: u32, name: &[u8], sources: (u8, u8), imm: u
         (register sources.0 ∷ register sources.1 ∷ target addr imm ∷ []) }
     ensures len { length text.new ≤ LONGEST }
 {
-    opening(text, name, sources.0);
+    first_operand(text, name, sources.0);
     text.byte(b',');
     operand::register(text, sources.1);
     text.byte(b',');
@@ -158,7 +158,7 @@ fn offset(text: &mut WordText, name: &[u8], first: u8, imm: u32, rs1: u8)
     ensures text { text.new ≡ with_operands name.now (register first ∷ based imm rs1 ∷ []) }
     ensures len { length text.new ≤ LONGEST }
 {
-    opening(text, name, first);
+    first_operand(text, name, first);
     text.byte(b',');
     operand::based(text, imm, rs1);
 }
@@ -172,7 +172,7 @@ fn registers(text: &mut WordText, name: &[u8], rd: u8, rs1: u8, rs2: u8)
         (register rd ∷ register rs1 ∷ register rs2 ∷ []) }
     ensures len { length text.new ≤ LONGEST }
 {
-    opening(text, name, rd);
+    first_operand(text, name, rd);
     text.byte(b',');
     operand::register(text, rs1);
     text.byte(b',');
@@ -190,7 +190,7 @@ fn immediate(text: &mut WordText, kind: u8, alt: bool, registers: (u8, u8), imm:
         (register registers.0 ∷ register registers.1 ∷ immediate_text kind imm ∷ []) }
     ensures len { length text.new ≤ LONGEST }
 {
-    opening(text, mnemonic::immediate_form(kind, alt), registers.0);
+    first_operand(text, mnemonic::immediate_form(kind, alt), registers.0);
     text.byte(b',');
     operand::register(text, registers.1);
     text.byte(b',');
@@ -222,16 +222,16 @@ fn csr_access(text: &mut WordText, kind: u8, rd: u8, csr: u16, rs1: u8)
     ensures len { length text.new ≤ LONGEST }
 {
     if kind < 4 {
-        csr_opening(text, mnemonic::csr_form(kind), rd, csr);
+        before_source(text, mnemonic::csr_form(kind), rd, csr);
         operand::register(text, rs1);
     } else {
-        csr_opening(text, mnemonic::csr_immediate_form(kind), rd, csr);
+        before_source(text, mnemonic::csr_immediate_form(kind), rd, csr);
         text.decimal(rs1);
     }
 }
 
 /// All of a CSR instruction but its source.
-fn csr_opening(text: &mut WordText, name: &[u8], rd: u8, csr: u16)
+fn before_source(text: &mut WordText, name: &[u8], rd: u8, csr: u16)
     requires name { length name.now ≤ 6 }
     requires rd { IsRegister rd }
     requires csr { csr < 2 ^ 12 }
@@ -240,7 +240,7 @@ fn csr_opening(text: &mut WordText, name: &[u8], rd: u8, csr: u16)
         ++ codes "," }
     ensures len { length text.new ≤ length name.now + 19 }
 {
-    opening(text, name, rd);
+    first_operand(text, name, rd);
     text.byte(b',');
     operand::csr(text, csr);
     text.byte(b',');
