@@ -9,7 +9,7 @@ use Rattle.rv_decode.specs.declared.insn.Insn.{Insn}
 use Rattle.rv_decode.specs.declared.insn.Insn.TheVariants.{Lui, Auipc, Jal, Jalr, Branch, Load, Store, OpImm, Op, MulDiv, Ecall, Ebreak, Mret, Wfi, Csr}
 use Rattle.rv_decode.specs.Field.{rd_of, rs1_of, rs2_of, upper_of, i_immediate, s_immediate, b_immediate, u_immediate, j_immediate}
 use Rattle.rv_decode.specs.Fits.{Fits, IsImmediate, IsUpper}
-use Rattle.rv_decode.specs.Table.{Fixed, Row, row, has_fixed, table, r_format, i_format, s_format, b_format, u_format, j_format, shift_format, csr_format, fence_format, no_format}
+use Rattle.rv_decode.specs.Table.{Row, has_fixed, table, r_format, i_format, s_format, b_format, u_format, j_format, shift_format, csr_format, fence_format, no_format}
 use Rattle.rv_decode.specs.Decode.{decode_of}
 use Rattle.rv_decode.proofs.Found.{found, found-here, found-past}
 use Rattle.disassembly.specs.Number.{Text, hex, prefixed, signed}
@@ -98,121 +98,121 @@ fence_told upper upper' e =
     omega arith
 
 -- A row of the table: its mnemonic, and that operands tell what they show of the instruction.
-record Tells (r : Row) (name : Text) : Type 0 where
-  is_name : (word : ℕ) → mnemonic (r.insn word) ≡ name
-  same : (addr word other : ℕ) → Fits (r.insn word) → Fits (r.insn other)
-      → after_space (operands addr (r.insn word)) ≡ after_space (operands addr (r.insn other)) → what_counts (r.insn word) ≡ what_counts (r.insn other)
+record Tells (insn : ℕ → Insn) (name : Text) : Type 0 where
+  is_name : (word : ℕ) → mnemonic (insn word) ≡ name
+  same : (addr word other : ℕ) → Fits (insn word) → Fits (insn other)
+      → after_space (operands addr (insn word)) ≡ after_space (operands addr (insn other)) → what_counts (insn word) ≡ what_counts (insn other)
 
-lui : (fixed : List Fixed) → Tells (row fixed (u_format Lui)) (codes "lui")
+lui : Tells (u_format Lui) (codes "lui")
 unfolding mnemonic operands
-lui fixed = record {
+lui = record {
   is_name = λ word. refl;
   same = λ addr word other f g e.
       let (rd, imm) = upper_told (rd_of word) (u_immediate word) (rd_of other) (u_immediate other) f.0 f.1 g.0 g.1 e in cc;
 }
 
-auipc : (fixed : List Fixed) → Tells (row fixed (u_format Auipc)) (codes "auipc")
+auipc : Tells (u_format Auipc) (codes "auipc")
 unfolding mnemonic operands
-auipc fixed = record {
+auipc = record {
   is_name = λ word. refl;
   same = λ addr word other f g e.
       let (rd, imm) = upper_told (rd_of word) (u_immediate word) (rd_of other) (u_immediate other) f.0 f.1 g.0 g.1 e in cc;
 }
 
-jal : (fixed : List Fixed) → Tells (row fixed (j_format Jal)) (codes "jal")
+jal : Tells (j_format Jal) (codes "jal")
 unfolding mnemonic operands
-jal fixed = record {
+jal = record {
   is_name = λ word. refl;
   same = λ addr word other f g e.
       let (rd, imm) = jump_told addr (rd_of word) (j_immediate word) (rd_of other) (j_immediate other) f.0 (below_21 _ f.1.0) g.0 (below_21 _ g.1.0) e in cc;
 }
 
-jalr : (fixed : List Fixed) → Tells (row fixed (i_format Jalr)) (codes "jalr")
+jalr : Tells (i_format Jalr) (codes "jalr")
 unfolding mnemonic operands
-jalr fixed = record {
+jalr = record {
   is_name = λ word. refl;
   same = λ addr word other f g e.
       let (rd, imm, rs1) = offset_told (rd_of word) (i_immediate word) (rs1_of word) (rd_of other) (i_immediate other) (rs1_of other) f.0 (below_12 (i_immediate word) f.2) f.1 g.0 (below_12 (i_immediate other) g.2) g.1 e in cc;
 }
 
-branch : (fixed : List Fixed) (kind : ℕ) → Tells (row fixed (b_format (Branch kind))) (by_funct3 branches kind)
+branch : (kind : ℕ) → Tells (b_format (Branch kind)) (by_funct3 branches kind)
 unfolding mnemonic operands
-branch fixed kind = record {
+branch kind = record {
   is_name = λ word. refl;
   same = λ addr word other f g e.
       let (rs1, rs2, third) = third_told (rs1_of word) (rs2_of word) (target addr (b_immediate word)) (rs1_of other) (rs2_of other) (target addr (b_immediate other)) f.3 f.4 g.3 g.4 e in
       let imm : b_immediate word ≡ b_immediate other = target_tells addr (b_immediate word) (b_immediate other) (below_13 (b_immediate word) f.5.0) (below_13 (b_immediate other) g.5.0) third in cc;
 }
 
-load : (fixed : List Fixed) (kind : ℕ) → Tells (row fixed (i_format (Load kind))) (by_funct3 loads kind)
+load : (kind : ℕ) → Tells (i_format (Load kind)) (by_funct3 loads kind)
 unfolding mnemonic operands
-load fixed kind = record {
+load kind = record {
   is_name = λ word. refl;
   same = λ addr word other f g e.
       let (rd, imm, rs1) = offset_told (rd_of word) (i_immediate word) (rs1_of word) (rd_of other) (i_immediate other) (rs1_of other) f.2 (below_12 (i_immediate word) f.4) f.3 g.2 (below_12 (i_immediate other) g.4) g.3 e in cc;
 }
 
-store : (fixed : List Fixed) (kind : ℕ) → Tells (row fixed (s_format (Store kind))) (by_funct3 stores kind)
+store : (kind : ℕ) → Tells (s_format (Store kind)) (by_funct3 stores kind)
 unfolding mnemonic operands
-store fixed kind = record {
+store kind = record {
   is_name = λ word. refl;
   same = λ addr word other f g e.
       let (rs2, imm, rs1) = offset_told (rs2_of word) (s_immediate word) (rs1_of word) (rs2_of other) (s_immediate other) (rs1_of other) f.2 (below_12 (s_immediate word) f.3) f.1 g.2 (below_12 (s_immediate other) g.3) g.1 e in cc;
 }
 
-immediate : (fixed : List Fixed) (kind : ℕ) (alt : Bool) → Tells (row fixed (i_format (OpImm kind alt))) (immediate_name kind alt)
+immediate : (kind : ℕ) (alt : Bool) → Tells (i_format (OpImm kind alt)) (immediate_name kind alt)
 unfolding mnemonic operands
-immediate fixed kind alt = record {
+immediate kind alt = record {
   is_name = λ word. refl;
   same = λ addr word other f g e.
       let (rd, rs1, third) = third_told (rd_of word) (rs1_of word) (immediate_text kind (i_immediate word)) (rd_of other) (rs1_of other) (immediate_text kind (i_immediate other)) f.2 f.3 g.2 g.3 e in
       let imm : i_immediate word ≡ i_immediate other = immediate_tells kind (i_immediate word) (i_immediate other) f.4 g.4 third in cc;
 }
 
-shift : (fixed : List Fixed) (kind : ℕ) (alt : Bool) → Tells (row fixed (shift_format (OpImm kind alt))) (immediate_name kind alt)
+shift : (kind : ℕ) (alt : Bool) → Tells (shift_format (OpImm kind alt)) (immediate_name kind alt)
 unfolding mnemonic operands
-shift fixed kind alt = record {
+shift kind alt = record {
   is_name = λ word. refl;
   same = λ addr word other f g e.
       let (rd, rs1, third) = third_told (rd_of word) (rs1_of word) (immediate_text kind (bits_of word 24 20)) (rd_of other) (rs1_of other) (immediate_text kind (bits_of other 24 20)) f.2 f.3 g.2 g.3 e in
       let imm : bits_of word 24 20 ≡ bits_of other 24 20 = immediate_tells kind (bits_of word 24 20) (bits_of other 24 20) f.4 g.4 third in cc;
 }
 
-op : (fixed : List Fixed) (kind : ℕ) (alt : Bool) → Tells (row fixed (r_format (Op kind alt))) (register_name kind alt)
+op : (kind : ℕ) (alt : Bool) → Tells (r_format (Op kind alt)) (register_name kind alt)
 unfolding mnemonic operands
-op fixed kind alt = record {
+op kind alt = record {
   is_name = λ word. refl;
   same = λ addr word other f g e.
       let (rd, rs1, third) = third_told (rd_of word) (rs1_of word) (register (rs2_of word)) (rd_of other) (rs1_of other) (register (rs2_of other)) f.2 f.3 g.2 g.3 e in
       let rs2 : rs2_of word ≡ rs2_of other = register_tells (rs2_of word) (rs2_of other) f.4 g.4 third in cc;
 }
 
-product : (fixed : List Fixed) (kind : ℕ) → Tells (row fixed (r_format (MulDiv kind))) (by_funct3 products kind)
+product : (kind : ℕ) → Tells (r_format (MulDiv kind)) (by_funct3 products kind)
 unfolding mnemonic operands
-product fixed kind = record {
+product kind = record {
   is_name = λ word. refl;
   same = λ addr word other f g e.
       let (rd, rs1, third) = third_told (rd_of word) (rs1_of word) (register (rs2_of word)) (rd_of other) (rs1_of other) (register (rs2_of other)) f.1 f.2 g.1 g.2 e in
       let rs2 : rs2_of word ≡ rs2_of other = register_tells (rs2_of word) (rs2_of other) f.3 g.3 third in cc;
 }
 
-fence : (fixed : List Fixed) → Tells (row fixed (fence_format false)) (codes "fence")
+fence : Tells (fence_format false) (codes "fence")
 unfolding mnemonic operands
-fence fixed = record {
+fence = record {
   is_name = λ word. refl;
   same = λ addr word other f g e. let sets = fence_told (upper_of word) (upper_of other) e in cc;
 }
 
-fence_i : (fixed : List Fixed) → Tells (row fixed (fence_format true)) (codes "fence.i")
+fence_i : Tells (fence_format true) (codes "fence.i")
 unfolding mnemonic operands
-fence_i fixed = record { is_name = λ word. refl; same = λ addr word other f g e. refl }
+fence_i = record { is_name = λ word. refl; same = λ addr word other f g e. refl }
 
-alone : (fixed : List Fixed) (insn : Insn) → Tells (row fixed (no_format insn)) (mnemonic insn)
-alone fixed insn = record { is_name = λ word. refl; same = λ addr word other f g e. refl }
+alone : (insn : Insn) → Tells (no_format insn) (mnemonic insn)
+alone insn = record { is_name = λ word. refl; same = λ addr word other f g e. refl }
 
-csr : (fixed : List Fixed) (kind : ℕ) → Tells (row fixed (csr_format (Csr kind))) (by_funct3 csr_forms kind)
+csr : (kind : ℕ) → Tells (csr_format (Csr kind)) (by_funct3 csr_forms kind)
 unfolding mnemonic operands
-csr fixed kind = record {
+csr kind = record {
   is_name = λ word. refl;
   same = λ addr word other f g e.
       let (rd, address, rs1) = csr_told kind (rd_of word) (upper_of word) (rs1_of word) (rd_of other) (upper_of other) (rs1_of other) f.3 f.5 f.4 g.3 g.5 g.4 e in cc;
@@ -222,182 +222,26 @@ abbrev AllTell : List Row → List Text → Type 0
 AllTell [] [] = Unit {0}
 AllTell [] (name ∷ names) = ⊥
 AllTell (r ∷ rs) [] = ⊥
-AllTell (r ∷ rs) (name ∷ names) = Tells r name × AllTell rs names
+AllTell (r ∷ rs) (name ∷ names) = Tells r.insn name × AllTell rs names
+
+-- the proofs of a list of rows, one after the other
+infixr 5 ◌&◌
+abbrev ◌&◌ : {A B : Type 0} → A → B → A × B
+a & b = (a, b)
 
 table_tells : AllTell table (mnemonics 0)
 unfolding table mnemonic branches loads stores immediate_forms register_forms products csr_forms
-table_tells = (
-  lui _,
-  (
-    auipc _,
-    (
-      jal _,
-      (
-        jalr _,
-        (
-          branch _ 0,
-          (
-            branch _ 1,
-            (
-              branch _ 4,
-              (
-                branch _ 5,
-                (
-                  branch _ 6,
-                  (
-                    branch _ 7,
-                    (
-                      load _ 0,
-                      (
-                        load _ 1,
-                        (
-                          load _ 2,
-                          (
-                            load _ 4,
-                            (
-                              load _ 5,
-                              (
-                                store _ 0,
-                                (
-                                  store _ 1,
-                                  (
-                                    store _ 2,
-                                    (
-                                      immediate _ 0 false,
-                                      (
-                                        immediate _ 2 false,
-                                        (
-                                          immediate _ 3 false,
-                                          (
-                                            immediate _ 4 false,
-                                            (
-                                              immediate _ 6 false,
-                                              (
-                                                immediate _ 7 false,
-                                                (
-                                                  shift _ 1 false,
-                                                  (
-                                                    shift _ 5 false,
-                                                    (
-                                                      shift _ 5 true,
-                                                      (
-                                                        op _ 0 false,
-                                                        (
-                                                          op _ 0 true,
-                                                          (
-                                                            op _ 1 false,
-                                                            (
-                                                              op _ 2 false,
-                                                              (
-                                                                op _ 3 false,
-                                                                (
-                                                                  op _ 4 false,
-                                                                  (
-                                                                    op _ 5 false,
-                                                                    (
-                                                                      op _ 5 true,
-                                                                      (
-                                                                        op _ 6 false,
-                                                                        (
-                                                                          op _ 7 false,
-                                                                          (
-                                                                            product _ 0,
-                                                                            (
-                                                                              product _ 1,
-                                                                              (
-                                                                                product _ 2,
-                                                                                (
-                                                                                  product _ 3,
-                                                                                  (
-                                                                                    product _ 4,
-                                                                                    (
-                                                                                      product _ 5,
-                                                                                      (
-                                                                                        product _ 6,
-                                                                                        (
-                                                                                          product _ 7,
-                                                                                          (
-                                                                                            fence _,
-                                                                                            (
-                                                                                              fence_i _,
-                                                                                              (
-                                                                                                alone _ Ecall,
-                                                                                                (
-                                                                                                  alone _ Ebreak,
-                                                                                                  (
-                                                                                                    alone _ Mret,
-                                                                                                    (
-                                                                                                      alone _ Wfi,
-                                                                                                      (
-                                                                                                        csr _ 1,
-                                                                                                        (
-                                                                                                          csr _ 2,
-                                                                                                          (
-                                                                                                            csr _ 3,
-                                                                                                            (
-                                                                                                              csr _ 5,
-                                                                                                              (
-                                                                                                                csr _ 6,
-                                                                                                                (
-                                                                                                                  csr _ 7,
-                                                                                                                  tt,
-                                                                                                                ),
-                                                                                                              ),
-                                                                                                            ),
-                                                                                                          ),
-                                                                                                        ),
-                                                                                                      ),
-                                                                                                    ),
-                                                                                                  ),
-                                                                                                ),
-                                                                                              ),
-                                                                                            ),
-                                                                                          ),
-                                                                                        ),
-                                                                                      ),
-                                                                                    ),
-                                                                                  ),
-                                                                                ),
-                                                                              ),
-                                                                            ),
-                                                                          ),
-                                                                        ),
-                                                                      ),
-                                                                    ),
-                                                                  ),
-                                                                ),
-                                                              ),
-                                                            ),
-                                                          ),
-                                                        ),
-                                                      ),
-                                                    ),
-                                                  ),
-                                                ),
-                                              ),
-                                            ),
-                                          ),
-                                        ),
-                                      ),
-                                    ),
-                                  ),
-                                ),
-                              ),
-                            ),
-                          ),
-                        ),
-                      ),
-                    ),
-                  ),
-                ),
-              ),
-            ),
-          ),
-        ),
-      ),
-    ),
-  ),
-)
+table_tells =
+    lui & auipc & jal & jalr &
+    branch 0 & branch 1 & branch 4 & branch 5 & branch 6 & branch 7 &
+    load 0 & load 1 & load 2 & load 4 & load 5 &
+    store 0 & store 1 & store 2 &
+    immediate 0 false & immediate 2 false & immediate 3 false & immediate 4 false & immediate 6 false & immediate 7 false &
+    shift 1 false & shift 5 false & shift 5 true &
+    op 0 false & op 0 true & op 1 false & op 2 false & op 3 false & op 4 false & op 5 false & op 5 true & op 6 false & op 7 false &
+    product 0 & product 1 & product 2 & product 3 & product 4 & product 5 & product 6 & product 7 &
+    fence & fence_i & alone Ecall & alone Ebreak & alone Mret & alone Wfi &
+    csr 1 & csr 2 & csr 3 & csr 5 & csr 6 & csr 7 & tt
 
 -- what holds of each mnemonic holds of that of an instruction found
 found_passes : (test : Text → Bool) (word : ℕ) (rs : List Row) (names : List Text) (insn : Insn) → AllTell rs names → all_pass test names ≡ true
@@ -417,7 +261,7 @@ found_passes test word (r ∷ rs) (name ∷ names) insn t h e =
     by false p here later = later (sym (found-past word r rs p) ∙ e)
 
 -- two instructions found in one row
-same_row : (r : Row) (name : Text) (addr word other : ℕ) (i j : Insn) → Tells r name → i ≡ r.insn word → j ≡ r.insn other → Fits i → Fits j
+same_row : (r : Row) (name : Text) (addr word other : ℕ) (i j : Insn) → Tells r.insn name → i ≡ r.insn word → j ≡ r.insn other → Fits i → Fits j
     → after_space (operands addr i) ≡ after_space (operands addr j) → what_counts i ≡ what_counts j
 same_row r name addr word other i j t p q f g e =
     let first : Fits (r.insn word) = subst Fits p f in

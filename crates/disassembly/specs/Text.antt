@@ -1,7 +1,8 @@
 -- The text of an instruction word: what GNU objdump 2.40 writes of it with `-M numeric,no-aliases`, but for this.
--- The address that a jump or branch leads to has all its eight digits, and no `0x`. A word that is no instruction is
--- `.word` and all its digits, and not `.4byte`. A FENCE is written by its bits 27 to 20 alone, and an empty set of
--- accesses is `0`, and not `unknown`; each FENCE.I is `fence.i`. A CSR that is not in the machine's table is a number.
+-- A space stands before the operands, and not a tab. The address that a jump or a branch leads to has all its eight
+-- digits, and no `0x`. A word that is no instruction of this machine is `.word` and all its digits. A FENCE is written by
+-- its bits 27 to 20 alone, and an empty set of accesses is `0`, and not `unknown`; each FENCE.I is `fence.i`. A CSR that
+-- is not in the table of CSRs is a number.
 use Rattle.std.specs.Prelude.{ℕ, ◌/◌, ◌^◌, ◌==◌, ◌||◌, nat_lt, if◌then◌else◌, true, false, List, [], ◌∷◌, ◌++◌, codes, decimal, unwrap_or}
 use Rattle.std.specs.Int.{bit_at}
 use Rattle.std.specs.List.{join_with_byte}
