@@ -1,0 +1,12 @@
+/// Where in a packet the next byte comes.
+#[derive(Clone, Copy, Debug, PartialEq, Eq)]
+pub(crate) enum Place {
+    /// Between packets.
+    Outside,
+    /// Behind the `$`.
+    Content,
+    /// The sum's first digit.
+    First,
+    /// Its second digit, behind this byte.
+    Second(u8),
+}
