@@ -1,9 +1,9 @@
 -- The bytes that a debugger sends, one after the other (GDB manual, "Remote Protocol", "Overview",
 -- "Packet Acknowledgment").
-use Rattle.std.specs.Prelude.{ℕ, ◌==◌, Bool, true, false, List, [], ◌∷◌, ◌++◌, if◌then◌else◌}
+use Rattle.std.specs.Prelude.{◌≡◌, ℕ, ◌==◌, ◌&&◌, not, Bool, true, false, List, [], ◌∷◌, ◌++◌, if◌then◌else◌}
 use Rattle.std.specs.Prelude.{Option, Some, None}
-use Rattle.std.specs.Option.{option_map_or}
-use Rattle.gdb_packets.specs.Frame.{checksum}
+use Rattle.std.specs.Option.{option_map_or, option_to_list}
+use Rattle.gdb_packets.specs.Frame.{checksum, frame}
 use Rattle.gdb_packets.specs.Hexadecimal.{number_in}
 use Rattle.gdb_packets.specs.declared.place.Place.{Place}
 use Rattle.gdb_packets.specs.declared.place.Place.TheVariants.{Outside, Content, First, Second}
@@ -72,3 +72,22 @@ acknowledgment false Damaged = 45 ∷ []
 abbrev pub is_answered : Bool → Arrival → Bool
 is_answered quiet Whole = true
 is_answered quiet Damaged = quiet
+
+-- the stream behind bytes
+unfoldable pub after : Stream → List ℕ → Stream
+after s [] = s
+after s (byte ∷ bytes) = after (next s byte) bytes
+
+-- the packets that end with them
+unfoldable pub arrivals : Stream → List ℕ → List Arrival
+arrivals s [] = []
+arrivals s (byte ∷ bytes) = option_to_list (arrival s byte) ++ arrivals (next s byte) bytes
+
+-- a byte that is neither `$` nor `#`
+abbrev pub is_plain : ℕ → Bool
+is_plain byte = not (byte == 36) && not (byte == 35)
+
+-- outside a packet, the frame of a content is one whole packet with this content
+pub record IsReceived (s : Stream) (content : List ℕ) : Type 0 where
+  pub one : arrivals s (frame content) ≡ Whole ∷ []
+  pub behind : after s (frame content) ≡ record { place = Outside; content = content }

@@ -5,6 +5,7 @@
 
 mod arrival;
 mod hex_bytes;
+mod law;
 mod number;
 mod packet;
 mod parsing;
@@ -16,6 +17,7 @@ mod tests;
 
 pub use arrival::Arrival;
 pub use hex_bytes::HexBytes;
+pub use law::frame_is_received;
 pub use packet::{CONTENT_LIMIT, Packet, Point, PointKind};
 pub use parsing::parse;
 pub use receiver::Receiver;
