@@ -97,7 +97,7 @@ length-more n large small =
     let parts = length-append (digits 16 false (n / 16)) (digit_glyph false (n % 16) ∷ []) in
     ap length (digits-more n large small) ∙ parts
 
--- the last digit behind a text and the others
+-- the last digit after a text and the other digits
 pub written-more : (text : List ℕ) (n digit : ℕ) → 16 ≤ n → n < 2 ^ 64 → digit ≡ digit_glyph false (n % 16) → (text ++ digits 16 false (n / 16)) ++ digit ∷ [] ≡ text ++ digits 16 false n
 written-more text n digit large small is =
     append_assoc text (digits 16 false (n / 16)) (digit ∷ [])

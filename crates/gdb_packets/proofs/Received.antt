@@ -108,7 +108,7 @@ received s content outside plain =
           ap (λ (t : Stream). arrivals t (frame content)) (from_outside s outside)
           ∙ ap (arrivals (record { place = Outside; content = s.content })) (spelled content)
           ∙ arrivals-begun s.content (content ++ tail) ∙ arrivals-plain [] content tail plain ∙ arrivals-end content;
-      behind =
+      stream =
           ap (λ (t : Stream). after t (frame content)) (from_outside s outside)
           ∙ ap (after (record { place = Outside; content = s.content })) (spelled content)
           ∙ after-begun s.content (content ++ tail) ∙ after-plain [] content tail plain ∙ after-end content;

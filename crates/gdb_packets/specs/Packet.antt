@@ -17,15 +17,15 @@ infixl 10 ◌>>=◌
 abbrev pub ◌>>=◌ : {A B : Type 0} → Option A → (A → Option B) → Option B
 o >>= next = option_and_then next o
 
--- what stands before and behind the first such byte
+-- what stands before and after the first such byte
 abbrev pub parted : ℕ → List ℕ → Option (List ℕ × List ℕ)
 parted mark word =
     option_map (λ place. (take place word, drop (place + 1) word))
     (position (λ byte. byte == mark) word)
 
--- what stands behind a text, where a word begins with it
-unfoldable pub behind : List ℕ → List ℕ → Option (List ℕ)
-behind text word =
+-- what follows a text, if a word begins with it
+unfoldable pub after_text : List ℕ → List ℕ → Option (List ℕ)
+after_text text word =
     if bytes_eq (take (length text) word) text then Some (drop (length text) word) else None
 
 -- two numbers with a comma between them
@@ -87,7 +87,7 @@ memory_write_in rest = do
   bytes ← bytes_in parts.1
   Some (packet.WriteMemory numbers.0 numbers.1 bytes)
 
--- `c` and `s` alone, `C` and `S` with two bytes behind them, which a signal's number would be, and
+-- `c` and `s` alone, `C` and `S` with two bytes, which a signal's number would be, and
 -- `rA,B`
 abbrev pub action_in : List ℕ → Option Packet
 action_in [] = None
@@ -150,7 +150,7 @@ or_malformed read = unwrap_or read packet.Malformed
 abbrev pub formed_by : List Form → List ℕ → Option Packet
 formed_by [] content = None
 formed_by (row ∷ rows) content =
-    option_or (option_map (λ rest. or_malformed (row.read rest)) (behind row.text content))
+    option_or (option_map (λ rest. or_malformed (row.read rest)) (after_text row.text content))
     (formed_by rows content)
 
 abbrev pub letter_packet : List ℕ → Option Packet
@@ -172,7 +172,7 @@ point_kind digit =
 -- `,A,L` of a point
 abbrev pub point_in : PointKind → List ℕ → Option Point
 point_in kind rest = do
-  word ← behind (codes ",") rest
+  word ← after_text (codes ",") rest
   numbers ← numbers_in word
   Some (record { kind = kind; address = numbers.0; size = numbers.1 })
 

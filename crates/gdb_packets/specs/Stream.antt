@@ -41,7 +41,7 @@ by_place Content s byte = inside s byte
 by_place First s byte = record s { place = Second byte }
 by_place (Second high) s byte = record s { place = Outside }
 
--- the stream behind a byte
+-- the stream after a byte
 abbrev pub next : Stream → ℕ → Stream
 next s byte = by_place s.place s byte
 
@@ -73,7 +73,7 @@ abbrev pub is_answered : Bool → Arrival → Bool
 is_answered quiet Whole = true
 is_answered quiet Damaged = quiet
 
--- the stream behind bytes
+-- the stream after bytes
 unfoldable pub after : Stream → List ℕ → Stream
 after s [] = s
 after s (byte ∷ bytes) = after (next s byte) bytes
@@ -90,4 +90,4 @@ is_plain byte = not (byte == 36) && not (byte == 35)
 -- outside a packet, the frame of a content is one whole packet with this content
 pub record IsReceived (s : Stream) (content : List ℕ) : Type 0 where
   pub one : arrivals s (frame content) ≡ Whole ∷ []
-  pub behind : after s (frame content) ≡ record { place = Outside; content = content }
+  pub stream : after s (frame content) ≡ record { place = Outside; content = content }

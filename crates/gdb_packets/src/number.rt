@@ -20,7 +20,7 @@ pub(crate) fn number_in(word: &[u8]) -> Option<u64>
     Some(number)
 }
 
-/// What stands before and behind the first such byte.
+/// What stands before and after the first such byte.
 pub(crate) fn parted(mark: u8, word: &[u8]) -> Option<(&[u8], &[u8])>
     ensures parts { option_map (λ parts. (parts.0.now, parts.1.now)) result ≡ parted mark word.now }
 {

@@ -1,7 +1,7 @@
 //! What the content of a packet asks for.
 ghost use Rattle.std.specs.Option.{option_copied};
 ghost use Rattle.std.specs.Prelude.{◌≡◌, position};
-ghost use Rattle.gdb_packets.specs.Packet.{action_in, actions_in, behind, description_in};
+ghost use Rattle.gdb_packets.specs.Packet.{action_in, actions_in, after_text, description_in};
 ghost use Rattle.gdb_packets.specs.Packet.{ends_action, known_packet, letter_packet, memory_in};
 ghost use Rattle.gdb_packets.specs.Packet.{memory_write_in, monitor_in, named_packet, or_malformed};
 ghost use Rattle.gdb_packets.specs.Packet.{packet_of, plain_packet, point_in, point_kind};
@@ -104,7 +104,7 @@ fn point_kind(digit: u8) -> Option<PointKind>
 fn point_in(kind: PointKind, rest: &[u8]) -> Option<Point>
     ensures point { result ≡ point_in kind rest.now }
 {
-    let (address, size) = numbers_in(behind(b",", rest)?)?;
+    let (address, size) = numbers_in(after_text(b",", rest)?)?;
     Some(Point {
         kind,
         address,
@@ -116,13 +116,13 @@ fn point_in(kind: PointKind, rest: &[u8]) -> Option<Point>
 fn letter_packet(content: &[u8]) -> Option<Packet<'_>>
     ensures packet { result ≡ letter_packet content.now }
 {
-    if let Some(rest) = behind(b"p", content) {
+    if let Some(rest) = after_text(b"p", content) {
         Some(or_malformed(register_in(rest)))
-    } else if let Some(rest) = behind(b"P", content) {
+    } else if let Some(rest) = after_text(b"P", content) {
         Some(or_malformed(register_write_in(rest)))
-    } else if let Some(rest) = behind(b"m", content) {
+    } else if let Some(rest) = after_text(b"m", content) {
         Some(or_malformed(memory_in(rest)))
-    } else if let Some(rest) = behind(b"M", content) {
+    } else if let Some(rest) = after_text(b"M", content) {
         Some(or_malformed(memory_write_in(rest)))
     } else {
         None
@@ -133,23 +133,23 @@ fn letter_packet(content: &[u8]) -> Option<Packet<'_>>
 fn named_packet(content: &[u8]) -> Option<Packet<'_>>
     ensures packet { result ≡ named_packet content.now }
 {
-    if let Some(rest) = behind(b"vCont;", content) {
+    if let Some(rest) = after_text(b"vCont;", content) {
         Some(or_malformed(actions_in(rest)))
-    } else if let Some(rest) = behind(b"qXfer:features:read:target.xml:", content) {
+    } else if let Some(rest) = after_text(b"qXfer:features:read:target.xml:", content) {
         Some(or_malformed(description_in(rest)))
-    } else if let Some(rest) = behind(b"qRcmd,", content) {
+    } else if let Some(rest) = after_text(b"qRcmd,", content) {
         Some(or_malformed(monitor_in(rest)))
-    } else if let Some(_) = behind(b"qSupported:", content) {
+    } else if let Some(_) = after_text(b"qSupported:", content) {
         Some(Packet::Supported)
     } else {
         None
     }
 }
 
-/// What stands behind a text, if the content begins with it.
-#[tactic(auto, unfolding(crate::specs::Packet::behind))]
-fn behind<'a>(text: &[u8], content: &'a [u8]) -> Option<&'a [u8]>
-    ensures rest { option_copied result ≡ behind text.now content.now }
+/// What follows a text, if the content begins with it.
+#[tactic(auto, unfolding(crate::specs::Packet::after_text))]
+fn after_text<'a>(text: &[u8], content: &'a [u8]) -> Option<&'a [u8]>
+    ensures rest { option_copied result ≡ after_text text.now content.now }
 {
     content.strip_prefix(text)
 }
@@ -198,7 +198,7 @@ fn memory_write_in(rest: &[u8]) -> Option<Packet<'_>>
     })
 }
 
-/// The first action of some; those behind a `;` or a `:` are for other threads.
+/// The first of some actions; those after a `;` or a `:` are for other threads.
 fn actions_in(rest: &[u8]) -> Option<Packet<'_>>
     ensures packet { result ≡ actions_in rest.now }
 {

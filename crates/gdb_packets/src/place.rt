@@ -3,10 +3,10 @@
 pub(crate) enum Place {
     /// Between packets.
     Outside,
-    /// Behind the `$`.
+    /// After the `$`.
     Content,
     /// The sum's first digit.
     First,
-    /// Its second digit, behind this byte.
+    /// Its second digit, after this byte.
     Second(u8),
 }
