@@ -4,11 +4,11 @@ use Rattle.worked_examples.proofs.Computing.{computing as machine}
 use Rattle.hex.specs.Hex.{decode_pairs, encode_with}
 use Rattle.std.specs.Fmt.{digits}
 use Rattle.back_debug.specs.Debugger.{floors}
-use Rattle.gdb_packets.specs.Packet.{behind as text_behind}
-use Rattle.gdb_model.specs.Stops.{ahead, behind}
+use Rattle.gdb_packets.specs.Packet.{after_text}
+use Rattle.gdb_model.specs.Stops.{first_stop, last_stop}
 use Rattle.gdb_model.specs.Description.{description}
 use Rattle.gdb_model.specs.Talk.{talk_text}
 
 unfoldable pub computing : ℕ
-unfolding machine decode_pairs encode_with digits floors text_behind ahead behind description talk_text
+unfolding machine decode_pairs encode_with digits floors after_text first_stop last_stop description talk_text
 computing = 0

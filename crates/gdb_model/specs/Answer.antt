@@ -13,7 +13,7 @@ use Rattle.gdb_packets.specs.Frame.{frame}
 use Rattle.gdb_model.specs.Session.{Session}
 use Rattle.gdb_model.specs.Stops.{Reason, Stopped, begin, ended, stop, watch}
 
--- how many bytes of text a packet has room for, two digits each behind an `O`
+-- how many bytes of text a packet has room for, two digits each after an `O`
 abbrev pub piece_size : ℕ
 piece_size = 2047
 

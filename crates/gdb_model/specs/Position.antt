@@ -1,4 +1,4 @@
--- What a debugger sees at a position of the run alone: behind so many steps, before the next one.
+-- What a debugger sees at a position of the run alone: after so many steps, before the next one.
 use Rattle.std.specs.Prelude.{ℕ, ◌+◌, ◌-◌, ◌/◌, ◌%◌, ◌^◌, ◌==◌, nat_le, nat_lt, Bool}
 use Rattle.std.specs.Prelude.{if◌then◌else◌, not, is_none, is_some, Option, Some, None}
 use Rattle.fsim_base.specs.Range.{is_inside}
@@ -21,8 +21,8 @@ use Rattle.mono_model.specs.Alone.{alone}
 use Rattle.func_model.specs.Contents.{before}
 use Rattle.func_model.specs.History.{end_at, walk}
 
--- the run goes on behind so many steps. At the limit of steps, and behind a store that ends the
--- run, it doesn't; that the output is full shows only when the step is tried
+-- the run goes on after so many steps. At the limit of steps, and after a store that ends the run,
+-- it doesn't; that the output is full shows only when the step is tried
 abbrev pub is_going : Setup → ℕ → Bool
 is_going s at = not (has_ended (alone s at).end)
 

@@ -31,7 +31,7 @@ pub data Reason : Type 0 where
   ended : End → Reason
   -- at the oldest position
   begin : Reason
-  -- before an access of a watched byte, or behind it where the run goes backwards
+  -- before an access of a watched byte, or after it if the run goes backwards
   watch : ℕ → Reason
 
 abbrev pub stop_if : Bool → Reason → Option Reason
@@ -42,14 +42,14 @@ abbrev pub is_stop : Setup → Session → Range → ℕ → Bool
 is_stop s session range at = halts s session at || not (range (next_address s at))
 
 -- the first reason for which a run forwards stops at a position, if there is one
-abbrev pub stop_ahead : Setup → Session → Range → ℕ → Option Reason
-stop_ahead s session range at =
+abbrev pub forth_reason : Setup → Session → Range → ℕ → Option Reason
+forth_reason s session range at =
     option_or (stop_if (nat_lt session.at at && is_stop s session range at) stop)
     (option_or (option_map ended (end_at s at)) (option_map watch (watched s session at)))
 
 -- the same of a run backwards
-abbrev pub stop_behind : Setup → Session → Range → ℕ → Option Reason
-stop_behind s session range at =
+abbrev pub back_reason : Setup → Session → Range → ℕ → Option Reason
+back_reason s session range at =
     option_or (stop_if (nat_lt at session.at && is_stop s session range at) stop)
     (option_or (stop_if (at == session.floor) begin)
     (option_map watch (watched s session (at - 1))))
@@ -63,25 +63,25 @@ abbrev pub stopped_or : Option Reason → ℕ → Stopped → Stopped
 stopped_or None at on = on
 stopped_or (Some reason) at on = record { at = at; reason = reason }
 
--- the first position, of so many and one more from `at` on, at which a run forwards stops
-unfoldable pub ahead : Setup → Session → Range → ℕ → ℕ → Stopped
-ahead s session range zero at = record { at = at; reason = stop }
-ahead s session range (suc more) at =
-    stopped_or (stop_ahead s session range at) at (ahead s session range more (at + 1))
+-- the first of so many positions from `at` on at which a run forwards stops
+unfoldable pub first_stop : Setup → Session → Range → ℕ → ℕ → Stopped
+first_stop s session range zero at = record { at = at; reason = stop }
+first_stop s session range (suc more) at =
+    stopped_or (forth_reason s session range at) at (first_stop s session range more (at + 1))
 
 -- the last position up to `at` at which a run backwards stops
-unfoldable pub behind : Setup → Session → Range → ℕ → Stopped
-behind s session range zero =
-    stopped_or (stop_behind s session range zero) zero (record { at = zero; reason = begin })
-behind s session range (suc at) =
-    stopped_or (stop_behind s session range (suc at)) (suc at) (behind s session range at)
+unfoldable pub last_stop : Setup → Session → Range → ℕ → Stopped
+last_stop s session range zero =
+    stopped_or (back_reason s session range zero) zero (record { at = zero; reason = begin })
+last_stop s session range (suc at) =
+    stopped_or (back_reason s session range (suc at)) (suc at) (last_stop s session range at)
 
 -- a run has at most `cycles` steps, and at its end it stops
 abbrev pub forth : Setup → Range → Session → Stopped
-forth s range session = ahead s session range (s.cycles + 1 - session.at) session.at
+forth s range session = first_stop s session range (s.cycles + 1 - session.at) session.at
 
 abbrev pub back : Setup → Range → Session → Stopped
-back s range session = behind s session range session.at
+back s range session = last_stop s session range session.at
 
 -- the session once it went forwards to a position
 abbrev pub moved_to : ℕ → Setup → ℕ → Session → Session

@@ -15,7 +15,7 @@ use Rattle.mono_model.specs.Report.{Text, line_feed, status_text}
 use Rattle.func_model.specs.History.{end_at, walk}
 use Rattle.gdb_packets.specs.Frame.{frame}
 use Rattle.gdb_packets.specs.Hexadecimal.{little}
-use Rattle.gdb_packets.specs.Packet.{behind, packet_of}
+use Rattle.gdb_packets.specs.Packet.{after_text, packet_of}
 use Rattle.gdb_packets.specs.Stream.{Stream, acknowledgment, arrival, is_answered, next, opening}
 use Rattle.gdb_packets.specs.declared.arrival.Arrival.{Arrival}
 use Rattle.gdb_packets.specs.declared.packet.Packet.{Packet}
@@ -130,7 +130,7 @@ without_point point session =
 abbrev pub description_limit : ℕ
 description_limit = 4095
 
--- a part of a text, behind `l` if it reaches the end, else behind `m`
+-- a part of a text, after `l` if it reaches the end, else after `m`
 abbrev pub part_text : Text → ℕ → ℕ → Text
 part_text text place count =
     let part = take (min count description_limit) (drop place text) in
@@ -175,7 +175,7 @@ commanded s command session =
     if bytes_eq command (codes "where") then told session (where_line s session)
     else if bytes_eq command (codes "output") then told session (walk s session.at).output
     else if bytes_eq command (codes "stop") then told (record session { mark = None }) []
-    else by_position (behind (codes "stop ") command) session
+    else by_position (after_text (codes "stop ") command) session
 
 -- runs
 
