@@ -4,3 +4,4 @@ pub mod Loading
 pub mod Sink
 pub mod Plan
 pub mod Memory
+pub mod Host

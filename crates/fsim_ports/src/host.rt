@@ -1,6 +1,9 @@
-ghost use Rattle.std.specs.Prelude.{◌≡◌, ℕ, ◌≤◌, None};
+ghost use Rattle.std.specs.Prelude.{◌≡◌, ◌≢◌, ℕ, ◌+◌, ◌-◌, ◌^◌, ◌≤◌, min, None, Some, IsOk, IfOk};
+ghost use Rattle.std.specs.Prelude.{OnOk, IfSome, string_bytes};
 ghost use Rattle.std.specs.Io.{ReadsAtMost};
+ghost use Rattle.std.specs.IoError.{error_kind};
 ghost use Rattle.fsim_ports.specs.Count.{HasRisen};
+ghost use Rattle.fsim_ports.specs.Host.{part_of_kind, progress_of};
 
 use crate::outside::{Failed, Files, Part, Sink};
 use std::alloc::Global;
@@ -38,13 +41,26 @@ struct OpenFile<F> {
 }
 
 impl<F: Read + Seek> OpenFile<F> {
+    /// Goes to the place `at`. A file that stands there already isn't sought, since a pipe can't be.
+    fn go_to(&mut self, at: u64) -> io::Result<()>
+        ensures there { self.old.place ≡ at → IsOk result × (self.new ≡ self.old) }
+        ensures place { OnOk result (self.new.place ≡ at) }
+        ensures moved { self.old.place ≢ at → IfSome (F.stream_position self.old.file)
+            (λ _. OnOk result (F.stream_position self.new.file ≡ Some at)) }
+    {
+        if self.place != at {
+            self.file.seek(SeekFrom::Start(at))?;
+            self.place = at;
+        }
+        Ok(())
+    }
+
     /// Reads bytes from the place `at` on, and answers how many; none at the end of the file.
     fn read(&mut self, at: u64, buf: &mut [u8]) -> io::Result<usize>
         ensures bound { ReadsAtMost result buf.new }
+        ensures place { IfOk result (λ count. self.new.place ≡ min (at + count) (2 ^ 64 - 1)) }
     {
-        if self.place != at {
-            self.place = self.file.seek(SeekFrom::Start(at))?;
-        }
+        self.go_to(at)?;
         let count = self.file.read(buf)?;
         self.place = self.place.saturating_add(count as u64);
         Ok(count)
@@ -67,6 +83,7 @@ impl<R: FileSystem + Drop> HostFiles<R> {
     /// The file of this name: the last one where it has the name, else it is opened.
     fn open(&mut self, name: &str) -> io::Result<OpenFile<R::File>>
         ensures same { self.new ≡ self.old }
+        ensures named { IfOk result (λ file. string_bytes file.name ≡ name.now) }
     {
         if let Some(last) = self.last.take() {
             if last.name.as_str() == name {
@@ -99,8 +116,7 @@ impl<R: FileSystem + Drop> Files for HostFiles<R> {
     fn read(&mut self, name: &str, at: u64, buf: &mut [u8]) -> Part {
         let mut open = match self.open(name) {
             Ok(open) => open,
-            Err(error) if error.kind() == ErrorKind::NotFound => return self.fault(Part::Missing),
-            Err(_) => return self.fault(Part::Failed),
+            Err(error) => return self.fault(part_of_error(&error)),
         };
         match open.read(at, buf) {
             Ok(count) => {
@@ -113,6 +129,16 @@ impl<R: FileSystem + Drop> Files for HostFiles<R> {
             }
             Err(_) => self.fault(Part::Failed),
         }
+    }
+}
+
+/// What a refusal to open a file says of it.
+fn part_of_error(error: &io::Error) -> Part
+    ensures part { result ≡ part_of_kind (error_kind error.now) }
+{
+    match error.kind() {
+        ErrorKind::NotFound => Part::Missing,
+        _ => Part::Failed,
     }
 }
 
@@ -145,12 +171,23 @@ impl<R: Print + Drop> Sink for HostSink<R> {
     ghost faults = { λ faults. faults };
 
     fn put(&mut self, bytes: &[u8]) -> Result<usize, Failed> {
-        match self.host.write_some(bytes) {
-            Ok(count) if count > 0 || bytes.is_empty() => Ok(count),
-            _ => {
+        match progress(self.host.write_some(bytes), bytes.len()) {
+            Some(count) => Ok(count),
+            None => {
                 self.faults = self.faults.saturating_add(1);
                 Err(Failed)
             }
         }
+    }
+}
+
+/// How many bytes of a piece of this size the host wrote. None where it failed, and where it wrote
+/// none of a piece that has some.
+fn progress(wrote: io::Result<usize>, size: usize) -> Option<usize>
+    ensures count { result ≡ progress_of wrote size }
+{
+    match wrote {
+        Ok(count) if count > 0 || size == 0 => Some(count),
+        _ => None,
     }
 }

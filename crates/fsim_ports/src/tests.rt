@@ -1,5 +1,7 @@
 // What no clause says: that calls succeed where memory is ample, and that faults in mid-stream stay
 // where they are.
+mod host;
+
 ghost use Rattle.std.specs.Prelude.{[], Some};
 
 use super::*;
