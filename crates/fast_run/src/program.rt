@@ -1,5 +1,6 @@
 ghost use Rattle.std.specs.Prelude.{◌≡◌, ◌≤◌, map, drop, string_bytes, IfOk, OnErr};
 ghost use Rattle.std.specs.IoError.{error_kind};
+ghost use Rattle.std.specs.Vec.Iter.{into_iter_items};
 ghost use Rattle.std.specs.Process.{exit_status};
 ghost use Rattle.fast_cli.specs.Line.{line};
 ghost use Rattle.report_text.specs.FaultText.{status_number};
@@ -31,8 +32,14 @@ pub fn run_host<R: Threads + Wait + Sync>(rt: &HostRuntime, threads: &R) -> Exit
 
 /// The arguments of the process, of which the first is the program's name.
 fn arguments(rt: &HostRuntime) -> io::Result<Vec<String>> {
-    let arguments = env::args(rt)?;
-    Ok(arguments.collect(rt.alloc())?)
+    Ok(collected(rt.alloc(), env::args(rt)?)?)
+}
+
+/// The arguments as a list: all of them, in their order.
+fn collected(alloc: Global, arguments: env::Args) -> Result<Vec<String>, AllocError>
+    ensures all { IfOk result (λ list. list.items ≡ into_iter_items arguments) }
+{
+    arguments.collect(alloc)
 }
 
 /// The exit status that tells an answer.
@@ -89,7 +96,7 @@ fn words_of(arguments: &[String]) -> &[String]
 
 /// The answer to words that are owned. Where no memory is found for them or for the devices, files
 /// and sink are as they were.
-fn answer_texts<R: Threads + Wait + Sync, F: Files, K: Sink>(
+pub fn answer_texts<R: Threads + Wait + Sync, F: Files, K: Sink>(
     rt: &R,
     alloc: Global,
     texts: &[String],
@@ -113,7 +120,7 @@ fn answer_texts<R: Threads + Wait + Sync, F: Files, K: Sink>(
 
 /// The answer to the words, with devices of its own. Where no memory is found for these, files and
 /// sink are as they were.
-pub fn answer_words<R: Threads + Wait + Sync, F: Files, K: Sink>(
+fn answer_words<R: Threads + Wait + Sync, F: Files, K: Sink>(
     rt: &R,
     alloc: Global,
     words: &[&str],

@@ -5,6 +5,7 @@ mod counting;
 mod faults;
 mod gates;
 mod hostile;
+mod journal;
 mod programs;
 mod reports;
 mod sessions;
@@ -12,7 +13,7 @@ mod sweeps;
 mod words;
 
 use crate::answer::fast_main;
-use crate::program::answer_words;
+use crate::program::answer_texts;
 use device_bus::{Device, Finisher, Timer, sets_in_order};
 use fsim_ports::{Gate, MemoryFiles, MemorySink};
 use std::alloc::Global;
@@ -57,6 +58,15 @@ fn put_words(image: &mut Vec<u8>, words: &str) -> Result<(), Fail> {
     Ok(())
 }
 
+/// The words of a line, which is cut at each space, as `main` has them.
+fn texts_of(alloc: Global, line: &str) -> Result<Vec<String>, Fail> {
+    let mut texts = Vec::new(alloc);
+    for word in line.split(' ') {
+        texts.push(String::from_str(alloc, word)?)?;
+    }
+    Ok(texts)
+}
+
 /// The words of a line, which is cut at each space.
 fn words_of(alloc: Global, line: &str) -> Result<Vec<&str>, Fail> {
     Ok(line.split(' ').collect(alloc)?)
@@ -71,8 +81,8 @@ fn answer<R: Threads + Wait + Sync + Abort>(
     files: &mut MemoryFiles,
     sink: &mut MemorySink,
 ) -> Result<u8, Fail> {
-    let words = words_of(alloc, line)?;
-    let status = answer_words(rt, alloc, words.as_slice(), files, sink)?;
+    let texts = texts_of(alloc, line)?;
+    let status = answer_texts(rt, alloc, texts.as_slice(), files, sink)?;
     Ok(status.number())
 }
 

@@ -1,5 +1,5 @@
-//! A console that counts its calls: it shows that `sched` and `run` load ahead of what is
-//! committed, and take it back.
+//! A console that counts its calls: it shows that `sched`, `run` and `inorder` load ahead of what
+//! is committed, and take it back.
 use super::programs::files_of_runs;
 use super::{answer_with, set_with};
 use device_bus::{Console, DevUndo, Device, DeviceKind, Note};
@@ -125,6 +125,25 @@ fn console_of_a_run_is_loaded_and_taken_back(rt: HostRuntime) -> Result<(), Fail
         assert_eq!(rt; number, 0);
         assert!(rt; loads >= 2 && undos >= 1);
         assert!(rt; sink.bytes().starts_with(b"status: pass\ncycles: 12\n"));
+    }
+    Ok(())
+}
+
+/// On demand the load on the wrong path is made, and taken back once the jump is done. By the plan
+/// the one at which the jump goes is made before that, and taken back too.
+#[test]
+fn console_of_an_in_order_run_shows_its_plan(rt: HostRuntime) -> Result<(), Fail> {
+    let alloc = rt.alloc();
+    let mut files = files_of_runs(alloc)?;
+    files.add("four", b"CPCPCPCP")?;
+    for (text, loads, undos) in [
+        ("inorder echo eight four --input in", 3, 2),
+        ("inorder echo eight nothing --input in", 2, 1),
+    ] {
+        let mut sink = MemorySink::new(alloc, 4096)?;
+        let counted = count(&rt, alloc, text, &mut files, &mut sink)?;
+        assert_eq!(rt; counted, (0, loads, undos));
+        assert!(rt; sink.bytes().starts_with(b"status: pass\ncycles: 14\n"));
     }
     Ok(())
 }

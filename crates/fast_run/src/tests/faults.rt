@@ -1,6 +1,6 @@
 //! What the files and the sink refuse.
 use super::programs::{files_of_runs, repeated};
-use super::{SMALLEST_PASS, answer, check, image_of};
+use super::{SMALLEST_PASS, answer, check, image_of, put_words};
 use fsim_ports::{MemoryFiles, MemorySink};
 use std::alloc::Global;
 use std::process::Abort;
@@ -9,7 +9,7 @@ use std::test::Fail;
 use std::thread::Threads;
 
 /// Machine files, plans and a script, most of which are none, by their names.
-const TEXTS: [(&str, &str); 12] = [
+const TEXTS: [(&str, &str); 13] = [
     ("empty", ""),
     ("zero", "core.window = 0"),
     ("text", "core.window = \"8\""),
@@ -21,6 +21,7 @@ const TEXTS: [(&str, &str); 12] = [
     ("old", "version = 1\nl2.ways = 1\n"),
     ("bad", "CPX"),
     ("spaced", "C P\r\nOTKSx"),
+    ("tab", "C\tP"),
     ("script", "r\r\n\ns 1\ns 0\nx"),
 ];
 
@@ -35,13 +36,28 @@ fn other_front() -> [u8; 84] {
     front
 }
 
-/// These files, an image, and two that are none.
+/// An image whose two segments are the same.
+fn doubled(alloc: Global) -> Result<Vec<u8>, Fail> {
+    let mut front = super::FRONT;
+    // e_phnum, p_offset behind two headers, p_filesz and p_memsz.
+    front[44] = 2;
+    front[56] = 116;
+    front[68] = 16;
+    front[72] = 16;
+    let mut image = front.to_vec(alloc)?;
+    image.extend_from_slice(&front[52..])?;
+    put_words(&mut image, SMALLEST_PASS)?;
+    Ok(image)
+}
+
+/// These files, an image, and three that are none.
 fn files_of(alloc: Global) -> Result<MemoryFiles, Fail> {
     let mut files = MemoryFiles::new(alloc);
     for &(name, text) in texts() {
         files.add(name, text.as_bytes())?;
     }
     files.add("other", &other_front())?;
+    files.add("double", doubled(alloc)?.as_slice())?;
     let mut image = image_of(alloc, SMALLEST_PASS)?;
     files.add("pass", image.as_slice())?;
     image.truncate(51);
@@ -50,13 +66,14 @@ fn files_of(alloc: Global) -> Result<MemoryFiles, Fail> {
 }
 
 /// Lines and their refusals, in the order in which these are tested.
-const REFUSED: [(&str, u8, &str); 37] = [
+const REFUSED: [(&str, u8, &str); 39] = [
     ("func none", 13, "fast: missing: image\n"),
     ("func none --input none", 13, "fast: missing: image\n"),
     ("func pass --input none", 13, "fast: missing: input\n"),
     ("func empty --input none", 13, "fast: missing: input\n"),
     ("func empty", 11, "fast: image: short\n"),
     ("func short --input empty", 11, "fast: image: short\n"),
+    ("func double", 11, "fast: image: overlap 1 0\n"),
     ("run none none", 13, "fast: missing: image\n"),
     ("run short none", 13, "fast: missing: machine\n"),
     ("run short zero --input none", 13, "fast: missing: input\n"),
@@ -87,6 +104,7 @@ const REFUSED: [(&str, u8, &str); 37] = [
     ("sched pass empty bad", 18, "fast: bad plan: 2\n"),
     ("sched pass empty spaced", 18, "fast: bad plan: 9\n"),
     ("sched pass empty half", 18, "fast: bad plan: 0\n"),
+    ("sched pass empty tab", 18, "fast: bad plan: 1\n"),
     (
         "sched pass empty bad --input pass",
         18,

@@ -5,7 +5,7 @@ use std::alloc::Global;
 use std::test::Fail;
 
 /// Programs by the names of their files, each by its words; most end in a pass by x6 and x7.
-const PROGRAMS: [(&str, &str); 19] = [
+const PROGRAMS: [(&str, &str); 20] = [
     // Four instructions, of which the last stores a pass.
     ("pass", "001002b7 00005337 55530313 0062a023"),
     // MULHSU, MUL, DIV and MULH at the ends of the range, and a branch over a word that is no
@@ -128,6 +128,8 @@ const PROGRAMS: [(&str, &str); 19] = [
     ),
     // A word that is no instruction, with its handler at 0.
     ("zero", "00000000"),
+    // A jump to itself.
+    ("spin", "0000006f"),
 ];
 
 /// The front of a linker's image: the headers of its attributes, its text of 84 bytes at
@@ -156,7 +158,7 @@ const UART: &str = concat!(
 );
 
 /// Machine files by their names.
-const MACHINES: [(&str, &str); 13] = [
+const MACHINES: [(&str, &str); 15] = [
     ("plain", ""),
     ("four", "core.window = 4\ncore.stations = 4\n"),
     ("eight", "core.window = 8"),
@@ -241,6 +243,18 @@ const MACHINES: [(&str, &str); 13] = [
         ),
     ),
     ("fetched", "icache.ways = 1"),
+    (
+        "lane",
+        concat!(
+            "alu.latency = 3\n",
+            "mem.latency = 2\n",
+            "dcache.line = 16\n",
+            "dcache.sets = 1\n",
+            "dcache.ways = 1\n",
+            "dcache.miss = 10\n",
+        ),
+    ),
+    ("bad", "core.window = 0"),
     (
         "levels",
         concat!(

@@ -35,7 +35,7 @@ const ZERO: [&str; 20] = [
 ];
 
 /// Words, the exit status, and all lines that don't stand at 0, cut by `; `.
-const REPORTS: [(&str, u8, &str); 67] = [
+const REPORTS: [(&str, u8, &str); 68] = [
     (
         "func pass",
         0,
@@ -615,6 +615,18 @@ const REPORTS: [(&str, u8, &str); 67] = [
             "x4=00000000 x5=00000000 x6=00100000 x7=00005555",
         ),
     ),
+    // What computes is three cycles in Execute. The first load, which misses, is twelve in Memory,
+    // the second two; the load on the wrong path is flushed before it gets there.
+    (
+        "inorder evict lane nothing",
+        0,
+        concat!(
+            "status: pass; cycles: 36; instructions: 8; fetched: 11; squashed: 1; branches: 1; ",
+            "mispredicted: 1; dcache: 2 accesses, 1 misses; pc: 80000024; ",
+            "x4=00000000 x5=00000000 x6=00100000 x7=00005555; ",
+            "x8=80000000 x9=00000000 x10=00000000 x11=00000000",
+        ),
+    ),
 ];
 
 /// Answers the words, and compares status and lines.
@@ -630,39 +642,24 @@ pub fn check_report<R: Threads + Wait + Sync + Abort>(
     let answered = answer(rt, alloc, text, files, &mut sink)?;
     assert_eq!(rt; answered, number, "{text}");
     let report = str::from_utf8(sink.bytes()).unwrap_or("");
-    has_no_other_line(rt, report, lines, text);
-    has_each_line(rt, report, lines, text);
+    has_these_lines(rt, report, lines, text);
     Ok(())
 }
 
-/// Whether a line stands in the list.
-fn is_listed(lines: &str, line: &str) -> bool {
-    lines.split("; ").any(|other| other == line)
-}
-
-/// Each line of a report is listed, or stands at 0.
-fn has_no_other_line(rt: &impl Abort, report: &str, lines: &str, text: &str) {
+/// The lines of a report that don't stand at 0 are those that are listed, in their order.
+fn has_these_lines(rt: &impl Abort, report: &str, lines: &str, text: &str) {
+    let mut listed = lines.split("; ");
     for line in report.lines() {
-        let stands = is_listed(lines, line) || is_zero(line);
-        assert!(rt; stands, "{text}: {line}");
+        if !is_zero(line) {
+            assert_eq!(rt; Some(line), listed.next(), "{text}");
+        }
     }
+    assert_eq!(rt; listed.next(), None, "{text}");
 }
 
 /// Whether a line stands at 0.
 fn is_zero(line: &str) -> bool {
     ZERO.contains(&line)
-}
-
-/// Each line that is listed stands in the report.
-fn has_each_line(rt: &impl Abort, report: &str, lines: &str, text: &str) {
-    for line in lines.split("; ") {
-        assert!(rt; has_line(report, line), "{text}: {line}");
-    }
-}
-
-/// Whether a line stands in the report.
-fn has_line(report: &str, line: &str) -> bool {
-    report.lines().any(|other| other == line)
 }
 
 fn reports() -> &'static [(&'static str, u8, &'static str)] {
@@ -699,14 +696,17 @@ fn check_on_one_thread<R: Threads + Wait + Sync + Abort>(
 
 /// Lines, their answers, and how many puts these take: output, its line feed, and one for each
 /// line of the report, or for each line of a debugger; of a sweep the name, how the run ended, and
-/// what it cost.
-const PUTS: [(&str, u8, u8); 6] = [
+/// what it cost, or the name and the fault; one for a refusal, with its key.
+const PUTS: [(&str, u8, u8); 9] = [
     ("func five --output 4", 3, 18),
     ("run five wide --output 4", 3, 26),
     ("sched five wide whole --output 4", 3, 26),
     ("back echo again --input in", 5, 14),
     ("sweep five wide eight --output 4", 5, 6),
     ("inorder five wide nothing --output 4", 3, 26),
+    ("sweep five bad", 5, 2),
+    ("run five bad", 12, 1),
+    ("run five", 10, 1),
 ];
 
 fn puts() -> &'static [(&'static str, u8, u8)] {
@@ -725,12 +725,17 @@ fn each_put_that_fails_leaves_a_prefix(rt: HostRuntime) -> Result<(), Fail> {
             sink.fail_at(put)?;
             let answered = answer(&rt, alloc, text, &mut files, &mut sink)?;
             let is_cut = is_prefix(&rt, sink.bytes(), whole.bytes());
-            let wanted = if is_cut { 15 } else { number };
+            let wanted = if is_cut { cut_status(number) } else { number };
             assert_eq!(rt; answered, wanted, "{text} {put}");
             assert_eq!(rt; is_cut, put <= u64::from(puts), "{text} {put}");
         }
     }
     Ok(())
+}
+
+/// The answer where not all could be written: a refusal stands.
+fn cut_status(number: u8) -> u8 {
+    if number < 10 { 15 } else { number }
 }
 
 /// Whether bytes, which the whole begins with, are less than it.
@@ -739,24 +744,25 @@ fn is_prefix(rt: &impl Abort, bytes: &[u8], whole: &[u8]) -> bool {
     bytes.len() < whole.len()
 }
 
-/// The report of a line that passes.
-fn report_of<R: Threads + Wait + Sync + Abort>(
-    rt: &R,
-    alloc: Global,
-    line: &str,
-) -> Result<MemorySink, Fail> {
-    let mut files = MemoryFiles::new(alloc);
-    let mut sink = MemorySink::new(alloc, 4096)?;
-    let answered = answer(rt, alloc, line, &mut files, &mut sink)?;
-    assert_eq!(rt; answered, 0);
-    Ok(sink)
-}
+/// All lines of the soak's report that don't stand at 0, by another simulator. With a block more or
+/// less the program would end at another address.
+const SOAK: &str = concat!(
+    "status: pass; cycles: 226826; instructions: 107647; exceptions: 2683; interrupts: 226; ",
+    "fetched: 797649; squashed: 687282; branches: 28929; mispredicted: 28523; ",
+    "icache: 801372 accesses, 4121 misses; dcache: 6675 accesses, 32 misses; pc: 8004030c; ",
+    "x0=00000000 x1=800402d4 x2=00000000 x3=00000000; ",
+    "x4=00000000 x5=00000081 x6=00100000 x7=00005555; ",
+    "x8=d3efedf7 x9=00000003 x10=d3efedf7 x11=c1efdf6c; ",
+    "x12=d0efebef x13=00000000 x14=00000000 x15=00000000; ",
+    "x20=80800000 x21=00000000 x22=02004000 x23=00000000; ",
+    "x28=800402f0 x29=00000000 x30=00000000 x31=00000000; ",
+    "mstatus=00001888 mie=00000080 mtvec=80000004 mscratch=00000000; ",
+    "mepc=800402f0 mcause=0000000b mtval=00000000 mtimecmp=00000000000376b8",
+);
 
 #[test]
 fn soak_passes_with_the_same_report_each_time(rt: HostRuntime) -> Result<(), Fail> {
-    let first = report_of(&rt, rt.alloc(), "soak 7")?;
-    let second = report_of(&rt, rt.alloc(), "soak 7")?;
-    assert!(rt; first.bytes().starts_with(b"status: pass\n"));
-    assert_eq!(rt; first.bytes(), second.bytes());
-    Ok(())
+    let mut files = MemoryFiles::new(rt.alloc());
+    check_report(&rt, rt.alloc(), "soak 7", &mut files, 0, SOAK)?;
+    check_report(&rt, rt.alloc(), "soak 7", &mut files, 0, SOAK)
 }

@@ -23,7 +23,7 @@ const LOADED: &str = concat!(
 );
 
 /// Scripts, lines that play them, and the answers.
-const SESSIONS: [(&str, &str, u8, &str); 9] = [
+const SESSIONS: [(&str, &str, u8, &str); 11] = [
     // Behind the step back the same byte of the input is loaded again.
     (
         "s 4\nb 1\ns 1\nr\n",
@@ -79,6 +79,19 @@ const SESSIONS: [(&str, &str, u8, &str); 9] = [
         "4 80000010 fail 7\n3 8000000c moved\n4 80000010 moved\n4 80000010 fail 7\n",
     ),
     ("", "back pass script", 5, ""),
+    // The history is 65,536 steps by default, and here one more.
+    (
+        "s 65537\nb 65537\n",
+        "back spin script",
+        5,
+        "65537 80000000 moved\n1 80000000 oldest\n",
+    ),
+    (
+        "s 65537\nb 65537\n",
+        "back spin script --history 65537",
+        5,
+        "65537 80000000 moved\n0 80000000 moved\n",
+    ),
 ];
 
 fn sessions() -> &'static [(&'static str, &'static str, u8, &'static str)] {

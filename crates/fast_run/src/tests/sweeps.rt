@@ -1,4 +1,5 @@
-//! Lines of a sweep, against values worked out by hand from the machine's rules.
+//! Lines of a sweep, against values worked out by hand from the machine's rules, and by another
+//! simulator.
 use super::programs::files_of_runs;
 use super::{answer_with, check, set_with};
 use device_bus::Console;
@@ -6,7 +7,7 @@ use fsim_ports::{MemorySink, QuietGate};
 use std::test::Fail;
 
 /// Lines, and what is written of the machines that they name.
-const SWEEPS: [(&str, &str); 4] = [
+const SWEEPS: [(&str, &str); 6] = [
     (
         "sweep pass plain eight bad",
         "plain: pass cycles 13 instructions 4 mispredicted 0 icache 0 dcache 0\n\
@@ -27,6 +28,24 @@ const SWEEPS: [(&str, &str); 4] = [
         "sweep short plain bad",
         "plain: image: short\nbad: machine: range core.window 0\n",
     ),
+    // The ninth machine comes once the first eight are done.
+    (
+        "sweep evict plain four eight targets line slow wide large narrow",
+        "plain: pass cycles 25 instructions 8 mispredicted 1 icache 0 dcache 0\n\
+         four: pass cycles 12 instructions 8 mispredicted 1 icache 0 dcache 0\n\
+         eight: pass cycles 12 instructions 8 mispredicted 1 icache 0 dcache 0\n\
+         targets: pass cycles 12 instructions 8 mispredicted 1 icache 0 dcache 0\n\
+         line: pass cycles 32 instructions 8 mispredicted 1 icache 0 dcache 3\n\
+         slow: pass cycles 22 instructions 8 mispredicted 1 icache 0 dcache 0\n\
+         wide: pass cycles 12 instructions 8 mispredicted 1 icache 0 dcache 0\n\
+         large: pass cycles 60 instructions 8 mispredicted 1 icache 1 dcache 2\n\
+         narrow: pass cycles 35 instructions 8 mispredicted 1 icache 0 dcache 1\n",
+    ),
+    (
+        "sweep evict plain line --cycles 20",
+        "plain: limit cycles 20 instructions 6 mispredicted 1 icache 0 dcache 0\n\
+         line: limit cycles 20 instructions 3 mispredicted 1 icache 0 dcache 3\n",
+    ),
 ];
 
 fn sweeps() -> &'static [(&'static str, &'static str)] {
@@ -37,7 +56,6 @@ fn sweeps() -> &'static [(&'static str, &'static str)] {
 fn lines_stand_in_the_order_of_the_words(rt: HostRuntime) -> Result<(), Fail> {
     let alloc = rt.alloc();
     let mut files = files_of_runs(alloc)?;
-    files.add("bad", b"core.window = 0")?;
     files.add("short", b"")?;
     for &(line, text) in sweeps() {
         check(&rt, alloc, line, &mut files, 5, text)?;

@@ -1,6 +1,6 @@
 //! The words of the command line, cut at each space.
 use super::{SMALLEST_PASS, check, image_of};
-use crate::program::answer_words;
+use crate::program::answer_texts;
 use fsim_ports::{MemoryFiles, MemorySink};
 use std::test::Fail;
 
@@ -91,7 +91,7 @@ fn no_words_are_answered_by_the_usage(rt: HostRuntime) -> Result<(), Fail> {
     let alloc = rt.alloc();
     let mut files = MemoryFiles::new(alloc);
     let mut sink = MemorySink::new(alloc, 4096)?;
-    let status = answer_words(&rt, alloc, &[], &mut files, &mut sink)?;
+    let status = answer_texts(&rt, alloc, &[], &mut files, &mut sink)?;
     assert_eq!(rt; (status.number(), sink.bytes()), (10, USAGE.as_bytes()));
     Ok(())
 }

@@ -1,0 +1,11 @@
+use Rattle.std.proofs.Common.{refl}
+use Rattle.std.proofs.lemmas.Iterator.{items_from_collect}
+use Rattle.std.proofs.lemmas.Iterator.Adapters.{YieldsList-from_vec}
+use Rattle.std.specs.Vec.Iter.{into_iter_items}
+use Rattle.fast_run.proofs.program.collected.Goals as goal
+
+pub returns : goal.returns
+returns c =
+    let arguments = c.args.arguments in record {
+      all = items_from_collect c.collect.result c.collect.ensures.ran (YieldsList-from_vec (into_iter_items arguments) refl arguments.rest.ok.0);
+    }
