@@ -1,3 +1,4 @@
 pub mod Answers
+pub mod Journal
 pub mod Settling
 pub mod Words

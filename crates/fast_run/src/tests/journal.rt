@@ -29,6 +29,7 @@ fn next_number<D: Device>(side: &mut FuncSide<D>) -> Option<u64>
 
 /// Fills the journal, which has room for four steps, and has one more step made once one of them is
 /// committed.
+#[tactic(auto, using(crate::proofs::Journal::quiet_has_room))]
 fn check_room<D: Device>(rt: &impl Abort, setup: &Setup, side: &mut FuncSide<D>)
     requires fresh { IsFresh side.old }
     requires stands { WalkStandsFor setup.now [] side.old }
@@ -41,7 +42,8 @@ fn check_room<D: Device>(rt: &impl Abort, setup: &Setup, side: &mut FuncSide<D>)
         next_number(side),
     ];
     assert_eq!(rt; first, [Some(0), Some(1), Some(2), Some(3), None]);
-    assert!(rt; side.steps_back() == 4 && side.output().is_empty());
+    assert!(rt; side.steps_back() == 4);
+    assert!(rt; side.output().is_empty());
     side.obey(Order::Commit { n: 1 });
     assert_eq!(rt; [next_number(side), next_number(side)], [Some(4), None]);
 }

@@ -35,7 +35,7 @@ const ZERO: [&str; 20] = [
 ];
 
 /// Words, the exit status, and all lines that don't stand at 0, cut by `; `.
-const REPORTS: [(&str, u8, &str); 68] = [
+const REPORTS: [(&str, u8, &str); 64] = [
     (
         "func pass",
         0,
@@ -589,6 +589,10 @@ const REPORTS: [(&str, u8, &str); 68] = [
             "x4=00000000 x5=00100000 x6=00073333 x7=00000000",
         ),
     ),
+];
+
+/// The same of the in-order machine.
+const IN_ORDER: [(&str, u8, &str); 4] = [
     (
         "inorder pass plain nothing",
         0,
@@ -675,6 +679,20 @@ fn reports_are_those_worked_out_by_hand(rt: HostRuntime) -> Result<(), Fail> {
         if let Some(rest) = text.strip_prefix("run ") {
             check_on_one_thread(&rt, alloc, rest, &mut files, number, lines)?;
         }
+    }
+    Ok(())
+}
+
+fn in_order() -> &'static [(&'static str, u8, &'static str)] {
+    &IN_ORDER
+}
+
+#[test]
+fn reports_of_the_in_order_machine_are_those_worked_out(rt: HostRuntime) -> Result<(), Fail> {
+    let alloc = rt.alloc();
+    let mut files = files_of_runs(alloc)?;
+    for &(text, number, lines) in in_order() {
+        check_report(&rt, alloc, text, &mut files, number, lines)?;
     }
     Ok(())
 }
