@@ -3,13 +3,14 @@ ghost use Rattle.std.specs.Prelude.{◌≡◌, ◌+◌, ◌<◌, ◌≤◌, ◌^
 ghost use Rattle.mono_model.specs.declared.setup.Setup.{Setup as RunSetup};
 ghost use Rattle.func_model.specs.Walk.{IsFresh, IsSameBut, WalkStandsFor};
 
-use super::{image_of, set_with};
-use device_bus::{Console, Device, in_order};
+use super::image_of;
+use device_bus::{AnyDevice, Console, Device, Finisher, Timer, in_order};
 use elf_image::read;
 use fsim_base::Bytes;
 use func_model::FuncSide;
 use mono_model::{Params, Setup};
 use rollback_cmds::Order;
+use std::alloc::Global;
 use std::process::Abort;
 use std::test::Fail;
 
@@ -48,6 +49,14 @@ fn check_room<D: Device>(rt: &impl Abort, setup: &Setup, side: &mut FuncSide<D>)
     assert_eq!(rt; [next_number(side), next_number(side)], [Some(4), None]);
 }
 
+fn devices_of(alloc: Global) -> Result<Vec<AnyDevice>, Fail> {
+    let mut devices = Vec::new(alloc);
+    devices.push(AnyDevice::Console(Console::new(alloc)?))?;
+    devices.push(AnyDevice::Timer(Timer::new()))?;
+    devices.push(AnyDevice::Finisher(Finisher::new()))?;
+    Ok(devices)
+}
+
 /// In the journal are as many steps as the window and the ring have places, and two more: the entry
 /// that is computed and the one that is held.
 #[test]
@@ -62,7 +71,7 @@ fn journal_is_full_until_an_instruction_commits(rt: HostRuntime) -> Result<(), F
         output: 0,
         ring: 1,
     };
-    let devices = set_with(alloc, Box::new(alloc, Console::new(alloc)?)?)?;
+    let devices = devices_of(alloc)?;
     assert!(rt; setup.sound() && in_order(devices.as_slice()));
     let mut side = FuncSide::new(alloc, &setup, devices)?;
     check_room(&rt, &setup, &mut side);
