@@ -13,7 +13,7 @@ use crate::refusal::tell_want_of_memory;
 use crate::script::run_script;
 use crate::sweep::run_sweep;
 use device_bus::{Device, SET_SIZE};
-use fast_threads::{Named, Session};
+use fast_threads::Session;
 use fsim_base::NoMemory;
 use fsim_ports::{Gate, Sink};
 use func_model::FuncSide;
@@ -22,7 +22,6 @@ use mono_model::Setup;
 use report_text::Status;
 use split_core::SplitCore;
 use std::alloc::Global;
-use std::marker::Brand;
 use std::sync::Wait;
 use std::thread::Threads;
 
@@ -101,25 +100,7 @@ fn run_session<R: Threads + Wait + Sync, S: Sink, G: Gate + Sync, D: Device + Se
     ensures ends { Ends (Job.Single (SingleJob.Run setup.now))
         (writing_of S.written S.faults sink.old sink.new) result }
 {
-    play_session::<Brand, R, S, G, D>(rt, alloc, setup, devices, sink, gate)
-}
-
-/// The same, with a name for the setup, which the types of the run have for proofs.
-fn play_session<
-    K: Named + Send,
-    R: Threads + Wait + Sync,
-    S: Sink,
-    G: Gate + Sync,
-    D: Device + Send,
->(rt: &R, alloc: Global, setup: &Setup, devices: Vec<D>, sink: &mut S, gate: &G) -> Status
-    requires sound { is_setup setup.now ≡ true }
-    requires run { K.setup ≡ setup.now }
-    requires order { map D.kind devices.items ≡ device_order }
-    ensures count { S.faults sink.old ≤ S.faults sink.new }
-    ensures ends { Ends (Job.Single (SingleJob.Run setup.now))
-        (writing_of S.written S.faults sink.old sink.new) result }
-{
-    let mut session = match Session::<D, K>::new(alloc, setup, devices) {
+    let mut session = match Session::<D>::new(alloc, setup, devices) {
         Ok(session) => session,
         Err(NoMemory) => return tell_want_of_memory(sink),
     };

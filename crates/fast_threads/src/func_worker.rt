@@ -10,13 +10,14 @@ use func_model::{Arch, FuncSide};
 use mono_model::Setup;
 use std::alloc::Global;
 use std::marker::Model;
+use std::sync::Wait;
 use trace_entry::Entry;
-use trace_ring::{FuncEnd, Named};
+use trace_ring::FuncEnd;
 
 /// The functional side at its end of the queues.
 #[derive(Drop)]
-pub struct FuncWorker<D: Device, K: Named> {
-    end: FuncEnd<K>,
+pub struct FuncWorker<D: Device> {
+    end: FuncEnd,
     side: FuncSide<D>,
     /// The entry computed last. It is written where it is kept, and not copied from elsewhere as
     /// soon as it is written: wide loads of what small stores wrote wait until those are through.
@@ -27,7 +28,7 @@ pub struct FuncWorker<D: Device, K: Named> {
     foresight: Foresight,
 }
 
-impl<D: Device, K: Named> Model for FuncWorker<D, K> {
+impl<D: Device> Model for FuncWorker<D> {
     ghost use Rattle.func_model.specs.Walk.{entry_if};
     ghost use Rattle.fast_threads.specs.Workers.{FuncWork, func_work, IsFuncAt};
 
@@ -40,7 +41,7 @@ impl<D: Device, K: Named> Model for FuncWorker<D, K> {
         IsFuncAt worker.end worker.side (entry_if worker.is_computed worker.entry) };
 }
 
-impl<D: Device, K: Named> FuncWorker<D, K> {
+impl<D: Device> FuncWorker<D> {
     ghost use Rattle.device_bus.specs.Bus.{device_order};
     ghost use Rattle.mono_model.specs.Setup.{is_setup};
     ghost use Rattle.trace_ring.specs.Ends.{func_start};
@@ -53,9 +54,9 @@ impl<D: Device, K: Named> FuncWorker<D, K> {
     pub fn new(
         alloc: Global,
         setup: &Setup,
-        end: FuncEnd<K>,
+        end: FuncEnd,
         devices: Vec<D>,
-    ) -> Result<FuncWorker<D, K>, NoMemory>
+    ) -> Result<FuncWorker<D>, NoMemory>
         requires sound { is_setup setup.now ≡ true }
         requires end { end ≡ func_start setup.now }
         requires order { map D.kind devices.items ≡ device_order }
@@ -97,10 +98,10 @@ impl<D: Device, K: Named> FuncWorker<D, K> {
 
     /// Obeys the next order, if there is one. Where it opens an epoch, the computed entry is of no
     /// use any more.
-    pub fn obey(&mut self) -> bool
+    pub fn obey<R: Wait>(&mut self, rt: &R) -> bool
         ensures setup { self.new.setup ≡ self.old.setup }
     {
-        let Some(order) = self.end.next() else {
+        let Some(order) = self.end.next(rt) else {
             return false;
         };
         let committed = self.side.committed();
@@ -145,11 +146,11 @@ impl<D: Device, K: Named> FuncWorker<D, K> {
     }
 
     /// Hands over the computed entry, if there is room for it.
-    fn push(&mut self) -> bool
+    fn push<R: Wait>(&mut self, rt: &R) -> bool
         requires computed { IsSome self.old.computed }
         ensures setup { self.new.setup ≡ self.old.setup }
     {
-        let pushed = self.end.push(self.entry).is_ok();
+        let pushed = self.end.push(rt, self.entry).is_ok();
         if pushed {
             self.is_computed = false;
         }
@@ -157,7 +158,7 @@ impl<D: Device, K: Named> FuncWorker<D, K> {
     }
 }
 
-impl<D: Device, K: Named> Worker for FuncWorker<D, K> {
+impl<D: Device> Worker for FuncWorker<D> {
     ghost setup = { λ worker. worker.setup };
 
     fn is_over(&self) -> bool {
@@ -171,17 +172,17 @@ impl<D: Device, K: Named> Worker for FuncWorker<D, K> {
     /// A turn: the next order is obeyed, or else the next entry made and handed over. Where there
     /// is none, those that were handed over go into the ring. Says whether there was anything to
     /// do.
-    fn turn(&mut self) -> bool {
-        if self.obey() {
+    fn turn<R: Wait>(&mut self, rt: &R) -> bool {
+        if self.obey(rt) {
             return true;
         }
         if !self.is_computed {
             self.compute();
         }
         if !self.is_computed {
-            self.end.flush();
+            self.end.flush(rt);
             return false;
         }
-        self.push()
+        self.push(rt)
     }
 }

@@ -11,4 +11,3 @@ mod time_worker;
 mod worker;
 
 pub use session::Session;
-pub use trace_ring::Named;

@@ -1,17 +1,12 @@
-use std::{hint, thread};
+/// Up to so many turns in a row in which a side had nothing to do it spins, since the other side
+/// mostly answers soon; then it gives way to other threads after each.
+pub const MOST_SPINS: u32 = 256;
 
-/// A side's round ends after so many turns in a row in which it had nothing to do.
-pub const MOST_IDLE: u32 = 4096;
+/// Once it has given way so often, its round is over: the host is busy.
+pub const MOST_WAITS: u32 = 16;
 
-/// Up to so many such turns in a row it spins, since the other side mostly answers soon; then it
-/// gives way to other threads.
-const MOST_SPINS: u32 = 256;
+/// So many turns the sides take on one thread after the first round, and twice as many after each
+/// further one, up to the most.
+pub const FEWEST_TURNS: u32 = 4096;
 
-/// Rests a little behind so many turns in a row without anything to do.
-pub fn rest(idle: u32) {
-    if idle <= MOST_SPINS {
-        hint::spin_loop();
-    } else {
-        thread::yield_now();
-    }
-}
+pub const MOST_TURNS: u32 = 1 << 20;

@@ -1,6 +1,7 @@
 ghost use Rattle.std.specs.Prelude.{◌≡◌, true, map, IfOk};
 
 use crate::func_worker::FuncWorker;
+use crate::rounds::{FEWEST_TURNS, MOST_TURNS};
 use crate::time_worker::TimeWorker;
 use crate::worker::Worker;
 use device_bus::Device;
@@ -11,19 +12,19 @@ use std::alloc::Global;
 use std::marker::Model;
 use std::sync::Wait;
 use std::thread::{Threads, join_mut};
-use trace_ring::{Named, rings};
+use trace_ring::rings;
 
 /// A run of the two sides in two threads. Contracts see its setup, the functional side, and whether
 /// the run has ended.
 #[derive(Drop)]
-pub struct Session<D: Device, K: Named> {
-    func: FuncWorker<D, K>,
-    time: TimeWorker<K>,
+pub struct Session<D: Device> {
+    func: FuncWorker<D>,
+    time: TimeWorker,
     /// Whether the run is over: all orders were told, and the functional side has obeyed the last.
     ended: bool,
 }
 
-impl<D: Device, K: Named> Model for Session<D, K> {
+impl<D: Device> Model for Session<D> {
     ghost use Rattle.fast_threads.specs.Session.{SessionAt, session_at, IsRunning};
 
     ghost Value = { SessionAt D };
@@ -33,20 +34,19 @@ impl<D: Device, K: Named> Model for Session<D, K> {
     ghost invariant = { λ session. IsRunning session.func session.time session.ended };
 }
 
-impl<D: Device, K: Named> Session<D, K> {
+impl<D: Device> Session<D> {
     ghost use Rattle.device_bus.specs.Bus.{device_order};
     ghost use Rattle.mono_model.specs.Setup.{is_setup};
     ghost use Rattle.mono_model.specs.Cycle.{final, mono};
 
     /// The two sides at the start of a run, with nothing under way. All memory of the run is taken
     /// here; a refusal drops what it was given.
-    pub fn new(alloc: Global, setup: &Setup, devices: Vec<D>) -> Result<Session<D, K>, NoMemory>
+    pub fn new(alloc: Global, setup: &Setup, devices: Vec<D>) -> Result<Session<D>, NoMemory>
         requires sound { is_setup setup.now ≡ true }
-        requires run { K.setup ≡ setup.now }
         requires order { map D.kind devices.items ≡ device_order }
         ensures setup { IfOk result (λ session. session.setup ≡ setup.now) }
     {
-        let (func_end, time_end) = rings::<K>(alloc, setup)?;
+        let (func_end, time_end) = rings(alloc, setup)?;
         let func = FuncWorker::new(alloc, setup, func_end, devices)?;
         let time = TimeWorker::new(alloc, setup, time_end)?;
         Ok(Session {
@@ -75,7 +75,7 @@ impl<D: Device, K: Named> Session<D, K> {
     }
 }
 
-impl<D: Device + Send, K: Named + Send> Session<D, K> {
+impl<D: Device + Send> Session<D> {
     ghost use Rattle.fast_threads.specs.Session.{HoldsEnd};
 
     /// Runs the two sides in two threads to the end of the run. In a round each side works until it
@@ -87,6 +87,7 @@ impl<D: Device + Send, K: Named + Send> Session<D, K> {
         ensures contents { HoldsEnd self.new.setup self.new.func.contents }
     {
         self.ended = false;
+        let mut turns = FEWEST_TURNS;
         for _ in rt.forever() {
             let halted = self.time.halted();
             let stopped = self.func.stopped();
@@ -106,7 +107,21 @@ impl<D: Device + Send, K: Named + Send> Session<D, K> {
                     ensures setup { time.exit.now.setup ≡ time.entry.now.setup }
                 { time.work(rt, gate) },
             );
+            self.take_turns(rt, gate, turns);
+            turns = turns.saturating_mul(2).min(MOST_TURNS);
         }
         unreachable!()
+    }
+
+    /// The sides take turns on this thread, the functional one where the timing one has nothing to
+    /// do.
+    fn take_turns<R: Wait, G: Gate>(&mut self, rt: &R, gate: &G, turns: u32)
+        ensures setup { self.new.setup ≡ self.old.setup }
+    {
+        for _ in 0..turns {
+            if !self.time.take_turn(rt, gate) {
+                self.func.take_turn(rt, gate);
+            }
+        }
     }
 }

@@ -7,13 +7,14 @@ use mono_model::{End, Setup, Stats};
 use rollback_cmds::Order;
 use std::alloc::Global;
 use std::marker::Model;
+use std::sync::Wait;
 use time_model::{TimeSide, Turn};
-use trace_ring::{Named, TimeEnd};
+use trace_ring::TimeEnd;
 
 /// The timing side at its end of the queues.
 #[derive(Drop)]
-pub struct TimeWorker<K: Named> {
-    end: TimeEnd<K>,
+pub struct TimeWorker {
+    end: TimeEnd,
     side: TimeSide,
     /// The order that was told and not sent yet.
     hand: Option<Order>,
@@ -21,7 +22,7 @@ pub struct TimeWorker<K: Named> {
     is_halted: bool,
 }
 
-impl<K: Named> Model for TimeWorker<K> {
+impl Model for TimeWorker {
     ghost use Rattle.fast_threads.specs.Workers.{TimeWork, time_work, IsTimeAt};
 
     ghost Value = { TimeWork };
@@ -31,7 +32,7 @@ impl<K: Named> Model for TimeWorker<K> {
     ghost invariant = { λ worker. IsTimeAt worker.end worker.side worker.hand worker.is_halted };
 }
 
-impl<K: Named> TimeWorker<K> {
+impl TimeWorker {
     ghost use Rattle.mono_model.specs.Setup.{is_setup};
     ghost use Rattle.mono_model.specs.Cycle.{mono};
     ghost use Rattle.mono_model.specs.Machine.{stats_of};
@@ -40,7 +41,7 @@ impl<K: Named> TimeWorker<K> {
 
     /// The timing side at the start of a run, with its end of the queues. All memory of the side is
     /// taken here; a refusal drops what it was given.
-    pub fn new(alloc: Global, setup: &Setup, end: TimeEnd<K>) -> Result<TimeWorker<K>, NoMemory>
+    pub fn new(alloc: Global, setup: &Setup, end: TimeEnd) -> Result<TimeWorker, NoMemory>
         requires sound { is_setup setup.now ≡ true }
         requires end { end ≡ time_start setup.now }
         ensures setup { IfOk result (λ worker. worker.setup ≡ setup.now) }
@@ -78,11 +79,11 @@ impl<K: Named> TimeWorker<K> {
     }
 
     /// Sends the order in hand, if the queue has room for it.
-    fn send(&mut self, order: Order) -> bool
+    fn send<R: Wait>(&mut self, rt: &R, order: Order) -> bool
         requires hand { self.old.hand ≡ Some order }
         ensures setup { self.new.setup ≡ self.old.setup }
     {
-        let sent = self.end.push(order).is_ok();
+        let sent = self.end.push(rt, order).is_ok();
         if sent {
             self.hand = None;
         }
@@ -92,13 +93,13 @@ impl<K: Named> TimeWorker<K> {
     /// Takes the next entry, if there is one, and makes the try that needs it. It is let go where
     /// its number isn't the wanted one, or it is of another epoch. Where there is none, the orders
     /// that were sent go into the queue.
-    fn take(&mut self) -> bool
+    fn take<R: Wait>(&mut self, rt: &R) -> bool
         requires wants { wants_in self.old.side ≡ true }
         requires none { self.old.hand ≡ None }
         ensures setup { self.new.setup ≡ self.old.setup }
     {
-        let Some(entry) = self.end.next() else {
-            self.end.flush();
+        let Some(entry) = self.end.next(rt) else {
+            self.end.flush(rt);
             return false;
         };
         if entry.number == self.side.next_number() {
@@ -111,15 +112,15 @@ impl<K: Named> TimeWorker<K> {
     /// Makes steps of the side up to the next order or want, at most as many as one call makes,
     /// where no order is in hand. Says whether there was anything to do: not so where the run is
     /// over and its last orders found no room.
-    fn step(&mut self) -> bool
+    fn step<R: Wait>(&mut self, rt: &R) -> bool
         requires none { self.old.hand ≡ None }
         ensures setup { self.new.setup ≡ self.old.setup }
     {
         match self.side.run() {
             Turn::Ordered(order) => self.hand = Some(order),
             Turn::Halted => {
-                self.is_halted = self.end.flush();
-                return self.is_halted;
+                self.end.flush(rt);
+                self.is_halted = true;
             }
             Turn::Moved => {}
             Turn::Want => {}
@@ -129,7 +130,7 @@ impl<K: Named> TimeWorker<K> {
     }
 }
 
-impl<K: Named> Worker for TimeWorker<K> {
+impl Worker for TimeWorker {
     ghost setup = { λ worker. worker.setup };
 
     fn is_over(&self) -> bool {
@@ -142,13 +143,13 @@ impl<K: Named> Worker for TimeWorker<K> {
 
     /// A turn: the order in hand is sent, or else the entry taken that the side needs, or steps are
     /// made. Says whether there was anything to do.
-    fn turn(&mut self) -> bool {
+    fn turn<R: Wait>(&mut self, rt: &R) -> bool {
         if let Some(order) = self.hand {
-            return self.send(order);
+            return self.send(rt, order);
         }
         if self.side.wants() {
-            return self.take();
+            return self.take(rt);
         }
-        self.step()
+        self.step(rt)
     }
 }

@@ -1,9 +1,10 @@
 ghost use Rattle.std.specs.Prelude.{◌≡◌};
 ghost use Rattle.mono_model.specs.declared.setup.Setup.{Setup};
 
-use crate::rounds::{MOST_IDLE, rest};
+use crate::rounds::{MOST_SPINS, MOST_WAITS};
 use fsim_ports::Gate;
 use std::sync::Wait;
+use std::{hint, thread};
 
 /// A side at its end of the queues. Both sides work turn by turn, each with a turn of its own.
 pub trait Worker: Drop {
@@ -17,24 +18,39 @@ pub trait Worker: Drop {
     fn pass<G: Gate>(gate: &G);
 
     /// A turn. Says whether there was anything to do.
-    fn turn(&mut self) -> bool
+    fn turn<R: Wait>(&mut self, rt: &R) -> bool
         ensures setup { setup self.new ≡ setup self.old };
 
-    /// Works until it is over, or there was nothing to do for many turns in a row.
+    /// Makes a turn, unless it is over. Says whether there was anything to do.
+    final fn take_turn<R: Wait, G: Gate>(&mut self, rt: &R, gate: &G) -> bool
+        ensures setup { setup self.new ≡ setup self.old }
+    {
+        if self.is_over() {
+            return false;
+        }
+        Self::pass(gate);
+        self.turn(rt)
+    }
+
+    /// Works until it is over, or there was nothing to do for so many turns in a row that the other
+    /// side is likely not to run at all.
     final fn work<R: Wait, G: Gate>(&mut self, rt: &R, gate: &G)
         ensures setup { setup self.new ≡ setup self.old }
     {
         let mut idle = 0;
+        let mut waits = 0;
         for _ in rt.forever() {
-            if self.is_over() || idle >= MOST_IDLE {
+            if self.is_over() || waits >= MOST_WAITS {
                 break;
             }
-            Self::pass(gate);
-            if self.turn() {
+            if self.take_turn(rt, gate) {
                 idle = 0;
-            } else {
+            } else if idle < MOST_SPINS {
                 idle += 1;
-                rest(idle);
+                hint::spin_loop();
+            } else {
+                waits += 1;
+                thread::yield_now();
             }
         }
     }

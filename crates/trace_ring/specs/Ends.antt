@@ -1,6 +1,6 @@
 -- What each end of the two queues knows.
 use Rattle.std.specs.Prelude.{◌≡◌, ℕ, ◌+◌, ◌-◌, Option, None, Some, List, [], ◌++◌, length, take}
-use Rattle.rtrb.specs.Fifo.{Allowed}
+use Rattle.trace_ring.specs.Line.{Allowed}
 use Rattle.trace_entry.specs.declared.Entry.{Entry}
 use Rattle.rollback_cmds.specs.declared.order.Order.{Order}
 use Rattle.mono_model.specs.declared.setup.Setup.{Setup}

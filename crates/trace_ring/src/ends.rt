@@ -1,46 +1,81 @@
 ghost use Rattle.std.specs.Prelude.{◌≡◌, true, IfOk};
 ghost use Rattle.mono_model.specs.Setup.{is_setup};
-ghost use Rattle.trace_ring.specs.Ends.{func_start, time_start};
 
-use crate::batch::Batch;
+use crate::count::{Reader, Teller, count};
 use crate::func_end::FuncEnd;
-use crate::rules::Named;
+use crate::inlet::Inlet;
+use crate::line::{Law, Line, LinePass, View};
+use crate::outlet::Outlet;
 use crate::time_end::TimeEnd;
+use crossbeam_queue::protocol::Split;
 use fsim_base::NoMemory;
 use mono_model::Setup;
 use rollback_cmds::{ORDER_ROOM, Order};
-use rtrb::RingBuffer;
 use std::alloc::{AllocError, Global};
+use std::marker::{Brand, PhantomData};
+use std::sync::Arc;
 use trace_entry::Entry;
+
+/// The setup that the passes of a run know. It is picked where they are made, so that no type has a
+/// parameter for it.
+pub trait Named {
+    ghost use Rattle.mono_model.specs.declared.setup.Setup.{Setup as RunSetup};
+
+    ghost setup: { RunSetup };
+}
+
+impl Named for Brand {
+    ghost use Rattle.trace_ring.specs.NoRun.{no_setup};
+
+    ghost setup = { no_setup };
+}
+
+/// What a line's two passes know once the second is given: nothing was handed over yet.
+pub struct Opens<K> {
+    run: PhantomData<K>,
+}
+
+impl<T, K: Named> Split<View<T>> for Opens<K> {
+    ghost use Rattle.std.specs.Prelude.{[]};
+    ghost use Rattle.trace_ring.specs.declared.role.Role.TheVariants.{Pushes, Takes};
+    ghost use Rattle.trace_ring.specs.Line.{view_of};
+
+    ghost left = { λ v. view_of Pushes K.setup [] };
+
+    ghost right = { λ v. view_of Takes K.setup [] };
+}
 
 /// The two queues of a run, one of `ring` entries and one of 64 orders, by their two ends. It takes
 /// all of their memory here.
-pub fn rings<K: Named>(alloc: Global, setup: &Setup) -> Result<(FuncEnd<K>, TimeEnd<K>), NoMemory>
-    requires sound { is_setup setup.now ≡ true }
-    requires run { K.setup ≡ setup.now }
-    ensures func { IfOk result (λ ends. ends.0 ≡ func_start setup.now) }
-    ensures time { IfOk result (λ ends. ends.1 ≡ time_start setup.now) }
-{
-    opened::<K>(alloc, setup).map_err(|_| NoMemory)
+pub fn rings(alloc: Global, setup: &Setup) -> Result<(FuncEnd, TimeEnd), NoMemory> {
+    opened::<Brand>(alloc, setup).map_err(|_| NoMemory)
 }
 
-fn opened<K: Named>(alloc: Global, setup: &Setup) -> Result<(FuncEnd<K>, TimeEnd<K>), AllocError>
-    requires run { K.setup ≡ setup.now }
-    ensures func { IfOk result (λ ends. ends.0 ≡ func_start setup.now) }
-    ensures time { IfOk result (λ ends. ends.1 ≡ time_start setup.now) }
-{
-    let (entries_in, entries_out) = RingBuffer::with_protocol(alloc, setup.ring as usize)?;
-    let (orders_in, orders_out) = RingBuffer::with_protocol(alloc, ORDER_ROOM)?;
+fn opened<K: Named>(alloc: Global, setup: &Setup) -> Result<(FuncEnd, TimeEnd), AllocError> {
+    let ring = u64::from(setup.ring);
+    let (entries_out, entries_in) = line::<K, Entry, _>(alloc, ring, Entry::BLANK)?;
+    let (orders_out, orders_in) = line::<K, Order, _>(alloc, ORDER_ROOM as u64, Order::Stop { n: 0 })?;
     let func = FuncEnd {
-        entries: entries_in,
-        orders: orders_out,
-        outgoing: Batch::new(Entry::BLANK),
-    };
-    let time = TimeEnd {
         entries: entries_out,
         orders: orders_in,
-        arrived: Batch::new(Entry::BLANK),
-        outgoing: Batch::new(Order::Stop { n: 0 }),
+    };
+    let time = TimeEnd {
+        entries: entries_in,
+        orders: orders_out,
     };
     Ok((func, time))
+}
+
+fn line<K: Named, T: Copy + Drop, L: Law<T>>(
+    alloc: Global,
+    bound: u64,
+    blank: T,
+) -> Result<(Outlet<T, L>, Inlet<T, L>), AllocError> {
+    let (line, mut pushes) = Line::<T, L>::ruled(alloc, bound as usize)?;
+    let takes = line.another::<Opens<K>>(&mut pushes);
+    let (teller, reader) = count(alloc)?;
+    let line = Arc::new(alloc, line)?;
+    let inlet = Inlet::new(Arc::try_clone(&line)?, takes, teller, blank);
+    let outlet = Outlet::new(line, pushes, reader, bound, blank);
+    Ok((outlet, inlet))
 }

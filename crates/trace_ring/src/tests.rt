@@ -14,7 +14,7 @@ use std::sync::Wait;
 use std::test::Fail;
 use std::thread;
 use trace_entry::Entry;
-use trial::{Trial, next_word, refused_fetch, setup};
+use trial::{next_word, refused_fetch, setup};
 
 /// How many entries go from one thread to another.
 const ENTRIES: u64 = 5000;
@@ -23,7 +23,7 @@ const ENTRIES: u64 = 5000;
 const ORDERS: u32 = 88;
 
 /// Pushes an entry, and says whether it had room.
-fn push<R: Abort>(rt: &R, end: &mut FuncEnd<Trial>, epoch: u64, number: u64, addr: u32) -> bool
+fn push<R: Abort>(rt: &R, end: &mut FuncEnd, epoch: u64, number: u64, addr: u32) -> bool
     requires run { end.old.setup ≡ trial }
     requires named { IsNamed trial (refused_fetch epoch number addr) }
     requires follows { Follows trial end.old.last epoch number }
@@ -44,7 +44,7 @@ fn push<R: Abort>(rt: &R, end: &mut FuncEnd<Trial>, epoch: u64, number: u64, add
 /// Pushes an entry that has room, or else has none.
 fn expect_push<R: Abort>(
     rt: &R,
-    end: &mut FuncEnd<Trial>,
+    end: &mut FuncEnd,
     epoch: u64,
     number: u64,
     addr: u32,
@@ -66,7 +66,7 @@ const ROOM: u64 = 20;
 
 /// Pushes the first entries of an epoch, one after the other; each has room.
 #[tactic(auto, using(crate::proofs::Trials::entry_named, crate::proofs::Trials::goes_on))]
-fn push_first<R: Abort>(rt: &R, func: &mut FuncEnd<Trial>, count: u64)
+fn push_first<R: Abort>(rt: &R, func: &mut FuncEnd, count: u64)
     requires run { func.old.setup ≡ trial }
     requires last { func.old.last ≡ None }
     ensures run { func.new.setup ≡ trial }
@@ -79,7 +79,7 @@ fn push_first<R: Abort>(rt: &R, func: &mut FuncEnd<Trial>, count: u64)
 
 /// Pushes the first entry of epoch 3 behind the second of epoch 1. It has room, or else has none.
 #[tactic(auto, using(crate::proofs::Trials::first_of_three))]
-fn push_last<R: Abort>(rt: &R, func: &mut FuncEnd<Trial>, room: bool)
+fn push_last<R: Abort>(rt: &R, func: &mut FuncEnd, room: bool)
     requires run { func.old.setup ≡ trial }
     requires last { func.old.last ≡ Some (1, 2) }
     ensures run { func.new.setup ≡ trial }
@@ -90,7 +90,7 @@ fn push_last<R: Abort>(rt: &R, func: &mut FuncEnd<Trial>, room: bool)
 
 /// Entries of two epochs fill the ring and what may wait before it; the next one has no room.
 #[tactic(auto, using(crate::proofs::Trials::first_of_one, crate::proofs::Trials::second_of_one))]
-fn fill<R: Abort>(rt: &R, func: &mut FuncEnd<Trial>)
+fn fill<R: Abort>(rt: &R, func: &mut FuncEnd)
     requires run { func.old.setup ≡ trial }
     requires last { func.old.last ≡ None }
     ensures run { func.new.setup ≡ trial }
@@ -103,7 +103,7 @@ fn fill<R: Abort>(rt: &R, func: &mut FuncEnd<Trial>)
 }
 
 /// Takes entries of an epoch, from one number up to before another.
-fn expect_entries<R: Abort>(rt: &R, time: &mut TimeEnd<Trial>, first: u64, end: u64) {
+fn expect_entries<R: Abort>(rt: &R, time: &mut TimeEnd, first: u64, end: u64) {
     for number in first..end {
         assert_eq!(rt; time.next(), Some(refused_fetch(0, number, 0)));
     }
@@ -113,7 +113,7 @@ fn expect_entries<R: Abort>(rt: &R, time: &mut TimeEnd<Trial>, first: u64, end: 
 fn full_ring_hands_an_entry_back(rt: HostRuntime) -> Result<(), Fail> {
     let setup = setup(rt.alloc());
     assert!(rt; setup.sound());
-    let (mut func, mut time) = rings::<Trial>(rt.alloc(), &setup)?;
+    let (mut func, mut time) = rings(rt.alloc(), &setup)?;
     assert_eq!(rt; time.next(), None);
     fill(&rt, &mut func);
     expect_entries(&rt, &mut time, 0, 4);
@@ -140,7 +140,7 @@ fn full_ring_hands_an_entry_back(rt: HostRuntime) -> Result<(), Fail> {
 fn ring_is_drained_once_its_entries_are_taken(rt: HostRuntime) -> Result<(), Fail> {
     let setup = setup(rt.alloc());
     assert!(rt; setup.sound());
-    let (mut func, mut time) = rings::<Trial>(rt.alloc(), &setup)?;
+    let (mut func, mut time) = rings(rt.alloc(), &setup)?;
     push_first(&rt, &mut func, 2);
     assert!(rt; func.is_drained());
     func.flush();
@@ -152,7 +152,7 @@ fn ring_is_drained_once_its_entries_are_taken(rt: HostRuntime) -> Result<(), Fai
 
 /// Pushes the order in a place, and says whether it had room.
 #[tactic(auto, using(crate::proofs::Trials::order_named))]
-fn push_order(end: &mut TimeEnd<Trial>, place: u32) -> bool
+fn push_order(end: &mut TimeEnd, place: u32) -> bool
     requires run { end.old.setup ≡ trial }
     requires place { (end.old.pushed ≡ place) × (place < 88) }
     ensures run { end.new.setup ≡ trial }
@@ -165,7 +165,7 @@ fn push_order(end: &mut TimeEnd<Trial>, place: u32) -> bool
 }
 
 /// Pushes the orders in the places from `first` on until one is handed back, and gives its place.
-fn push_orders(end: &mut TimeEnd<Trial>, first: u32) -> u32
+fn push_orders(end: &mut TimeEnd, first: u32) -> u32
     requires run { end.old.setup ≡ trial }
     requires place { (end.old.pushed ≡ first) × (first ≤ 88) }
     ensures run { end.new.setup ≡ trial }
@@ -180,7 +180,7 @@ fn push_orders(end: &mut TimeEnd<Trial>, first: u32) -> u32
 }
 
 /// Takes orders, from the one in a place up to before another place.
-fn expect_orders<R: Abort>(rt: &R, func: &mut FuncEnd<Trial>, first: u32, end: u32)
+fn expect_orders<R: Abort>(rt: &R, func: &mut FuncEnd, first: u32, end: u32)
     requires within { end ≤ 88 }
 {
     for place in first..end {
@@ -193,7 +193,7 @@ fn expect_orders<R: Abort>(rt: &R, func: &mut FuncEnd<Trial>, first: u32, end: u
 fn full_order_queue_hands_an_order_back(rt: HostRuntime) -> Result<(), Fail> {
     let setup = setup(rt.alloc());
     assert!(rt; setup.sound());
-    let (mut func, mut time) = rings::<Trial>(rt.alloc(), &setup)?;
+    let (mut func, mut time) = rings(rt.alloc(), &setup)?;
     assert_eq!(rt; func.next(), None);
     let refused = push_orders(&mut time, 0);
     assert_eq!(rt; refused, 80);
@@ -209,7 +209,7 @@ fn full_order_queue_hands_an_order_back(rt: HostRuntime) -> Result<(), Fail> {
 
 /// Pushes all entries, waiting for room, and then flushes until an order says that they came.
 #[tactic(auto, using(crate::proofs::Trials::entry_named))]
-fn push_all<R: Wait + Abort>(rt: &R, mut end: FuncEnd<Trial>)
+fn push_all<R: Wait + Abort>(rt: &R, mut end: FuncEnd)
     requires run { end.setup ≡ trial }
     requires last { end.last ≡ None }
 {
@@ -230,7 +230,7 @@ fn push_all<R: Wait + Abort>(rt: &R, mut end: FuncEnd<Trial>)
 }
 
 /// Takes all entries, waiting for each, and then gives the first order.
-fn take_all<R: Wait + Abort>(rt: &R, mut end: TimeEnd<Trial>)
+fn take_all<R: Wait + Abort>(rt: &R, mut end: TimeEnd)
     requires run { end.setup ≡ trial }
     requires pushed { end.pushed ≡ 0 }
 {
@@ -254,7 +254,7 @@ fn take_all<R: Wait + Abort>(rt: &R, mut end: TimeEnd<Trial>)
 fn two_threads_hand_over_entries(rt: HostRuntime) -> Result<(), Fail> {
     let setup = setup(rt.alloc());
     assert!(rt; setup.sound());
-    let (func, time) = rings::<Trial>(rt.alloc(), &setup)?;
+    let (func, time) = rings(rt.alloc(), &setup)?;
     thread::join(
         &rt,
         move ||

@@ -1,22 +1,12 @@
 ghost use Rattle.std.specs.Prelude.{◌≡◌, ◌<◌};
 ghost use Rattle.trace_ring.specs.Trial.{trial, trial_params, refused_fetch, next_word};
 
-use crate::Named;
 use elf_image::{Image, Segments};
 use fsim_base::{Access, Bytes, Cause, Class};
 use mono_model::{Params, Setup};
 use rollback_cmds::Order;
 use std::alloc::Global;
 use trace_entry::Entry;
-
-/// Names the setup of the run that is handed over.
-pub struct Trial;
-
-impl Named for Trial {
-    ghost use Rattle.trace_ring.specs.Trial.{trial};
-
-    ghost setup = { trial };
-}
 
 /// A machine that is far from its first result when its run ends.
 fn params() -> Params
