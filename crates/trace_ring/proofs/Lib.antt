@@ -1,3 +1,4 @@
-mod Pushing
-mod Waiting
-pub mod Trials
+mod Two
+pub mod CountSteps
+pub mod LineSteps
+pub mod Handing

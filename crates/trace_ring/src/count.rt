@@ -24,12 +24,13 @@ impl TableRule<(), CountView, ()> for CountRule {
     ghost first = { λ _. count_fresh };
 }
 
-/// The word lies alone in its lines of the cache.
-const WORD: usize = 8;
-
+/// So many words, and the place of the count among them: it shares no line of the cache with other
+/// data.
 const WORDS: usize = 17;
 
-pub type Count = Table<(), CountView, (), CountRule, Global>;
+const PLACE: usize = 8;
+
+type Shelf = Table<(), CountView, (), CountRule, Global>;
 
 struct Opens;
 
@@ -63,43 +64,86 @@ impl Play<(), CountView> for Reads {
         (new.0 ≡ count_view Pushes found) × (old.0.count ≤ found) };
 }
 
-/// Tells how many values were handed out. Contracts see what was told.
+/// Tells how many values were handed out. Contracts see the number told last.
 #[derive(Drop)]
 pub struct Teller {
-    count: Arc<Count, Global>,
+    shelf: Arc<Shelf, Global>,
     seat: Seat<(), CountView>,
 }
 
-/// Reads how many values were handed out. Contracts see what was read.
+impl Model for Teller {
+    ghost use Rattle.std.specs.Prelude.{◌≡◌, ℕ};
+    ghost use Rattle.std.specs.Arc.{arc_value};
+    ghost use Rattle.trace_ring.specs.declared.role.Role.TheVariants.{Takes};
+
+    ghost Value = { ℕ };
+
+    ghost view = { λ teller. teller.seat.me.0.count };
+
+    ghost invariant = { λ teller.
+        (teller.seat.table_id ≡ (arc_value teller.shelf).shared.table_id)
+        × ((arc_value teller.shelf).shared.table_id.words ≡ 17)
+        × (teller.seat.me.0.role ≡ Takes) };
+}
+
+/// Reads how many values were handed out. Contracts see the number read last.
 #[derive(Drop)]
 pub struct Reader {
-    count: Arc<Count, Global>,
+    shelf: Arc<Shelf, Global>,
     seat: Seat<(), CountView>,
 }
 
+impl Model for Reader {
+    ghost use Rattle.std.specs.Prelude.{◌≡◌, ℕ};
+    ghost use Rattle.std.specs.Arc.{arc_value};
+    ghost use Rattle.trace_ring.specs.declared.role.Role.TheVariants.{Pushes};
+
+    ghost Value = { ℕ };
+
+    ghost view = { λ reader. reader.seat.me.0.count };
+
+    ghost invariant = { λ reader.
+        (reader.seat.table_id ≡ (arc_value reader.shelf).shared.table_id)
+        × ((arc_value reader.shelf).shared.table_id.words ≡ 17)
+        × (reader.seat.me.0.role ≡ Pushes) };
+}
+
+ghost use Rattle.std.specs.Prelude.{◌≡◌, ◌≤◌, IfOk};
+
 /// The two ends of a count that is 0. They take their memory here.
-pub fn count(alloc: Global) -> Result<(Teller, Reader), AllocError> {
-    let (table, mut tells) = Count::of_words(alloc, &[0; WORDS], &())?;
+pub fn count_of_none(alloc: Global) -> Result<(Teller, Reader), AllocError>
+    ensures told { IfOk result (λ ends. ends.0 ≡ 0) }
+    ensures read { IfOk result (λ ends. ends.1 ≡ 0) }
+{
+    let (table, mut tells) = Shelf::of_words(alloc, &[0; WORDS], &())?;
     let reads = table.shared.split_seat::<Opens>(&mut tells);
-    let count = Arc::new(alloc, table)?;
+    let shelf = Arc::new(alloc, table)?;
     let reader = Reader {
-        count: Arc::try_clone(&count)?,
+        shelf: Arc::try_clone(&shelf)?,
         seat: reads,
     };
-    let teller = Teller { count, seat: tells };
+    let teller = Teller { shelf, seat: tells };
     Ok((teller, reader))
 }
 
 impl Teller {
-    /// So many were handed out now.
-    pub fn tell(&mut self, handed: u64) {
-        self.count.shared.store::<Tells>(&mut self.seat, WORD, handed);
+    /// Tells that so many were handed out, no fewer than before.
+    pub fn tell(&mut self, handed: u64)
+        requires more { self.old ≤ handed }
+        ensures told { self.new ≡ handed }
+    {
+        self.shelf
+            .shared
+            .store::<Tells>(&mut self.seat, PLACE, handed);
     }
 }
 
 impl Reader {
-    /// How many were handed out, at some time in this call.
-    pub fn read(&mut self) -> u64 {
-        self.count.shared.load::<Reads>(&mut self.seat, WORD)
+    /// How many were told at some time in this call: no fewer than at the last one.
+    pub fn read(&mut self) -> u64
+        ensures read { self.new ≡ result }
+        ensures more { self.old ≤ result }
+    {
+        self.shelf.shared.load::<Reads>(&mut self.seat, PLACE)
     }
 }

@@ -1,12 +1,14 @@
+ghost use Rattle.std.specs.Prelude.{◌≡◌, ◌+◌};
+
 use std::sync::Wait;
 
-/// One more. Behind the highest number, which no run comes to, it waits for ever.
-pub fn one_more<R: Wait>(rt: &R, count: u64) -> u64 {
-    match count.checked_add(1) {
-        Some(more) => more,
-        None => {
-            for _ in rt.forever() {}
-            unreachable!()
-        }
-    }
+/// One more. After the highest number, to which no run comes, it waits for ever.
+pub fn one_more<R: Wait>(rt: &R, count: u64) -> u64
+    ensures more { result ≡ count + 1 }
+{
+    let Some(more) = count.checked_add(1) else {
+        for _ in rt.forever() {}
+        unreachable!()
+    };
+    more
 }

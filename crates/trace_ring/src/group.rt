@@ -3,31 +3,26 @@ use std::marker::Model;
 /// How many values a group has room for.
 pub const ROOM: usize = 4;
 
-/// A few values in order, the oldest first. They go into a queue together, as one item of it, and
-/// are handed out one after the other once they came out of it: one alone costs as much as several.
-/// Contracts see them as a list.
+/// A few values in order, the oldest first. They go into a queue together, as one item of it: one
+/// alone costs as much as several. Contracts see them as a list.
 #[derive(Drop)]
 pub struct Group<T> {
     values: [T; ROOM],
-    /// Those from here on are left, up to `end`.
-    start: usize,
-    end: usize,
+    len: usize,
 }
 
 impl<T> Model for Group<T> {
-    ghost use Rattle.std.specs.Prelude.{◌≤◌, List, length, take, drop};
+    ghost use Rattle.std.specs.Prelude.{◌≡◌, ◌≤◌, List, length, take};
 
     ghost Value = { List T };
 
-    ghost view = { λ group. drop group.start (take group.end group.values) };
+    ghost view = { λ group. take group.len group.values };
 
-    ghost invariant = { λ group.
-        (group.start ≤ group.end) × (group.end ≤ length group.values) };
+    ghost invariant = { λ group. (group.len ≤ 4) × (length group.values ≡ 4) };
 }
 
 impl<T: Copy> Group<T> {
-    ghost use Rattle.std.specs.Prelude.{◌≡◌, ◌↔◌, ◌<◌, [], ◌∷◌, ◌++◌, length, IsTrue, IsOk};
-    ghost use Rattle.std.specs.Prelude.{IfErr, IfSome, IfNone, OnOk, OnErr};
+    ghost use Rattle.std.specs.Prelude.{◌≡◌, ◌+◌, ◌<◌, ◌≤◌, [], ◌∷◌, ◌++◌, length, drop, IfSome, IfNone};
 
     /// No values. `blank` fills the room.
     pub fn new(blank: T) -> Group<T>
@@ -35,55 +30,50 @@ impl<T: Copy> Group<T> {
     {
         Group {
             values: [blank; ROOM],
-            start: 0,
-            end: 0,
+            len: 0,
         }
     }
 
-    /// Whether no value is left.
-    pub fn is_empty(&self) -> bool
-        ensures empty { IsTrue result ↔ (self.now ≡ []) }
-    {
-        self.start == self.end
-    }
-
-    /// How many values are left.
+    /// How many values there are.
     pub fn len(&self) -> usize
         ensures len { result ≡ length self.now }
+        ensures room { result ≤ 4 }
     {
-        self.end - self.start
+        self.len
     }
 
-    /// The oldest value.
-    pub fn next(&mut self) -> Option<T>
-        ensures oldest { IfSome result (λ value. self.old ≡ value ∷ self.new) }
-        ensures none { IfNone result (self.old ≡ []) }
-        ensures same { IfNone result (self.new ≡ self.old) }
+    /// The value in a place, counted from 0.
+    pub fn get(&self, place: usize) -> Option<T>
+        ensures value { IfSome result (λ value.
+            drop place self.now ≡ value ∷ drop (place + 1) self.now) }
+        ensures within { IfSome result (λ _. place < 4) }
+        ensures behind { IfNone result (length self.now ≤ place) }
     {
-        if self.is_empty() {
+        if place >= self.len {
             return None;
         }
-        let value = self.values[self.start];
-        self.start += 1;
-        Some(value)
+        Some(self.values[place])
     }
 
-    /// Puts a value behind the others. It comes back where these reach up to the end of the room.
-    pub fn push(&mut self, value: T) -> Result<(), T>
-        ensures pushed { OnOk result (self.new ≡ self.old ++ value ∷ []) }
-        ensures back { IfErr result (λ back. back ≡ value) }
-        ensures same { OnErr result (self.new ≡ self.old) }
-        ensures room { self.old ≡ [] → IsOk result }
+    /// Puts a value behind the others.
+    pub fn push(&mut self, value: T)
+        requires room { length self.old < 4 }
+        ensures pushed { self.new ≡ self.old ++ value ∷ [] }
     {
-        if self.is_empty() {
-            self.start = 0;
-            self.end = 0;
-        }
-        if self.end >= ROOM {
-            return Err(value);
-        }
-        self.values[self.end] = value;
-        self.end += 1;
-        Ok(())
+        self.values[self.len] = value;
+        self.len += 1;
+    }
+
+    /// Hands the values over, and has none left.
+    pub fn take(&mut self) -> Group<T>
+        ensures group { result ≡ self.old }
+        ensures none { self.new ≡ [] }
+    {
+        let group = Group {
+            values: self.values,
+            len: self.len,
+        };
+        self.len = 0;
+        group
     }
 }

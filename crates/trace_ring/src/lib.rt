@@ -22,5 +22,3 @@ pub use ends::rings;
 pub use func_end::FuncEnd;
 pub use time_end::TimeEnd;
 
-#[cfg(test)]
-mod tests;
