@@ -1,5 +1,5 @@
 -- The functional side at its end of the queues: each of its turns keeps what it stands for.
-use Rattle.std.proofs.Common.{◌≡◌, ℕ, ◌+◌, ◌≤◌, ◌<◌, ◌↔◌, Bool, true, false, if◌then◌else◌, Option, Some, None, IfSome, OnSome, IfNone, IsNone, List, [], ◌∷◌, length, refl, ap, sym, ◌∙◌, subst, arith, inr}
+use Rattle.std.proofs.Common.{◌≡◌, ℕ, ◌+◌, ◌≤◌, ◌<◌, ◌↔◌, Bool, true, false, if◌then◌else◌, Option, Some, None, IfSome, OnSome, IfNone, IsNone, List, [], ◌∷◌, length, refl, ap, sym, ◌∙◌, subst, arith, inl, inr}
 use Rattle.rollback_cmds.specs.declared.order.Order.{Order}
 use Rattle.rollback_cmds.specs.declared.order.Order.TheVariants.{Set, Commit, Interrupt, Time, Stop, Sync}
 use Rattle.rollback_cmds.specs.Order.{opens_epoch_of}
@@ -17,7 +17,7 @@ use Rattle.func_model.specs.declared.walk.Walk.{Walk}
 use Rattle.func_model.specs.Walk.{WalkStandsFor, IsFresh, IsForward, IsAtRest, IsProduced, IsObeyed, position_by}
 use Rattle.trace_ring.specs.Ring.{Follows}
 use Rattle.trace_ring.specs.Orders.{IsInPlace}
-use Rattle.trace_ring.specs.Ends.{FuncAt, func_start, func_taken}
+use Rattle.trace_ring.specs.Ends.{FuncAt, func_start, func_pushed, func_taken}
 use Rattle.machine_laws.specs.Told.{HasName}
 use Rattle.machine_laws.specs.NextOrder.{MayObeyNext}
 use Rattle.side_laws.specs.Along.{MayObey, MayProduce}
@@ -169,6 +169,37 @@ module _ {D : Type 0} (end : FuncAt) (side : Walk D) (is : IsFuncAt end side Non
           position = moved.position ∙ ap (λ (n : ℕ). n + 1) (sym number);
         };
       }
+
+-- how many entries wait or are handed out tells nothing of the side
+looks : {D : Type 0} (end : FuncAt) (side : Walk D) (c : Option Entry) (known waiting : ℕ) → GoesOn end side c → GoesOn (record end { known = known; waiting = waiting }) side c
+looks end side None known waiting goes = goes
+looks end side (Some e) known waiting goes = record { named = goes.named; follows = goes.follows; epoch = goes.epoch; position = goes.position }
+
+pub func_looks : {D : Type 0} (end after : FuncAt) (side : Walk D) (computed : Option Entry) (known waiting : ℕ) → IsFuncAt end side computed → after ≡ record end { known = known; waiting = waiting } →
+    IsFuncAt after side computed
+func_looks {D} end after side computed known waiting is same =
+    let P : FuncAt → Type 0 = λ x. IsFuncAt {D = D} x side computed in
+    subst P (sym same) (record {
+      sound = is.sound;
+      orders = is.orders;
+      taken = is.taken;
+      along = is.along;
+      epochs = is.epochs;
+      goes_on = looks end side computed known waiting is.goes_on;
+    })
+
+-- the computed entry was pushed
+pub func_pushes : {D : Type 0} (end after : FuncAt) (side : Walk D) (e : Entry) (known waiting : ℕ) → IsFuncAt end side (Some e) → after ≡ func_pushed end e known waiting → IsFuncAt after side None
+func_pushes {D} end after side e known waiting is pushed =
+    let P : FuncAt → Type 0 = λ x. IsFuncAt {D = D} x side None in
+    subst P (sym pushed) (record {
+      sound = is.sound;
+      orders = is.orders;
+      taken = is.taken;
+      along = is.along;
+      epochs = let same = is.goes_on.epoch in omega arith;
+      goes_on = inl (sym is.goes_on.epoch, is.goes_on.position);
+    })
 
 -- where the entry comes back nothing has changed
 pub func_same : {D : Type 0} (end end_behind : FuncAt) (side : Walk D) (computed : Option Entry) → IsFuncAt end side computed → end_behind ≡ end → IsFuncAt end_behind side computed

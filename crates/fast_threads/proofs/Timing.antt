@@ -30,7 +30,7 @@ use Rattle.time_model.proofs.Feeding.{holding_stands}
 use Rattle.time_model.specs.Standing.{TimeSideStandsFor, IsStep, IsMade, IsRight, is_told_out, wants_in}
 use Rattle.time_model.proofs.Owing.{stands_wants}
 use Rattle.trace_ring.specs.Ring.{IsNamed}
-use Rattle.trace_ring.specs.Ends.{TimeAt, time_start, time_taken}
+use Rattle.trace_ring.specs.Ends.{TimeAt, time_start, time_pushed, time_read, time_flushed, time_taken}
 use Rattle.fast_threads.specs.Workers.{in_hand, IsTimeAt}
 
 none_told : (s : Setup) → length (told (place s 0)) ≡ 0
@@ -46,6 +46,7 @@ time_starts s side sound stands = record {
   orders = none_told s;
   next = tt;
   over = λ is. cc;
+  sent = λ is. refl;
 }
 
 pub time_same : (end behind : TimeAt) (side : TimeState) (hand : Option Order) (is_halted : Bool) → IsTimeAt end side hand is_halted → behind ≡ end → IsTimeAt behind side hand is_halted
@@ -65,6 +66,7 @@ time_takes end behind side new e hand is_halted is taken stands =
       orders = is.orders;
       next = is.next;
       over = is.over;
+      sent = is.sent;
     })
 
 -- the entry with the wanted number may be handed to the side: where it is of the side's epoch, it
@@ -137,6 +139,7 @@ module _ (end : TimeAt) (side new : TimeState) (hand : Option Order) (is_halted 
         orders = ap (λ (os : List Order). length os) (step_told s is.steps) ∙ one_more o (told p) ∙ ap (λ (n : ℕ). n + in_hand o) orders_pushed;
         next = in_place s o (length (told p)) end.pushed orders_pushed (order_is s is.steps (setup_facts s is.sound).some_cycle);
         over = λ halts. cc (is.over halts, on);
+        sent = is.sent;
       })
 
   by_over : (b : Bool) → is_told_out (place end.setup is.steps) ≡ b → (needs_entry (place end.setup is.steps) && is_none side.telling.held) ≡ false → Stepped
@@ -161,14 +164,14 @@ module _ (end : TimeAt) (side new : TimeState) (hand : Option Order) (is_halted 
   time_moves : (what : Turn) → turn ≡ what → order_told what ≡ None → IsTimeAt end new hand is_halted
   time_moves what same told = time_with end new (order_told turn) hand is_halted (ap order_told same ∙ told ∙ sym none) stepped
 
-  halts_over : turn ≡ Halted → (b : Bool) → is_told_out (place end.setup is.steps) ≡ b → (needs_entry (place end.setup is.steps) && is_none side.telling.held) ≡ false → IsTimeAt end new hand true
+  halts_over : turn ≡ Halted → (b : Bool) → is_told_out (place end.setup is.steps) ≡ b → (needs_entry (place end.setup is.steps) && is_none side.telling.held) ≡ false → IsTimeAt (time_flushed end) new hand true
   halts_over halts true over fed =
       let it = made.rests over in
-      let P : TimeState → Type 0 = λ t. IsTimeAt end t hand true in
-      subst P (sym it.1) (record { sound = is.sound; steps = is.steps; stands = is.stands; orders = is.orders; next = is.next; over = λ h. over })
+      let P : TimeState → Type 0 = λ t. IsTimeAt (time_flushed end) t hand true in
+      subst P (sym it.1) (record { sound = is.sound; steps = is.steps; stands = is.stands; orders = is.orders; next = is.next; over = λ h. over; sent = λ h. refl })
   halts_over halts false on fed = absurd (goes_on _ _ (sym (made.goes fed on).turn_is ∙ halts))
 
-  halts_lack : turn ≡ Halted → (b : Bool) → (needs_entry (place end.setup is.steps) && is_none side.telling.held) ≡ b → IsTimeAt end new hand true
+  halts_lack : turn ≡ Halted → (b : Bool) → (needs_entry (place end.setup is.steps) && is_none side.telling.held) ≡ b → IsTimeAt (time_flushed end) new hand true
   halts_lack halts true lacks =
       let parts = and_parts (needs_entry (place end.setup is.steps)) (is_none side.telling.held) lacks in
       let it = made.waits parts.0 (none_held side.telling.held parts.1) in
@@ -177,7 +180,7 @@ module _ (end : TimeAt) (side new : TimeState) (hand : Option Order) (is_halted 
   halts_lack halts false fed = halts_over halts (is_told_out (place end.setup is.steps)) refl fed
 
   -- the run is over
-  time_halts : turn ≡ Halted → IsTimeAt end new hand true
+  time_halts : turn ≡ Halted → IsTimeAt (time_flushed end) new hand true
   time_halts halts = halts_lack halts (needs_entry (place end.setup is.steps) && is_none side.telling.held) refl
 
 silent_told : (turn : Turn) → is_silent turn ≡ true → order_told turn ≡ None
@@ -214,7 +217,7 @@ module _ (end : TimeAt) (side new : TimeState) (hand : Option Order) (is_halted 
   pub run_moves : (what : Turn) → turn ≡ what → order_told what ≡ None → IsTimeAt end new hand is_halted
   run_moves = time_moves end ran.behind new hand is_halted turn none before_last last_made
 
-  pub run_halts : turn ≡ Halted → IsTimeAt end new hand true
+  pub run_halts : turn ≡ Halted → IsTimeAt (time_flushed end) new hand true
   run_halts = time_halts end ran.behind new hand is_halted turn none before_last last_made
 
 -- the side stands where it stood behind an entry that was held or dropped
@@ -231,11 +234,33 @@ time_fed end behind side new e hand told is_halted turn none is taken needs fed 
     let stands = taken_stands end.setup is.steps e side fed.taken fed.answer fed.used fed.dropped fed.by_epoch is.stands needs in
     run_told behind fed.taken new hand is_halted turn none (time_takes end behind side fed.taken e hand is_halted is taken stands) fed.run told is_told
 
--- once the run is over, and whether or not its last orders have gone into the queue
-pub time_flushed : (end behind : TimeAt) (side : TimeState) (hand : Option Order) (gone : Bool) → IsTimeAt end side hand true → behind ≡ end → IsTimeAt behind side hand gone
-time_flushed end behind side hand gone is same =
-    let P : TimeAt → Type 0 = λ x. IsTimeAt x side hand gone in
-    subst P (sym same) (record { sound = is.sound; steps = is.steps; stands = is.stands; orders = is.orders; next = is.next; over = λ h. is.over refl })
+-- an order was pushed, and comes no more than once
+pub time_sends : (end behind : TimeAt) (side : TimeState) (o : Order) (is_halted : Bool) (known waiting : ℕ) → IsTimeAt end side (Some o) is_halted → behind ≡ time_pushed end known waiting →
+    IsTimeAt behind side None false
+time_sends end behind side o is_halted known waiting is pushed =
+    let P : TimeAt → Type 0 = λ x. IsTimeAt x side None false in
+    subst P (sym pushed) (record {
+      sound = is.sound;
+      steps = is.steps;
+      stands = is.stands;
+      orders = let all = is.orders in omega arith;
+      next = tt;
+      over = λ h. cc;
+      sent = λ h. cc;
+    })
+
+-- or came back
+pub time_reads : (end behind : TimeAt) (side : TimeState) (hand : Option Order) (is_halted : Bool) (known : ℕ) → IsTimeAt end side hand is_halted → behind ≡ time_read end known →
+    IsTimeAt behind side hand is_halted
+time_reads end behind side hand is_halted known is read =
+    let P : TimeAt → Type 0 = λ x. IsTimeAt x side hand is_halted in
+    subst P (sym read) (record { sound = is.sound; steps = is.steps; stands = is.stands; orders = is.orders; next = is.next; over = is.over; sent = is.sent })
+
+-- none waits any more
+pub time_flushes : (end behind : TimeAt) (side : TimeState) (hand : Option Order) (is_halted : Bool) → IsTimeAt end side hand is_halted → behind ≡ time_flushed end → IsTimeAt behind side hand is_halted
+time_flushes end behind side hand is_halted is flushed =
+    let P : TimeAt → Type 0 = λ x. IsTimeAt x side hand is_halted in
+    subst P (sym flushed) (record { sound = is.sound; steps = is.steps; stands = is.stands; orders = is.orders; next = is.next; over = is.over; sent = λ h. refl })
 
 -- where it is halted the machine is the one behind all cycles
 module _ (end : TimeAt) (side : TimeState) (hand : Option Order) (is : IsTimeAt end side hand true) where

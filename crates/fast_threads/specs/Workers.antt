@@ -81,3 +81,5 @@ pub record IsTimeAt (end : TimeAt) (side : TimeState) (hand : Option Order)
   pub next : IfSome hand (λ o. IsInPlace end.setup end.pushed o)
   -- it is told halted only where the run is over
   pub over : is_halted ≡ true → is_told_out (place end.setup steps) ≡ true
+  -- and no order of it waits at this end
+  pub sent : is_halted ≡ true → end.waiting ≡ 0

@@ -128,6 +128,13 @@ impl<D: Device> FuncWorker<D> {
         }
     }
 
+    /// The timing side has nothing left to do: whatever is waited for comes after more entries.
+    pub fn go_on(&mut self)
+        ensures same { self.new ≡ self.old }
+    {
+        self.lookahead.go_on();
+    }
+
     /// Computes the next entry, if the side may run ahead and isn't at rest. Where it may not run
     /// ahead, there is nothing else to do.
     fn compute(&mut self)

@@ -1,3 +1,5 @@
+ghost use Rattle.std.specs.Prelude.{◌≡◌, ◌≤◌, ◌<◌, ◌+◌, ◌-◌, ◌*◌, true};
+
 /// How many entries may be under way behind an order that opens an epoch, before it is known that
 /// the timing side needs more.
 const FIRST: u64 = 4;
@@ -39,13 +41,19 @@ impl Lookahead {
     }
 
     /// Whether one more entry may be made now.
-    pub fn may_run_ahead(&self) -> bool {
+    pub fn may_run_ahead(&self) -> bool
+        ensures room { self.now.patience ≡ 0 → self.now.allowed ≡ 512 → self.now.ahead ≤ 256
+            → result ≡ true }
+    {
         self.patience == 0 && self.ahead < self.allowed
     }
 
     /// One more entry was made. Where the timing side will probably depart behind it, its order is
     /// waited for.
-    pub fn note_entry(&mut self, departs: bool) {
+    pub fn note_entry(&mut self, departs: bool)
+        ensures ahead { self.new.ahead ≤ self.old.ahead + 1 }
+        ensures allowed { self.new.allowed ≡ self.old.allowed }
+    {
         self.ahead = self.ahead.saturating_add(1);
         if departs {
             self.wait_on();
@@ -53,14 +61,19 @@ impl Lookahead {
     }
 
     /// So many instructions were committed: the entries are of use.
-    pub fn note_commit(&mut self, count: u64) {
+    pub fn note_commit(&mut self, count: u64)
+        ensures ahead { self.new.ahead ≡ self.old.ahead - count }
+    {
         self.ahead = self.ahead.saturating_sub(count);
         self.widen();
     }
 
     /// There was nothing to do in a turn: more entries may be made, unless an order is waited for.
     /// Says whether such a wait is over.
-    pub fn note_idle(&mut self) -> bool {
+    pub fn note_idle(&mut self) -> bool
+        ensures ahead { self.new.ahead ≡ self.old.ahead }
+        ensures patience { self.new.patience ≡ self.old.patience - 1 }
+    {
         if self.patience == 0 {
             self.widen();
             return false;
@@ -70,11 +83,31 @@ impl Lookahead {
     }
 
     /// The order that was waited for may still come.
-    pub fn wait_on(&mut self) {
+    pub fn wait_on(&mut self)
+        ensures ahead { self.new.ahead ≡ self.old.ahead }
+        ensures allowed { self.new.allowed ≡ self.old.allowed }
+        ensures patience { self.new.patience ≡ 64 }
+    {
         self.patience = PATIENCE;
     }
 
-    fn widen(&mut self) {
+    /// No order will come before there are more entries: it isn't waited for any more.
+    pub fn go_on(&mut self)
+        ensures ahead { self.new.ahead ≡ self.old.ahead }
+        ensures patience { self.new.patience ≡ 0 }
+    {
+        self.patience = 0;
+        self.widen();
+    }
+
+    fn widen(&mut self)
+        ensures ahead { self.new.ahead ≡ self.old.ahead }
+        ensures patience { self.new.patience ≡ self.old.patience }
+        ensures doubles { self.old.allowed < 64 → self.new.allowed ≡ self.old.allowed * 2 }
+        ensures grows { 64 ≤ self.old.allowed → self.old.allowed < 512
+            → self.new.allowed ≡ self.old.allowed + 1 }
+        ensures most { 512 ≤ self.old.allowed → self.new.allowed ≡ 512 }
+    {
         let allowed = if self.allowed < KNEE {
             self.allowed * 2
         } else {

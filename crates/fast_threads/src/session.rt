@@ -1,4 +1,4 @@
-ghost use Rattle.std.specs.Prelude.{◌≡◌, true, map, IfOk};
+ghost use Rattle.std.specs.Prelude.{◌≡◌, true, false, map, IfOk};
 
 use crate::func_worker::FuncWorker;
 use crate::rounds::{FEWEST_TURNS, MOST_TURNS};
@@ -78,9 +78,11 @@ impl<D: Device> Session<D> {
 impl<D: Device + Send> Session<D> {
     ghost use Rattle.fast_threads.specs.Session.{HoldsEnd};
 
-    /// Runs the two sides in two threads to the end of the run. In a round each side works until it
-    /// has ended, or had nothing to do for 4,096 turns in a row. Before each of its turns a side
-    /// calls its turn of the gate. It takes no memory.
+    /// Runs the two sides to the end of the run. In a round they work in two threads, each until it
+    /// has ended, or has given way to other threads some times. That tells of a busy host, where
+    /// threads that wait for each other come on slowly; so after it the sides take turns on this
+    /// thread for a while, and for longer after each round. Before each of its turns a side calls
+    /// its turn of the gate. It takes no memory.
     pub fn run<R: Threads + Wait + Sync, G: Gate + Sync>(&mut self, rt: &R, gate: &G)
         ensures setup { self.new.setup ≡ self.old.setup }
         ensures ended { self.new.ended ≡ true }
@@ -116,11 +118,16 @@ impl<D: Device + Send> Session<D> {
     /// The sides take turns on this thread, the functional one where the timing one has nothing to
     /// do.
     fn take_turns<R: Wait, G: Gate>(&mut self, rt: &R, gate: &G, turns: u32)
+        requires runs { self.old.ended ≡ false }
         ensures setup { self.new.setup ≡ self.old.setup }
+        ensures runs { self.new.ended ≡ false }
     {
         for _ in 0..turns {
-            if !self.time.take_turn(rt, gate) {
-                self.func.take_turn(rt, gate);
+            if self.time.take_turn(rt, gate) {
+                continue;
+            }
+            if !self.func.take_turn(rt, gate) {
+                self.func.go_on();
             }
         }
     }

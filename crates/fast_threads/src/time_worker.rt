@@ -86,6 +86,8 @@ impl TimeWorker {
         let sent = self.end.push(rt, order).is_ok();
         if sent {
             self.hand = None;
+            // Nor was it halted while an order was in hand.
+            self.is_halted = false;
         }
         sent
     }

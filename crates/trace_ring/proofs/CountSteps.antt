@@ -19,6 +19,7 @@ tells slots id me n role up s r many at word =
   where
     here : get_or (set s.words 8 n) 8 0 ≡ n
     here = let wide = r.wide in get_or-set_same s.words 8 n 0 (omega arith)
+
     by : ((s.views ≡ count_fresh ∷ []) × (get_or s.words 8 0 ≡ 0)) ⊎ CountBetween (get_or s.words 8 0) s.views
         → ((set s.views id (count_view Takes n) ≡ count_fresh ∷ []) × (get_or (set s.words 8 n) 8 0 ≡ 0)) ⊎ CountBetween (get_or (set s.words 8 n) 8 0) (set s.views id (count_view Takes n))
     by (inl fresh) = let is : count_fresh ≡ me.0 = (lone count_fresh me.0 s.views id fresh.0 at).0 in cc
@@ -41,8 +42,10 @@ reads slots id me role s r many at word = by r.told
   where
     w : ℕ
     w = get_or s.words 8 0
+
     here : get_or (set s.words 8 w) 8 0 ≡ w
     here = let wide = r.wide in get_or-set_same s.words 8 w 0 (omega arith)
+
     by : ((s.views ≡ count_fresh ∷ []) × (w ≡ 0)) ⊎ CountBetween w s.views
         → (v : CountView) × (a : Act (Unit {0})) × Valid s.homes me.1 a × Counted (stepped s 8 w id me.1 v a) × ((v ≡ count_view Pushes w) × (me.0.count ≤ w))
     by (inl fresh) = let is : count_fresh ≡ me.0 = (lone count_fresh me.0 s.views id fresh.0 at).0 in cc

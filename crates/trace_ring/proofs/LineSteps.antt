@@ -90,8 +90,8 @@ module _ {T : Type 0} (allows : Setup → List T → T → Type 0) where
       (
         refl,
         subst (λ (u : View T). Allowed (allows u.setup) [] (u.values ++ group)) mine.0
-        (allowed_first (allows b.setup) (b.taken ++ group) (all_of groups) []
-        (subst (λ (zs : List T). Allowed (allows b.setup) [] zs) (sym (append_assoc b.taken group (all_of groups))) b.allowed)),
+            (allowed_first (allows b.setup) (b.taken ++ group) (all_of groups) []
+            (subst (λ (zs : List T). Allowed (allows b.setup) [] zs) (sym (append_assoc b.taken group (all_of groups))) b.allowed)),
       ),
     )
   ]

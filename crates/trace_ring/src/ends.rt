@@ -65,10 +65,16 @@ fn opened<K: Named>(alloc: Global, setup: &Setup) -> Result<(FuncEnd, TimeEnd), 
     ensures func { IfOk result (λ ends. ends.0 ≡ func_start setup.now) }
     ensures time { IfOk result (λ ends. ends.1 ≡ time_start setup.now) }
 {
-    let (entries_out, entries_in) =
-        line::<K, Entry, EntryLaw>(alloc, u64::from(setup.ring), Entry::BLANK)?;
-    let (orders_out, orders_in) =
-        line::<K, Order, OrderLaw>(alloc, ORDER_ROOM as u64, Order::Stop { n: 0 })?;
+    let (entries_out, entries_in) = line::<K, Entry, EntryLaw>(
+        alloc,
+        u64::from(setup.ring),
+        Entry::BLANK,
+    )?;
+    let (orders_out, orders_in) = line::<K, Order, OrderLaw>(
+        alloc,
+        ORDER_ROOM as u64,
+        Order::Stop { n: 0 },
+    )?;
     let func = FuncEnd {
         entries: entries_out,
         orders: orders_in,

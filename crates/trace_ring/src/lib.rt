@@ -22,3 +22,5 @@ pub use ends::rings;
 pub use func_end::FuncEnd;
 pub use time_end::TimeEnd;
 
+#[cfg(test)]
+mod tests;

@@ -2,7 +2,4 @@ use Rattle.std.proofs.Common.{◌≡◌, false}
 use Rattle.fast_threads.proofs.session.Session.run.Given as goal
 
 abbrev pub invariant-loop : goal.invariant-loop
-invariant-loop g l =
-    (l.self-inside.func.setup ≡ l.fn.self.setup)
-    × (l.self-inside.time.setup ≡ l.self-inside.func.setup)
-    × (l.self-inside.ended ≡ false)
+invariant-loop g l = (l.self.setup ≡ l.fn.self.setup) × (l.self.ended ≡ false)

@@ -5,7 +5,7 @@ use Rattle.fast_threads.proofs.Timing.{time_over, end_at_end}
 use Rattle.fast_threads.proofs.time_worker.TimeWorker.end.Goals as goal
 
 pub returns : goal.returns
-returns g c = record {
+returns c = record {
   end = λ is.
       let old = c.self.inside in
       subst (λ (w : TimeWork). c.end.result ≡ (mono w.setup w.setup.cycles).end) c.self.view_is

@@ -6,7 +6,7 @@ use Rattle.fast_threads.proofs.Timing.{time_over, stats_at_end}
 use Rattle.fast_threads.proofs.time_worker.TimeWorker.stats.Goals as goal
 
 pub returns : goal.returns
-returns g c = record {
+returns c = record {
   stats = λ is.
       let old = c.self.inside in
       subst (λ (w : TimeWork). c.stats.result ≡ stats_of w.setup (mono w.setup w.setup.cycles)) c.self.view_is

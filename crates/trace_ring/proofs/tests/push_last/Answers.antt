@@ -1,0 +1,9 @@
+use Rattle.std.proofs.Common.{ℕ, Option, sym, subst}
+use Rattle.trace_ring.specs.Ring.{Follows}
+use Rattle.trace_ring.specs.Trial.{trial}
+use Rattle.trace_ring.proofs.Trials.{goes_to_three}
+use Rattle.trace_ring.proofs.tests.push_last.Goals as goal
+
+pub expect_push-requires-clause-follows : goal.expect_push-requires-clause-follows
+expect_push-requires-clause-follows g c =
+    subst (λ (last : Option (ℕ × ℕ)). Follows trial last 3 3) (sym c.requires.last) (goes_to_three 2)
