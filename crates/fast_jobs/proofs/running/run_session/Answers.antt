@@ -9,7 +9,7 @@ use Rattle.mono_model.proofs.Sound.{setup_facts}
 use Rattle.fast_jobs.specs.Outcome.{status_for}
 use Rattle.fast_jobs.proofs.Outcomes.{running-end}
 use Rattle.fast_jobs.proofs.Ending.{IsAt, at-end, at-text, not_running}
-use Rattle.fast_jobs.proofs.running.play_session.Goals as goal
+use Rattle.fast_jobs.proofs.running.run_session.Goals as goal
 
 pub returns-clause-ends : goal.returns-clause-ends
 returns-clause-ends g c =
