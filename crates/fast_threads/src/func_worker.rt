@@ -128,6 +128,13 @@ impl<D: Device> FuncWorker<D> {
         }
     }
 
+    /// Puts the entries that were handed over into the ring.
+    pub fn flush<R: Wait>(&mut self, rt: &R)
+        ensures same { self.new ≡ self.old }
+    {
+        self.end.flush(rt);
+    }
+
     /// The timing side has nothing left to do: whatever is waited for comes after more entries.
     pub fn go_on(&mut self)
         ensures same { self.new ≡ self.old }
@@ -187,7 +194,7 @@ impl<D: Device> Worker for FuncWorker<D> {
             self.compute();
         }
         if !self.is_computed {
-            self.end.flush(rt);
+            self.flush(rt);
             return false;
         }
         self.push(rt)

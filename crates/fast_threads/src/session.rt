@@ -126,7 +126,9 @@ impl<D: Device + Send> Session<D> {
             if self.time.take_turn(rt, gate) {
                 continue;
             }
-            if !self.func.take_turn(rt, gate) {
+            if self.func.take_turn(rt, gate) {
+                self.func.flush(rt);
+            } else {
                 self.func.go_on();
             }
         }
