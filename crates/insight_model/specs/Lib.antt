@@ -1,0 +1,15 @@
+pub mod Cause
+pub mod Sight
+pub mod OfState
+pub mod Facts
+pub mod Accesses
+pub mod Origin
+pub mod Hole
+pub mod Head
+pub mod Cycles
+pub mod Fetch
+pub mod Stack
+pub mod Profile
+pub mod Count
+pub mod Cell
+pub mod Trace
