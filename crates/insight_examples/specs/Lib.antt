@@ -1,1 +1,4 @@
 pub mod Reading
+pub mod Written
+pub mod Traces
+pub mod Rows

@@ -44,7 +44,7 @@ store_access shown = option_map_or (λ addr. Some (record { by = shown.addr; wha
 abbrev pub load_access : Pipeline → Kept → Option CacheAccess
 load_access pipeline k = option_map_or (λ addr. Some (record { by = k.after.addr; what = loads addr })) (load_made pipeline k) None
 
--- the first record appended makes none where its miss was waited for, nor does one that could not be fetched
+-- the first record appended makes none if its miss was waited for, nor does one that could not be fetched
 abbrev pub fetched_anew : Facts → List Shown
 fetched_anew f = if f.paid then drop 1 f.appended else f.appended
 
@@ -86,8 +86,8 @@ rise before after = record {
 abbrev pub changes_from : AllCaches → CachesState → List CacheAccess → List Change
 changes_from p caches [] = []
 changes_from p caches (made ∷ rest) =
-    let behind = used p caches made.what in
-    record { by = made.by; counts = rise caches.counts behind.counts } ∷ changes_from p behind rest
+    let after = used p caches made.what in
+    record { by = made.by; counts = rise caches.counts after.counts } ∷ changes_from p after rest
 
 -- what the accesses of a run counted, in caches that start cold
 unfoldable pub changes : AllCaches → Pipeline → List Facts → List Change
@@ -101,14 +101,14 @@ until_at (executing e o) = e
 until_at (accessing e o) = e
 until_at (done o) = 0
 
-abbrev pub miss_behind : Pipeline → Params → ℕ → Kept → ℕ → ℕ
-miss_behind pipeline p cycle k known =
+abbrev pub miss_after : Pipeline → Params → ℕ → Kept → ℕ → ℕ
+miss_after pipeline p cycle k known =
     if is_some (load_made pipeline k) then until_at k.after.progress - cycle - p.mem_latency else known
 
 abbrev pub kept_misses : Pipeline → Params → ℕ → List Kept → List ℕ → List ℕ
 kept_misses pipeline p cycle [] misses = []
 kept_misses pipeline p cycle (k ∷ kept) [] = []
-kept_misses pipeline p cycle (k ∷ kept) (miss ∷ misses) = miss_behind pipeline p cycle k miss ∷ kept_misses pipeline p cycle kept misses
+kept_misses pipeline p cycle (k ∷ kept) (miss ∷ misses) = miss_after pipeline p cycle k miss ∷ kept_misses pipeline p cycle kept misses
 
 -- the misses of the records in the window, by those before the cycle
 unfoldable pub misses_after : Pipeline → Params → Facts → List ℕ → List ℕ

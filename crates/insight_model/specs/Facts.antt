@@ -1,4 +1,4 @@
--- What a cycle did, told by the states before and behind it
+-- What a cycle did, told by the states before and after it
 -- (Hennessy and Patterson, Computer Architecture, section 3.6, commit, speculation and its recovery).
 use Rattle.std.specs.Prelude.{ℕ, ◌+◌, ◌-◌, ◌==◌, ◌&&◌, not, nat_lt, nat_le, if◌then◌else◌, Bool, true, false, is_none, is_some, Option, Some, None, unwrap_or, List, [], ◌∷◌, ◌++◌, length, take, drop, map, slice_get, option_and_then, position}
 use Rattle.std.specs.List.{last_or}
@@ -9,7 +9,7 @@ use Rattle.insight_model.specs.declared.cycle_cause.CycleCause.TheVariants as ca
 use Rattle.insight_model.specs.Cause.{Charge, charge}
 use Rattle.insight_model.specs.Sight.{Outcome, Progress, waiting, executing, accessing, done, Shown, Sight, is_fence_i_shown}
 
--- A record that stayed in the window, before and behind the cycle.
+-- A record that stayed in the window, before and after the cycle.
 pub record Kept : Type 0 where
   pub before : Shown
   pub after : Shown
@@ -112,7 +112,7 @@ abbrev pub wrong_place : Sight → Sight → List Shown → Option ℕ
 wrong_place before after others =
     if nat_lt before.counts.mispredicted after.counts.mispredicted then position (is_redirecting before.cycle) others else None
 
--- The miss of the record that is fetched next was over, unless a flush dropped it. One that is shown behind the cycle began
+-- The miss of the record that is fetched next was over, unless a flush dropped it. One that is shown after the cycle began
 -- in it, unless nothing was appended and it was there before.
 abbrev pub missed_of : Sight → List Shown → Bool → Option ℕ
 missed_of after [] true = None
@@ -148,7 +148,7 @@ facts_by before after left_length kept_length =
       stopped = has_stopped after.end;
     }
 
--- what a cycle did, by what is seen before and behind it
+-- what a cycle did, by what is seen before and after it
 unfoldable pub facts : Sight → Sight → Facts
 facts before after = facts_by before after (left_count before after) (kept_count before after)
 
@@ -158,7 +158,7 @@ facts_between [] = []
 facts_between (last ∷ []) = []
 facts_between (before ∷ after ∷ rest) = facts before after ∷ facts_between (after ∷ rest)
 
--- the windows before and behind the cycle
+-- the windows before and after the cycle
 abbrev pub window_before : Facts → List Shown
 window_before f = f.left ++ map (λ k. k.before) f.kept ++ f.squashed
 

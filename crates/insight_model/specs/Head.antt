@@ -16,7 +16,7 @@ use Rattle.insight_model.specs.Hole.{Holes, class_cause}
 pub record Known : Type 0 where
   pub misses : List ℕ
   pub origins : List Charge
-  -- the flush behind which nothing was appended yet
+  -- the newest flush, if nothing was appended after it yet
   pub refill : Option Charge
   pub holes : Holes
 
@@ -25,7 +25,7 @@ abbrev pub is_missing_at : ℕ → ℕ → Progress → Bool
 is_missing_at cycle miss (executing e o) = nat_lt (e - miss) cycle
 is_missing_at cycle miss other = false
 
--- as it stands behind the cycle, at the latest, its access is seen
+-- its access is seen after the cycle at the latest
 abbrev pub latest : Facts → Shown → Shown
 latest f oldest = option_map_or (λ k. k.after) (slice_get f.kept 0) oldest
 

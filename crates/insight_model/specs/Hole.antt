@@ -22,7 +22,7 @@ class_cause class.Load made = if is_device_load_in made then cause.Device else c
 class_cause class.Store made = cause.Store
 class_cause class.Serial made = cause.Serial
 
--- A source is withheld where the youngest older record that writes it gives no value; the older ones stand youngest first.
+-- A source is withheld if the youngest older record that writes it gives no value; the older ones stand youngest first.
 abbrev pub is_withheld : List Shown → ℕ → Bool
 is_withheld [] register = false
 is_withheld (rec ∷ older) register = if writes_shown register rec then not (gives_value rec) else is_withheld older register
@@ -52,7 +52,7 @@ abbrev pub flushed_holes : Option Charge → Holes → Holes
 flushed_holes None h = h
 flushed_holes (Some flush) h = flushed_by flush.cause flush h
 
--- The record that stays in a stage, with its miss, if one does; and whether the stage has one behind the cycle.
+-- The record that stays in a stage, with its miss, if one does; and whether the stage has one after the cycle.
 abbrev pub stays_in : (Progress → Bool) → List (Kept × ℕ) → Option (Kept × ℕ)
 stays_in stage [] = None
 stays_in stage (k ∷ rest) = if stage k.0.before.progress then (if stage k.0.after.progress then Some k else None) else stays_in stage rest
@@ -85,11 +85,11 @@ decode_cause older rec =
 abbrev pub decode_stall : List Shown → Kept × ℕ → Charge
 decode_stall older k = charge (decode_cause older k.0.after) k.0.after.addr
 
--- the records behind Decode, the youngest first
-abbrev pub behind_decode : List Shown → List Shown
-behind_decode shown = reverse (filter (λ rec. not (is_waiting_at rec.progress)) shown)
+-- the records past Decode, the youngest first
+abbrev pub past_decode : List Shown → List Shown
+past_decode shown = reverse (filter (λ rec. not (is_waiting_at rec.progress)) shown)
 
--- A stage that is empty behind the cycle has the hole of the stage before it, or one that a record makes by staying there.
+-- A stage that is empty after the cycle has the hole of the stage before it, or one that a record makes by staying there.
 abbrev pub moved_in : Bool → Charge → Charge → Option Charge → Charge
 moved_in true own before stall = own
 moved_in false own before None = before
@@ -101,12 +101,12 @@ stall_of stall k = option_map_or (λ x. Some (stall x)) k None
 abbrev pub moved_holes : Facts → List (Kept × ℕ) → List Shown → Holes → Holes
 moved_holes f kept shown h = record {
   decode = if has_in is_waiting_at shown then h.decode else charge cause.Icache f.fetch_at;
-  execute = moved_in (has_in is_executing_at shown) h.execute h.decode (stall_of (decode_stall (behind_decode shown)) (stays_in is_waiting_at kept));
+  execute = moved_in (has_in is_executing_at shown) h.execute h.decode (stall_of (decode_stall (past_decode shown)) (stays_in is_waiting_at kept));
   memory = moved_in (has_in is_accessing_at shown) h.memory h.execute (stall_of execute_stall (stays_in is_executing_at kept));
   write = moved_in (has_in is_done_at shown) h.write h.memory (stall_of (memory_stall f.cycle) (stays_in is_accessing_at kept));
 }
 
--- the holes behind a cycle, by those before it and the misses before it; none changes where the run ended before fetch
+-- the holes after a cycle, by those before it and the misses before it; none changes if the run ended before fetch
 unfoldable pub holes_after : Facts → List ℕ → Holes → Holes
 holes_after f misses h =
     if f.stopped then h

@@ -56,7 +56,7 @@ seen_with shown m = record {
 unfoldable pub sight : Machine → Sight
 sight m = seen_with (map shown_of m.window) m
 
--- In order, the youngest record that is done is in Memory, where that has one: it goes on in the cycle that stands there.
+-- In order, the youngest record that is done is in Memory, if that has one: it goes on in the cycle that stands there.
 abbrev pub lane_progress : Option ℕ → ℕ → window.Stage → Progress
 lane_progress (Some e) zero (window.done r) = accessing e (outcome_of r)
 lane_progress memory younger stage = progress_of stage

@@ -6,7 +6,7 @@ use Rattle.insight_model.specs.Cause.{Charge, charge}
 use Rattle.insight_model.specs.Sight.{Shown}
 use Rattle.insight_model.specs.Facts.{Facts, window_before, or_else}
 
--- the newest flush, up to and including this cycle, where no record was appended behind it before
+-- the newest flush, up to and including this cycle, if no record was appended after it before
 abbrev pub newest : Facts → Option Charge → Option Charge
 newest f refill = or_else f.flush refill
 
@@ -33,7 +33,7 @@ unfoldable pub origins_after : Params → Facts → Option Charge → List Charg
 origins_after p f refill origins =
     take (length f.kept) (drop (length f.left) origins) ++ new_origins p f (newest f refill) f.appended
 
--- the flush behind which nothing was appended yet
+-- the newest flush, if nothing was appended after it yet
 abbrev pub unfilled : Option Charge → List Shown → Option Charge
 unfilled flush [] = flush
 unfilled flush (first ∷ rest) = None

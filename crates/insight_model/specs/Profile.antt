@@ -17,7 +17,7 @@ use Rattle.insight_model.specs.Facts.{Facts, Kept}
 use Rattle.insight_model.specs.Accesses.{Change, changes, retired_in}
 use Rattle.insight_model.specs.Cycles.{Cycle, cycles}
 
--- The row of an address: the address itself where it is a word of text; all others share one, which stands last.
+-- The row of an address: the address itself if it is a word of text; all others share one, which stands last.
 abbrev pub other_row : ℕ
 other_row = 2 ^ 32
 
@@ -139,7 +139,7 @@ amount_in column own = sum_by (λ event. if column_place event.column == column_
 abbrev pub own_events : ℕ → List Event → List Event
 own_events row all = filter (λ event. event.row == row) all
 
--- the word of the record that was appended last in this row, and 0 where none was
+-- the word of the record that was appended last in this row, and 0 if none was
 abbrev pub words_in : Image → ℕ → Facts → List ℕ
 words_in image row f = map (λ rec. unwrap_or rec.word 0) (filter (λ rec. row_of image rec.addr == row) f.appended)
 

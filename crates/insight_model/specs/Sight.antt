@@ -53,7 +53,7 @@ pub record Sight : Type 0 where
   pub end : End
   -- the cycle from which on fetch goes on after a miss
   pub resume : ℕ
-  -- the address to fetch next, where its miss was counted
+  -- the address to fetch next, if its miss was counted
   pub missing : Option ℕ
   -- the oldest first
   pub window : List Shown

@@ -17,7 +17,7 @@ use Rattle.insight_model.specs.Cause.{cause_name}
 use Rattle.insight_model.specs.Sight.{Outcome, Shown, Sight, outcome_shown, access_shown, first_source_shown, second_source_shown, writes_shown, gives_value}
 use Rattle.insight_model.specs.OfState.{sights}
 use Rattle.insight_model.specs.Facts.{Facts, Kept, departed, facts_between}
-use Rattle.insight_model.specs.Accesses.{has_begun, load_made, miss_behind}
+use Rattle.insight_model.specs.Accesses.{has_begun, load_made, miss_after}
 use Rattle.insight_model.specs.Cell.{Cell, cell, cell_letter, is_cell}
 
 -- What the file has told of a record of the window: its number there, how many cycles its miss adds, and its newest cell.
@@ -110,7 +110,7 @@ squashed_lines f place (rec ∷ rest) (mark ∷ marks) =
     ∷ last_line mark.number (f.number + length f.left + place) (codes "1")
     ∷ squashed_lines f (place + 1) rest marks
 
--- Then those that stayed: the access of one that began, its miss, that it was mispredicted, and its cell where that is new.
+-- Then those that stayed: the access of one that began, its miss, that it was mispredicted, and its cell if that is new.
 abbrev pub spot_text : Spot → Text
 spot_text Ram = []
 spot_text Device = codes " device"
@@ -121,9 +121,9 @@ access_notes number access.Nothing = []
 access_notes number (access.Load addr width spot) = note_line number (codes "load " ++ hex 8 addr ++ spot_text spot) ∷ []
 access_notes number (access.Store addr width spot) = note_line number (codes "store " ++ hex 8 addr ++ spot_text spot) ∷ []
 
-abbrev pub marked_behind : Pipeline → Params → Facts → Kept → Mark → Mark
-marked_behind pipeline p f k mark =
-    let added = miss_behind pipeline p f.cycle k mark.added in
+abbrev pub marked_after : Pipeline → Params → Facts → Kept → Mark → Mark
+marked_after pipeline p f k mark =
+    let added = miss_after pipeline p f.cycle k mark.added in
     record { number = mark.number; added = added; shown = cell pipeline p f.cycle added k.after }
 
 abbrev pub kept_text : Pipeline → Facts → ℕ → Kept → Mark → Mark → List Text
@@ -137,16 +137,16 @@ abbrev pub kept_lines : Pipeline → Params → Facts → ℕ → List Kept → 
 kept_lines pipeline p f place [] marks = []
 kept_lines pipeline p f place (k ∷ rest) [] = []
 kept_lines pipeline p f place (k ∷ rest) (mark ∷ marks) =
-    kept_text pipeline f place k mark (marked_behind pipeline p f k mark)
+    kept_text pipeline f place k mark (marked_after pipeline p f k mark)
     ++ kept_lines pipeline p f (place + 1) rest marks
 
 abbrev pub kept_marks : Pipeline → Params → Facts → List Kept → List Mark → List Mark
 kept_marks pipeline p f [] marks = []
 kept_marks pipeline p f (k ∷ rest) [] = []
-kept_marks pipeline p f (k ∷ rest) (mark ∷ marks) = marked_behind pipeline p f k mark ∷ kept_marks pipeline p f rest marks
+kept_marks pipeline p f (k ∷ rest) (mark ∷ marks) = marked_after pipeline p f k mark ∷ kept_marks pipeline p f rest marks
 
 -- Last those that were appended: introduced, with the note of a miss that was waited for, and with an arrow from the
--- youngest older record that writes a source, where it gives no value yet. The older ones stand youngest first.
+-- youngest older record that writes a source, if it gives no value yet. The older ones stand youngest first.
 abbrev pub producer : List (ℕ × Shown) → ℕ → Option ℕ
 producer [] register = None
 producer (older ∷ rest) register =
@@ -182,17 +182,17 @@ abbrev pub older_kept : Facts → List Mark → List (ℕ × Shown)
 older_kept f marks = reverse (zip (map (λ mark. mark.number) marks) (map (λ k. k.after) f.kept))
 
 abbrev pub lines_by : Pipeline → Params → Facts → ℕ → List Mark → List Mark → List Text
-lines_by pipeline p f introduced all behind =
+lines_by pipeline p f introduced all others =
     left_lines f.trapped f.number f.left all
-    ++ squashed_lines f (length f.kept) f.squashed (drop (length f.kept) behind)
-    ++ kept_lines pipeline p f 0 f.kept behind
-    ++ appended_lines pipeline p f.cycle f.paid introduced (f.number + length f.left + length f.kept) (older_kept f behind) f.appended
+    ++ squashed_lines f (length f.kept) f.squashed (drop (length f.kept) others)
+    ++ kept_lines pipeline p f 0 f.kept others
+    ++ appended_lines pipeline p f.cycle f.paid introduced (f.number + length f.left + length f.kept) (older_kept f others) f.appended
 
 -- the lines of a cycle, but for that of its time
 unfoldable pub lines_in : Pipeline → Params → Facts → Tracing → List Text
 lines_in pipeline p f t = lines_by pipeline p f t.introduced t.marks (drop (length f.left) t.marks)
 
--- the time stands before the first line of a cycle, where it isn't that of the line before
+-- the time stands before the first line of a cycle, if it isn't that of the line before
 abbrev pub time_lines : ℕ → ℕ → List Text
 time_lines before now = if now == before then [] else cycles_line (now - before) ∷ []
 

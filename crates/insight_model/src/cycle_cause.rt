@@ -22,7 +22,7 @@ pub enum CycleCause {
     /// It was fetched late, since the window or the stations were full.
     Window,
     Stations,
-    /// It was fetched behind a flush, by what flushed.
+    /// It was fetched after a flush, by what flushed.
     Mispredict,
     Trap,
     Interrupt,

@@ -1,0 +1,18 @@
+//! The cycles of a run.
+#![tactic(auto)]
+
+ghost use Rattle.std.specs.Prelude.{◌≡◌, ◌≤◌, length};
+ghost use Rattle.mono_model.specs.declared.setup.Setup.{Setup};
+ghost use Rattle.mono_model.specs.Cycle.{final};
+ghost use Rattle.lane_model.specs.Cycle.{lane_final};
+ghost use Rattle.insight_model.specs.declared.pipeline.Pipeline.TheVariants.{Window, Inorder};
+ghost use Rattle.insight_model.specs.Cycles.{cycles};
+
+/// As many cycles are told of a run as its report counts.
+#[tactic(auto, using(crate::proofs::Lengths::window_cycles, crate::proofs::Lengths::lane_cycles))]
+pub fn each_cycle_is_told()
+    ensures window { (s : Setup) → 1 ≤ s.cycles
+        → length (cycles Window s s.cycles) ≡ (final s s.cycles).stats.cycles }
+    ensures inorder { (s : Setup) → 1 ≤ s.cycles
+        → length (cycles Inorder s s.cycles) ≡ (lane_final s s.cycles).stats.cycles }
+{}
