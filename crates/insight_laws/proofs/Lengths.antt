@@ -7,11 +7,9 @@ use Rattle.mono_model.specs.Final.{has_ended}
 use Rattle.mono_model.specs.Machine.{Machine, machine_start}
 use Rattle.mono_model.specs.Cycle.{mono, cycled, final}
 use Rattle.machine_laws.specs.FirstEnd.{EndsOnce}
-use Rattle.machine_laws.proofs.FirstEnd.{run_ends_once}
 use Rattle.lane_model.specs.Lane.{Lane, lane_start}
 use Rattle.lane_model.specs.Cycle.{lane, lane_cycled, lane_final}
 use Rattle.lane_laws.specs.FirstEnd.{LaneEndsOnce}
-use Rattle.lane_laws.proofs.FirstEnd.{lane_run_ends_once}
 use Rattle.insight_model.specs.declared.pipeline.Pipeline.{Pipeline}
 use Rattle.insight_model.specs.declared.pipeline.Pipeline.TheVariants.{Window, Inorder}
 use Rattle.insight_model.specs.Sight.{Sight}
@@ -28,8 +26,8 @@ cycles_length pipeline p known (f ∷ rest) = omega (arith, cycles_length pipeli
 -- Over a run that ends once, as many cycles are told from a state on as it has left: of the monolithic machine.
 window_more : (s : Setup) (x : Sight) (n : ℕ) (m : Machine) → length (facts_between (x ∷ sights_from s n m)) ≡ length (facts_between (sights_from s n m)) + 1
 unfolding sights_from facts_between
-window_more s x zero m = refl
-window_more s x (suc n) m = refl
+window_more s x zero m = omega arith
+window_more s x (suc n) m = omega arith
 
 window_next : (s : Setup) (c n k : ℕ) → EndsOnce s c → k ≤ c → (suc k ≤ c → length (facts_between (sights_from s n (mono s (suc k)))) + suc k ≡ c) → (b : Bool) → has_ended (mono s k).end ≡ b → length (facts_between (sight (mono s k) ∷ elim b [ true ↦ [] | false ↦ sights_from s n (cycled s (mono s k)) ])) + k ≡ c
 unfolding mono facts_between
@@ -48,10 +46,9 @@ window_span s c ends zero k below above = omega (arith, below, above)
 window_span s c ends (suc n) k below above =
     window_next s c n k ends below (λ further. window_span s c ends n (suc k) further (omega (arith, above))) (has_ended (mono s k).end) refl
 
-pub window_cycles : (s : Setup) → 1 ≤ s.cycles → length (cycles Window s s.cycles) ≡ (final s s.cycles).stats.cycles
+pub window_cycles : (s : Setup) → EndsOnce s (final s s.cycles).stats.cycles → length (cycles Window s s.cycles) ≡ (final s s.cycles).stats.cycles
 unfolding cycles sights mono
-window_cycles s some =
-    let ends = run_ends_once s some in
+window_cycles s ends =
     omega (arith,
       cycles_length Window s.params (known_start s.image.entry) (facts_between (sights_from s s.cycles (machine_start s))),
       window_span s ((final s s.cycles).stats.cycles) ends s.cycles zero (omega arith) (omega (arith, ends.within)))
@@ -59,8 +56,8 @@ window_cycles s some =
 -- Over a run that ends once, as many cycles are told from a state on as it has left: of the in-order machine.
 lane_more : (s : Setup) (x : Sight) (n : ℕ) (m : Lane) → length (facts_between (x ∷ lane_sights_from s n m)) ≡ length (facts_between (lane_sights_from s n m)) + 1
 unfolding lane_sights_from facts_between
-lane_more s x zero m = refl
-lane_more s x (suc n) m = refl
+lane_more s x zero m = omega arith
+lane_more s x (suc n) m = omega arith
 
 lane_next : (s : Setup) (c n k : ℕ) → LaneEndsOnce s c → k ≤ c → (suc k ≤ c → length (facts_between (lane_sights_from s n (lane s (suc k)))) + suc k ≡ c) → (b : Bool) → has_ended (lane s k).machine.end ≡ b → length (facts_between (lane_sight (lane s k) ∷ elim b [ true ↦ [] | false ↦ lane_sights_from s n (lane_cycled s (lane s k)) ])) + k ≡ c
 unfolding lane facts_between
@@ -79,10 +76,9 @@ lane_span s c ends zero k below above = omega (arith, below, above)
 lane_span s c ends (suc n) k below above =
     lane_next s c n k ends below (λ further. lane_span s c ends n (suc k) further (omega (arith, above))) (has_ended (lane s k).machine.end) refl
 
-pub lane_cycles : (s : Setup) → 1 ≤ s.cycles → length (cycles Inorder s s.cycles) ≡ (lane_final s s.cycles).stats.cycles
+pub lane_cycles : (s : Setup) → LaneEndsOnce s (lane_final s s.cycles).stats.cycles → length (cycles Inorder s s.cycles) ≡ (lane_final s s.cycles).stats.cycles
 unfolding cycles sights lane
-lane_cycles s some =
-    let ends = lane_run_ends_once s some in
+lane_cycles s ends =
     omega (arith,
       cycles_length Inorder s.params (known_start s.image.entry) (facts_between (lane_sights_from s s.cycles (lane_start s))),
       lane_span s ((lane_final s s.cycles).stats.cycles) ends s.cycles zero (omega arith) (omega (arith, ends.within)))

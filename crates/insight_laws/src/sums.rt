@@ -10,13 +10,11 @@ ghost use Rattle.insight_model.specs.Fetch.{fetch_ends};
 ghost use Rattle.insight_model.specs.Stack.{head_count, fetch_count};
 
 /// The counts of all causes add up to the number of cycles, whichever cycles these are.
-#[tactic(auto, using(crate::proofs::Sums::heads_add_up))]
 pub fn causes_add_up()
     ensures spent { (run : List Cycle) → sum_by (head_count run) causes ≡ length run }
 {}
 
 /// So do the counts of why fetch ended.
-#[tactic(auto, using(crate::proofs::Sums::fetch_ends_add_up))]
 pub fn ends_of_fetch_add_up()
     ensures ended { (pipeline : Pipeline) (p : Params) (run : List Cycle)
         → sum_by (fetch_count pipeline p run) fetch_ends ≡ length run }
