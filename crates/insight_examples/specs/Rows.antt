@@ -1,4 +1,4 @@
--- Rows of profiles and counts of small runs, behind the line with the names of the columns.
+-- Rows of profiles and counts of small runs, after the line with the names of the columns.
 use Rattle.std.specs.Prelude.{List, [], ◌∷◌, codes}
 use Rattle.mono_model.specs.Report.{Text}
 

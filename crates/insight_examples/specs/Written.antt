@@ -13,6 +13,6 @@ tab_for_bar code = if code == 124 then 9 else code
 abbrev pub with_tabs : List Text → Text
 with_tabs lines = map tab_for_bar (written lines)
 
--- behind a line that is there already
+-- after a line that is there already
 abbrev pub with_header : Text → List Text → Text
 with_header header lines = header ++ written lines

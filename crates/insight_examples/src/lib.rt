@@ -21,13 +21,13 @@ pub use profiles::{
     profile_of_loads_that_miss_in_order,
 };
 pub use stacks::{
-    console_driver_on_a_wide_machine, division_holds_what_is_behind, environment_call_is_a_trap,
+    console_driver_on_a_wide_machine, division_holds_all_after_it, environment_call_is_a_trap,
     interrupt_before_a_replay, interrupt_is_charged_to_its_handler, loads_that_miss,
-    loop_in_a_window_of_eight, loop_on_the_plain_machine, output_full_behind_a_division,
+    loop_in_a_window_of_eight, loop_on_the_plain_machine, output_full_after_a_division,
     replays_of_time_reads, smallest_pass_in_a_window_of_eight, smallest_pass_on_the_plain_machine,
-    smallest_pass_with_an_instruction_cache, trap_behind_a_jump,
+    smallest_pass_with_an_instruction_cache, trap_after_a_jump,
 };
 pub use traces::{
-    trace_behind_the_end, trace_of_a_misprediction, trace_of_a_trap, trace_of_the_smallest_pass,
+    trace_after_the_end, trace_of_a_misprediction, trace_of_a_trap, trace_of_the_smallest_pass,
     trace_of_the_smallest_pass_in_order,
 };

@@ -104,7 +104,7 @@ pub fn loads_that_miss()
 {}
 
 /// A load traps, and its handler reads CSRs, which execute only as the oldest.
-pub fn trap_behind_a_jump()
+pub fn trap_after_a_jump()
     ensures stack { reading Window
         (setup_of (code_image speculative_misaligned_jump) window_of_eight)
         ≡ record {
@@ -130,8 +130,8 @@ pub fn environment_call_is_a_trap()
         } }
 {}
 
-/// A division holds all behind it for nine cycles, and a load for one more.
-pub fn division_holds_what_is_behind()
+/// A division holds all after it for nine cycles, and a load for one more.
+pub fn division_holds_all_after_it()
     ensures stack { reading Window
         (setup_of (data_image partly_covering_stores 0x80000040 4
         (0x11223344 ∷ [])) slow_division_and_memory)
@@ -206,7 +206,7 @@ pub fn console_driver_on_a_wide_machine()
 {}
 
 /// A division holds four bytes, and the run ends at the fifth.
-pub fn output_full_behind_a_division()
+pub fn output_full_after_a_division()
     ensures stack { reading Window
         (record
         (setup_of (code_image bytes_behind_a_division) wide_commit_behind_division) { output = 4 })

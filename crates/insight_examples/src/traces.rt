@@ -22,8 +22,8 @@ pub fn trace_of_the_smallest_pass()
         ≡ with_tabs smallest_pass_trace }
 {}
 
-/// A range behind the end shows the window as the run left it.
-pub fn trace_behind_the_end()
+/// A range after the end shows the window as the run left it.
+pub fn trace_after_the_end()
     ensures text { trace_text Window
         (setup_of (code_image smallest_pass) window_of_eight) 1000 100 200
         ≡ with_tabs late_trace }

@@ -1,6 +1,6 @@
 -- The accesses of the caches in a cycle, each with the address of its instruction; what each of them counted; and the
 -- misses of loads (Hennessy and Patterson, Computer Architecture, section 2.1).
-use Rattle.std.specs.Prelude.{ℕ, ◌+◌, ◌-◌, ◌&&◌, is_some, Bool, true, false, if◌then◌else◌, Option, Some, None, List, [], ◌∷◌, ◌++◌, map, take, drop, length, replicate, option_and_then, option_to_list, filter_map, flat_map}
+use Rattle.std.specs.Prelude.{ℕ, ◌-◌, ◌&&◌, is_some, Bool, if◌then◌else◌, Option, Some, None, List, [], ◌∷◌, ◌++◌, map, take, drop, length, replicate, option_to_list, filter_map, flat_map}
 use Rattle.std.specs.Option.{option_map_or}
 use Rattle.cache_timing.specs.declared.params.AllCaches.{AllCaches}
 use Rattle.cache_timing.specs.declared.counts.CacheCounts.{CacheCounts}

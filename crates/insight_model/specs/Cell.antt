@@ -1,5 +1,5 @@
 -- The cell of a record in a cycle: the stage that a pipeline viewer shows, by the state after the cycle.
-use Rattle.std.specs.Prelude.{ℕ, ◌+◌, ◌-◌, ◌==◌, ◌&&◌, nat_le, nat_lt, if◌then◌else◌, Bool, true, false, List, codes}
+use Rattle.std.specs.Prelude.{ℕ, ◌+◌, ◌-◌, ◌==◌, ◌&&◌, nat_le, nat_lt, if◌then◌else◌, Bool, codes}
 use Rattle.mono_model.specs.declared.params.Params.{Params}
 use Rattle.mono_model.specs.Report.{Text}
 use Rattle.insight_model.specs.declared.pipeline.Pipeline.{Pipeline}

@@ -1,9 +1,7 @@
 -- The rows of a run without a pipeline: one step is one instruction.
-use Rattle.std.specs.Prelude.{ℕ, zero, suc, ◌+◌, ◌==◌, not, is_none, if◌then◌else◌, Bool, true, false, Option, Some, None, unwrap_or, List, [], ◌∷◌, ◌++◌, codes, filter, flat_map, map}
+use Rattle.std.specs.Prelude.{ℕ, zero, suc, ◌==◌, not, is_none, if◌then◌else◌, Bool, true, false, Some, None, unwrap_or, List, [], ◌∷◌, ◌++◌, codes, filter, flat_map, map}
 use Rattle.std.specs.List.{last_or}
 use Rattle.elf_image.specs.declared.image.Image.{Image}
-use Rattle.mono_model.specs.declared.final_state.End.{End}
-use Rattle.mono_model.specs.declared.final_state.End.TheVariants.{Pass, Fail, Limit, OutputFull, Running}
 use Rattle.mono_model.specs.declared.setup.Setup.{Setup}
 use Rattle.mono_model.specs.Arch.{Arch}
 use Rattle.mono_model.specs.Found.{word_in}

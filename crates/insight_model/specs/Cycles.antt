@@ -1,5 +1,5 @@
 -- The cycles of a run, each with what it is charged to.
-use Rattle.std.specs.Prelude.{ℕ, Option, None, List, [], ◌∷◌}
+use Rattle.std.specs.Prelude.{ℕ, None, List, [], ◌∷◌}
 use Rattle.mono_model.specs.declared.params.Params.{Params}
 use Rattle.mono_model.specs.declared.setup.Setup.{Setup}
 use Rattle.insight_model.specs.declared.pipeline.Pipeline.{Pipeline}

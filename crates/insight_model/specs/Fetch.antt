@@ -1,5 +1,5 @@
 -- Why fetch ended in a cycle.
-use Rattle.std.specs.Prelude.{ℕ, ◌==◌, ◌||◌, not, nat_le, if◌then◌else◌, Bool, true, false, is_some, None, List, length, codes, ◌∷◌, []}
+use Rattle.std.specs.Prelude.{ℕ, ◌==◌, ◌||◌, not, if◌then◌else◌, Bool, true, false, is_some, None, List, length, codes, ◌∷◌, []}
 use Rattle.std.specs.List.{last_or}
 use Rattle.std.specs.Option.{option_map_or}
 use Rattle.fsim_base.specs.Number.{wrap_sum}

@@ -1,6 +1,6 @@
 -- The head of a cycle: the one record, or address, that the cycle is charged to, and the cause. Each cycle has one
 -- (Gottschall and others, TIP: Time-Proportional Instruction Profiling, MICRO 2021: the oldest instruction, each cycle).
-use Rattle.std.specs.Prelude.{ℕ, ◌+◌, ◌-◌, ◌==◌, nat_lt, if◌then◌else◌, Bool, false, Option, Some, None, List, [], ◌∷◌, slice_get, slice_index, slice_index_or}
+use Rattle.std.specs.Prelude.{ℕ, ◌+◌, ◌-◌, ◌==◌, nat_lt, if◌then◌else◌, Bool, false, Option, List, [], ◌∷◌, slice_get, slice_index, slice_index_or}
 use Rattle.std.specs.Option.{option_map_or}
 use Rattle.mono_model.specs.declared.params.Params.{Params}
 use Rattle.insight_model.specs.declared.pipeline.Pipeline.{Pipeline}
@@ -8,7 +8,7 @@ use Rattle.insight_model.specs.declared.pipeline.Pipeline.TheVariants as pipelin
 use Rattle.insight_model.specs.declared.cycle_cause.CycleCause.{CycleCause}
 use Rattle.insight_model.specs.declared.cycle_cause.CycleCause.TheVariants.{Commit, Dcache, Icache, Interrupt, Replay, Start}
 use Rattle.insight_model.specs.Cause.{Charge, charge}
-use Rattle.insight_model.specs.Sight.{Progress, waiting, executing, accessing, done, Shown, class_shown, access_shown, is_done_at}
+use Rattle.insight_model.specs.Sight.{Progress, executing, Shown, class_shown, access_shown, is_done_at}
 use Rattle.insight_model.specs.Facts.{Facts, window_before}
 use Rattle.insight_model.specs.Hole.{Holes, class_cause}
 

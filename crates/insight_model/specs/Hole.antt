@@ -1,6 +1,6 @@
 -- In order: why a stage is empty. A bubble keeps the cause that made it, until it has gone through Write
 -- (Hennessy and Patterson, Computer Architecture, appendix C.2, stalls).
-use Rattle.std.specs.Prelude.{ℕ, ◌-◌, ◌==◌, ◌||◌, not, nat_le, if◌then◌else◌, Bool, true, false, Option, Some, None, List, [], ◌∷◌, length, drop, filter, reverse, zip}
+use Rattle.std.specs.Prelude.{ℕ, ◌-◌, ◌||◌, not, nat_le, if◌then◌else◌, Bool, true, false, Option, Some, None, List, [], ◌∷◌, length, drop, filter, reverse, zip}
 use Rattle.std.specs.List.{list_any}
 use Rattle.std.specs.Option.{option_map_or}
 use Rattle.fsim_base.specs.declared.access.Access.{Access}

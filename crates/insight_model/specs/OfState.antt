@@ -1,5 +1,5 @@
 -- What is seen of the monolithic machine, and of the in-order machine.
-use Rattle.std.specs.Prelude.{ℕ, zero, suc, Option, Some, None, Bool, true, false, List, [], ◌∷◌, map}
+use Rattle.std.specs.Prelude.{ℕ, zero, suc, Option, Some, None, true, false, List, [], ◌∷◌, map}
 use Rattle.mono_model.specs.declared.setup.Setup.{Setup}
 use Rattle.mono_model.specs.Final.{has_ended}
 use Rattle.mono_model.specs.Found.{Found, refused, unknown, known}

@@ -1,5 +1,5 @@
 -- Why a record wasn't fetched earlier: its origin. A record that is young as the oldest one came late for this reason.
-use Rattle.std.specs.Prelude.{ℕ, ◌==◌, if◌then◌else◌, Option, Some, None, List, [], ◌∷◌, ◌++◌, map, take, drop, length}
+use Rattle.std.specs.Prelude.{◌==◌, if◌then◌else◌, Option, Some, None, List, [], ◌∷◌, ◌++◌, map, take, drop, length}
 use Rattle.mono_model.specs.declared.params.Params.{Params}
 use Rattle.insight_model.specs.declared.cycle_cause.CycleCause.TheVariants.{Start, Icache, Window, Stations}
 use Rattle.insight_model.specs.Cause.{Charge, charge}

@@ -1,5 +1,5 @@
 -- The profile: a row of counts for each word of text, and one for all other addresses.
-use Rattle.std.specs.Prelude.{ℕ, ◌+◌, ◌%◌, ◌^◌, ◌==◌, ◌&&◌, not, nat_lt, if◌then◌else◌, Bool, true, false, Option, Some, None, unwrap_or, option_and_then, option_to_list, slice_get, List, [], ◌∷◌, ◌++◌, codes, decimal, drop, filter, flat_map, map, sum, sum_by, zip}
+use Rattle.std.specs.Prelude.{ℕ, ◌+◌, ◌%◌, ◌^◌, ◌==◌, ◌&&◌, not, nat_lt, if◌then◌else◌, Bool, false, Option, None, unwrap_or, option_and_then, option_to_list, slice_get, List, [], ◌∷◌, ◌++◌, codes, decimal, filter, flat_map, map, sum, sum_by}
 use Rattle.std.specs.List.{last_or, join_with_byte}
 use Rattle.std.specs.Option.{option_map_or}
 use Rattle.fsim_base.specs.Number.{wrap_sum}
@@ -13,7 +13,7 @@ use Rattle.insight_model.specs.declared.pipeline.Pipeline.{Pipeline}
 use Rattle.insight_model.specs.declared.cycle_cause.CycleCause.{CycleCause}
 use Rattle.insight_model.specs.Cause.{causes, cause_name, cause_place}
 use Rattle.insight_model.specs.Sight.{Shown, outcome_shown}
-use Rattle.insight_model.specs.Facts.{Facts, Kept}
+use Rattle.insight_model.specs.Facts.{Facts}
 use Rattle.insight_model.specs.Accesses.{Change, changes, retired_in}
 use Rattle.insight_model.specs.Cycles.{Cycle, cycles}
 

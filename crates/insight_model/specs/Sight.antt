@@ -1,6 +1,6 @@
 -- What is seen of a state of either machine: neither values nor registers, times, the predictor nor caches
 -- (Hennessy and Patterson, Computer Architecture, section 3.6, the reorder buffer; appendix C.1, the five stages).
-use Rattle.std.specs.Prelude.{ℕ, ◌==◌, ◌&&◌, Bool, true, false, is_none, Option, Some, None, List, option_and_then}
+use Rattle.std.specs.Prelude.{ℕ, Bool, true, false, is_none, Option, Some, None, List, option_and_then}
 use Rattle.std.specs.Option.{option_map_or}
 use Rattle.fsim_base.specs.declared.access.Access.{Access}
 use Rattle.fsim_base.specs.declared.access.Access.TheVariants as access

@@ -1,6 +1,6 @@
 -- The pipeline trace: the text that the viewer Konata reads (Kanata log format, version 0004). A record of the window is
 -- introduced by a line `I`, and later lines name it by its number in the file; `R` is its last one. `C` lines tell of time.
-use Rattle.std.specs.Prelude.{ℕ, zero, suc, ◌+◌, ◌-◌, ◌==◌, ◌&&◌, not, min, max, nat_lt, if◌then◌else◌, Bool, true, false, is_some, Option, Some, None, unwrap_or, option_and_then, option_map, List, [], ◌∷◌, ◌++◌, codes, decimal, drop, take, length, map, reverse, zip}
+use Rattle.std.specs.Prelude.{ℕ, ◌+◌, ◌-◌, ◌==◌, ◌&&◌, not, min, max, nat_lt, if◌then◌else◌, Bool, true, false, is_some, Option, Some, None, unwrap_or, option_and_then, List, [], ◌∷◌, ◌++◌, codes, decimal, drop, take, length, map, reverse, zip}
 use Rattle.std.specs.List.{join_with_byte}
 use Rattle.std.specs.Option.{option_map_or}
 use Rattle.fsim_base.specs.Cause.{cause_number}
