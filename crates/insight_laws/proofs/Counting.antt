@@ -13,11 +13,11 @@ use Rattle.insight_model.specs.Cycles.{Cycle}
 use Rattle.insight_model.specs.Fetch.{fetch_end, fetch_ends, is_fetch_end}
 use Rattle.insight_model.specs.Stack.{head_count, fetch_count}
 
-sum_by_nothing : {X : Type 0} (xs : List X) → sum_by (λ x. 0) xs ≡ 0
+pub sum_by_nothing : {X : Type 0} (xs : List X) → sum_by (λ x. 0) xs ≡ 0
 sum_by_nothing [] = refl
 sum_by_nothing (x ∷ xs) = omega (arith, sum_by-cons (λ y. 0) x xs, sum_by_nothing xs)
 
-sum_by_added : {X : Type 0} (f g h : X → ℕ) → ((x : X) → h x ≡ f x + g x) → (xs : List X) → sum_by h xs ≡ sum_by f xs + sum_by g xs
+pub sum_by_added : {X : Type 0} (f g h : X → ℕ) → ((x : X) → h x ≡ f x + g x) → (xs : List X) → sum_by h xs ≡ sum_by f xs + sum_by g xs
 sum_by_added f g h each [] = refl
 sum_by_added f g h each (x ∷ xs) =
     omega (arith, sum_by-cons f x xs, sum_by-cons g x xs, sum_by-cons h x xs, each x, sum_by_added f g h each xs)
@@ -26,10 +26,12 @@ sum_by_added f g h each (x ∷ xs) =
 counts_by_kind : {X K : Type 0} (is : K → X → Bool) (kinds : List K) → ((x : X) → count_by (λ k. is k x) kinds ≡ 1) → (xs : List X) → sum_by (λ k. count_by (λ x. is k x) xs) kinds ≡ length xs
 counts_by_kind is kinds one [] = sum_by_nothing kinds
 counts_by_kind is kinds one (x ∷ xs) =
-    omega (arith,
+    omega (
+      arith,
       one x,
       counts_by_kind is kinds one xs,
-      sum_by_added (λ k. if is k x then 1 else 0) (λ k. count_by (λ y. is k y) xs) (λ k. count_by (λ y. is k y) (x ∷ xs)) (λ k. sum_by-cons (λ y. if is k y then 1 else 0) x xs) kinds)
+      sum_by_added (λ k. if is k x then 1 else 0) (λ k. count_by (λ y. is k y) xs) (λ k. count_by (λ y. is k y) (x ∷ xs)) (λ k. sum_by-cons (λ y. if is k y then 1 else 0) x xs) kinds,
+    )
 
 one_cause : (c : CycleCause) → count_by (λ k. is_cause k c) causes ≡ 1
 one_cause cause.Commit = refl

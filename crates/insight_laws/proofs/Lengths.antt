@@ -1,5 +1,5 @@
 -- As many cycles are told of a run as it has.
-use Rattle.std.proofs.Common.{◌≡◌, ◌∙◌, ℕ, zero, suc, ◌+◌, ◌≤◌, ◌<◌, Bool, true, false, List, [], ◌∷◌, length, refl, sym, ap, arith, ⊎_elim}
+use Rattle.std.proofs.Common.{◌≡◌, ◌∙◌, ℕ, zero, suc, ◌+◌, ◌≤◌, Bool, true, false, List, [], ◌∷◌, length, refl, sym, ap, arith, ⊎_elim}
 use Rattle.std.proofs.lemmas.Bool.{cases_order, false≢true}
 use Rattle.mono_model.specs.declared.params.Params.{Params}
 use Rattle.mono_model.specs.declared.setup.Setup.{Setup}
@@ -49,9 +49,11 @@ window_span s c ends (suc n) k below above =
 pub window_cycles : (s : Setup) → EndsOnce s (final s s.cycles).stats.cycles → length (cycles Window s s.cycles) ≡ (final s s.cycles).stats.cycles
 unfolding cycles sights mono
 window_cycles s ends =
-    omega (arith,
+    omega (
+      arith,
       cycles_length Window s.params (known_start s.image.entry) (facts_between (sights_from s s.cycles (machine_start s))),
-      window_span s ((final s s.cycles).stats.cycles) ends s.cycles zero (omega arith) (omega (arith, ends.within)))
+      window_span s ((final s s.cycles).stats.cycles) ends s.cycles zero (omega arith) (omega (arith, ends.within)),
+    )
 
 -- Over a run that ends once, as many cycles are told from a state on as it has left: of the in-order machine.
 lane_more : (s : Setup) (x : Sight) (n : ℕ) (m : Lane) → length (facts_between (x ∷ lane_sights_from s n m)) ≡ length (facts_between (lane_sights_from s n m)) + 1
@@ -79,6 +81,8 @@ lane_span s c ends (suc n) k below above =
 pub lane_cycles : (s : Setup) → LaneEndsOnce s (lane_final s s.cycles).stats.cycles → length (cycles Inorder s s.cycles) ≡ (lane_final s s.cycles).stats.cycles
 unfolding cycles sights lane
 lane_cycles s ends =
-    omega (arith,
+    omega (
+      arith,
       cycles_length Inorder s.params (known_start s.image.entry) (facts_between (lane_sights_from s s.cycles (lane_start s))),
-      lane_span s ((lane_final s s.cycles).stats.cycles) ends s.cycles zero (omega arith) (omega (arith, ends.within)))
+      lane_span s ((lane_final s s.cycles).stats.cycles) ends s.cycles zero (omega arith) (omega (arith, ends.within)),
+    )
