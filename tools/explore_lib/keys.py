@@ -1,6 +1,6 @@
 """The keys of a machine file: their ranges, defaults and names in pictures.
 
-The table is that of docs/PIPELINE.md, but for `version`, which follows from the keys that a
+The table is that of docs/MACHINE-FILE.md, but for `version`, which follows from the keys that a
 machine file uses. The self-test compares the two.
 """
 

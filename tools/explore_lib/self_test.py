@@ -24,7 +24,7 @@ from .program import call, find_program
 
 IMAGE = command.REPOSITORY / "examples" / "hello" / "hello.elf"
 OTHER_IMAGE = command.REPOSITORY / "examples" / "traps" / "traps.elf"
-KEY_TABLE = command.REPOSITORY / "docs" / "PIPELINE.md"
+KEY_TABLE = command.REPOSITORY / "docs" / "MACHINE-FILE.md"
 SECONDS = 60
 
 BASE = """
@@ -158,7 +158,7 @@ class SelfTest:
     def check_keys(self) -> None:
         """The table of keys is that of the documents."""
         rows: dict[str, tuple[str, str]] = {}
-        for line in KEY_TABLE.read_text().split("### Keys")[1].splitlines():
+        for line in KEY_TABLE.read_text().split("## Keys")[1].splitlines():
             cells = [cell.strip() for cell in line.strip("|").split("|")]
             if len(cells) == 4:
                 for name in re.findall(r"`([a-z0-9]+\.[a-z]+)`", cells[0]):
