@@ -6,7 +6,7 @@ import tomllib
 from collections.abc import Iterator
 from pathlib import Path
 
-from . import links, runs, spans
+from . import links, quotes, runs, spans
 from .markdown import Document, Found, read_document
 from .sources import Sources, listed, read_sources
 
@@ -64,6 +64,8 @@ def faults_of_text(
             yield document, span, fault
     for link, fault in links.faults_of(document, documents, sources):
         yield document, link, fault
+    for line, fault in quotes.faults_of(document, REPOSITORY):
+        yield document, line, fault
 
 
 def document_names(repository: Path) -> list[str]:

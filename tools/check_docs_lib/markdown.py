@@ -5,7 +5,7 @@ from collections.abc import Iterator
 from dataclasses import dataclass, field
 from pathlib import Path
 
-FENCE = re.compile(r" {0,3}(```+|~~~+)")
+FENCE = re.compile(r" {0,3}(```+|~~~+)(.*)")
 HEADING = re.compile(r"(#{1,6}) +(.*?) *#*$")
 ITEM = re.compile(r" *(?:[-*+]|\d+\.) ")
 SPAN = re.compile(r"(?<!`)(`+)(?!`)(.+?)(?<!`)\1(?!`)", re.DOTALL)
@@ -22,9 +22,10 @@ class Found:
 
 @dataclass
 class Block:
-    """A block of code, with the paragraphs before and after it."""
+    """A block of code, with what its fence says and the paragraphs before and after it."""
 
     lines: list[Found]
+    info: str
     before: str
     after: str = ""
 
@@ -50,9 +51,9 @@ def document_of(name: str, text: str) -> Document:
     document = Document(name)
     taken: dict[str, int] = {}
     paragraph = ""
-    for is_code, lines in parts_of(text):
-        if is_code:
-            document.blocks.append(Block(lines, paragraph))
+    for info, lines in parts_of(text):
+        if info is not None:
+            document.blocks.append(Block(lines, info, paragraph))
             continue
         paragraph = "\n".join(line.text for line in lines)
         first = lines[0].line
@@ -69,8 +70,11 @@ def document_of(name: str, text: str) -> Document:
     return document
 
 
-def parts_of(text: str) -> Iterator[tuple[bool, list[Found]]]:
-    """The blocks of code and the paragraphs, each heading and row of a table by itself."""
+def parts_of(text: str) -> Iterator[tuple[str | None, list[Found]]]:
+    """The blocks of code and the paragraphs, each heading and row of a table by itself.
+
+    With a block comes what its fence says, with anything else None.
+    """
     lines = [Found(line, number) for number, line in enumerate(text.split("\n"), 1)]
     place = 0
     in_list = False
@@ -80,7 +84,7 @@ def parts_of(text: str) -> Iterator[tuple[bool, list[Found]]]:
             end = place + 1
             while end < len(lines) and not lines[end].text.lstrip().startswith(fence[1]):
                 end += 1
-            yield True, lines[place + 1 : end]
+            yield fence[2].strip(), lines[place + 1 : end]
             place = end + 1
         elif not line.strip():
             place += 1
@@ -88,11 +92,11 @@ def parts_of(text: str) -> Iterator[tuple[bool, list[Found]]]:
             end = place
             while end < len(lines) and (lines[end].text[:4].strip() == ""):
                 end += 1
-            yield True, [Found(line.text[4:], line.line) for line in lines[place:end]]
+            yield "", [Found(line.text[4:], line.line) for line in lines[place:end]]
             place = end
         elif line.startswith(("#", "|")):
             in_list = False
-            yield False, [lines[place]]
+            yield None, [lines[place]]
             place += 1
         else:
             end = place + 1
@@ -101,7 +105,7 @@ def parts_of(text: str) -> Iterator[tuple[bool, list[Found]]]:
                     break
                 end += 1
             in_list = bool(ITEM.match(line)) or (in_list and line.startswith(" "))
-            yield False, lines[place:end]
+            yield None, lines[place:end]
             place = end
 
 

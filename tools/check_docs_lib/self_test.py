@@ -5,7 +5,7 @@ import tempfile
 from collections.abc import Iterator
 from pathlib import Path
 
-from . import links, runs, spans
+from . import links, quotes, runs, spans
 from .markdown import document_of
 from .sources import Sources
 
@@ -93,7 +93,7 @@ exit 1
 
 def self_test() -> int:
     """Tests each part on small texts."""
-    found = [*faults_of_spans(), *faults_of_parts(), *faults_of_runs()]
+    found = [*faults_of_spans(), *faults_of_parts(), *faults_of_quotes(), *faults_of_runs()]
     for fault in found:
         print(f"check_docs: {fault}", file=sys.stderr)
     return 1 if found else 0
@@ -120,6 +120,16 @@ def faults_of_parts() -> Iterator[str]:
     commands = [(one.text, one.status, one.printed) for one in runs.commands_of(document)]
     if commands != COMMANDS:
         yield f"the commands are {commands}"
+
+
+def faults_of_quotes() -> Iterator[str]:
+    """Quotations that are judged wrongly."""
+    with tempfile.TemporaryDirectory() as folder:
+        Path(folder, "a.rt").write_text("fn one()\n    two\nthree\n")
+        for lines, is_there in {"two\nthree": True, "    one()": False, "two\nthre": False}.items():
+            document = document_of("A.md", f"```rust a.rt\n{lines}\n```\n")
+            if (not list(quotes.faults_of(document, Path(folder)))) != is_there:
+                yield f"the quotation {lines!r} is judged wrongly"
 
 
 def faults_of_runs() -> Iterator[str]:

@@ -6,6 +6,7 @@ from pathlib import Path
 
 from .crates import read_crates
 from .page import page_of
+from .reads import table_of
 from .source import SourceFault
 
 REPOSITORY = Path(__file__).resolve().parent.parent.parent
@@ -19,6 +20,10 @@ def main(words: list[str]) -> int:
         from .self_test import self_test
 
         return self_test(REPOSITORY)
+    if options.reads:
+        names = [crate.name for crate in read_crates(REPOSITORY)]
+        print("\n".join(table_of(REPOSITORY, names)))
+        return 0
     try:
         text = page_of(read_crates(REPOSITORY))
     except SourceFault as fault:
@@ -44,5 +49,8 @@ def parser() -> argparse.ArgumentParser:
         prog="tools/clauses", description=f"Makes {PAGE} from the contracts in the sources."
     )
     words.add_argument("--check", action="store_true", help="only say whether it is up to date")
+    words.add_argument(
+        "--reads", action="store_true", help="list the definitions under the top call's clauses"
+    )
     words.add_argument("--self-test", action="store_true", help="test this program")
     return words

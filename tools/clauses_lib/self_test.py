@@ -8,6 +8,7 @@ from pathlib import Path
 from .crates import expanded, source_files
 from .items import Function, first_sentence, module_of
 from .page import block, wrapped
+from .reads import files_read
 from .source import Source, SourceFault
 
 TEXT = '''//! A small crate: `{` in a comment. More.
@@ -68,7 +69,11 @@ SENTENCES = {
 
 def self_test(repository: Path) -> int:
     """Tests the reading of a text, and that no clause of the sources is lost."""
-    found = [*faults_of_text(), *faults_of_sources(repository)]
+    found = [
+        *faults_of_text(),
+        *faults_of_sources(repository),
+        *faults_of_reads(repository),
+    ]
     for fault in found:
         print(f"clauses: {fault}", file=sys.stderr)
     return 1 if found else 0
@@ -113,6 +118,14 @@ def faults_of_sources(repository: Path) -> Iterator[str]:
             tests = set(re.findall(r"#\[test\]\s+fn (\w+)", source.bare))
             if lost := named - tests - {call.name for call in all_functions(source)}:
                 yield f"{source.name}: these functions are not read: {', '.join(sorted(lost))}"
+
+
+def faults_of_reads(repository: Path) -> Iterator[str]:
+    """Definitions that the top call's clauses are known to stand on."""
+    read = {str(path.relative_to(repository)) for path in files_read(repository)}
+    wanted = {"crates/fast_run/specs/Answer.antt", "crates/mono_model/specs/Cycle.antt"}
+    if lost := wanted - read:
+        yield f"these definitions are not found: {sorted(lost)}"
 
 
 def all_functions(source: Source) -> Iterator[Function]:
