@@ -1,8 +1,9 @@
 """Checks the documents against the sources.
 
 `command` reads the words. `markdown` takes a document apart. `spans` checks what stands in
-backticks against the names that `sources` gathers, `links` the links, `quotes` the blocks that quote
-a source file, and `runs` the command lines of the README and of the examples, by running them.
+backticks against the names that `sources` gathers, `contracts` the clauses that are named after a
+call, `links` the links, `quotes` the blocks that quote a source file, and `runs` the command lines
+of the README and of the examples, by running them.
 
 What stands in backticks is one of these, and is checked so:
 

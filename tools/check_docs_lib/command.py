@@ -6,7 +6,7 @@ import tomllib
 from collections.abc import Iterator
 from pathlib import Path
 
-from . import links, quotes, runs, spans
+from . import contracts, links, quotes, runs, spans
 from .markdown import Document, Found, read_document
 from .sources import Sources, listed, read_sources
 
@@ -34,6 +34,7 @@ def faults(options: argparse.Namespace) -> Iterator[Fault]:
     table = tomllib.loads(EXCEPTIONS.read_text())
     exceptions = [name for names in table["names"].values() for name in names]
     sources = read_sources(REPOSITORY, exceptions)
+    clauses = contracts.clauses_of_calls(REPOSITORY)
     documents = {name: read_document(REPOSITORY, name) for name in document_names(REPOSITORY)}
     exceptions_page = Document(str(EXCEPTIONS.relative_to(REPOSITORY)))
     for name in unused(exceptions, documents):
@@ -43,6 +44,8 @@ def faults(options: argparse.Namespace) -> Iterator[Fault]:
         if document.name in left_out:
             continue
         yield from faults_of_text(document, documents, sources)
+        for found, fault in contracts.faults_of(document, clauses):
+            yield document, found, fault
         if options.fast and is_example(document.name):
             program = options.fast.resolve()
             for found, fault in runs.faults_of(document, REPOSITORY, program):

@@ -36,6 +36,7 @@ class Document:
 
     name: str
     anchors: set[str] = field(default_factory=set)
+    paragraphs: list[Found] = field(default_factory=list)
     spans: list[Found] = field(default_factory=list)
     links: list[Found] = field(default_factory=list)
     blocks: list[Block] = field(default_factory=list)
@@ -57,6 +58,7 @@ def document_of(name: str, text: str) -> Document:
             continue
         paragraph = "\n".join(line.text for line in lines)
         first = lines[0].line
+        document.paragraphs.append(Found(paragraph, first))
         if heading := HEADING.match(paragraph):
             document.anchors.add(anchor_of(heading[2], taken))
         for found in SPAN.finditer(paragraph):

@@ -15,7 +15,9 @@ def faults_of(document: Document, repository: Path) -> Iterator[tuple[Found, str
         path = repository / words[1]
         if not path.is_file():
             yield block.lines[0], f"{words[1]} is no file"
-        elif text_of(line.text for line in block.lines) not in text_of(path.read_text().split("\n")):
+            continue
+        quoted = text_of(line.text for line in block.lines)
+        if quoted not in text_of(path.read_text().split("\n")):
             yield block.lines[0], f"this doesn't stand in {words[1]}"
 
 

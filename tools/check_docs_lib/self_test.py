@@ -5,7 +5,7 @@ import tempfile
 from collections.abc import Iterator
 from pathlib import Path
 
-from . import links, quotes, runs, spans
+from . import contracts, links, quotes, runs, spans
 from .markdown import document_of
 from .sources import Sources
 
@@ -74,6 +74,14 @@ COMMANDS = [
     ("./fast two x \\\n  y | cat", 0, ["more"]),
     ("./fast run a/b", 0, []),
 ]
+CONTRACTS = {
+    "`Shape::area`: `exact`": True,
+    "`Shape::area`: `exact`, `lost`": False,
+    "`Shape::area`: `exact`, `law`: `holds`": True,
+    "law `law`, clause `holds`": True,
+    "law `law`, clause `lost`": False,
+    "`other`: `lost`": True,
+}
 RUNS = {
     "    $ ./fast run x\n    said run x\n": [
         "ends with status [1], and not 0",
@@ -93,7 +101,13 @@ exit 1
 
 def self_test() -> int:
     """Tests each part on small texts."""
-    found = [*faults_of_spans(), *faults_of_parts(), *faults_of_quotes(), *faults_of_runs()]
+    found = [
+        *faults_of_spans(),
+        *faults_of_parts(),
+        *faults_of_contracts(),
+        *faults_of_quotes(),
+        *faults_of_runs(),
+    ]
     for fault in found:
         print(f"check_docs: {fault}", file=sys.stderr)
     return 1 if found else 0
@@ -120,6 +134,15 @@ def faults_of_parts() -> Iterator[str]:
     commands = [(one.text, one.status, one.printed) for one in runs.commands_of(document)]
     if commands != COMMANDS:
         yield f"the commands are {commands}"
+
+
+def faults_of_contracts() -> Iterator[str]:
+    """Clauses after a call that are judged wrongly."""
+    clauses = {"Shape::area": frozenset({"exact"}), "law": frozenset({"holds"})}
+    for text, is_right in CONTRACTS.items():
+        document = document_of("A.md", text)
+        if (not list(contracts.faults_of(document, clauses))) != is_right:
+            yield f"the clauses of {text!r} are judged wrongly"
 
 
 def faults_of_quotes() -> Iterator[str]:
