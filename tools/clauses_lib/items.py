@@ -192,44 +192,54 @@ def function_of(source: Source, head: Head) -> Function:
 
 def function_at(source: Source, place: int, head: Head | None = None) -> tuple[Function, int]:
     """The function at a place, and the place after it."""
-    end = len(source.text)
     named = FUNCTION.match(source.bare, place)
     if named is None:
         raise source.fault(place, "this is no function")
     params = source.skip_angles(named.end())
     if source.bare[params] != "(":
         raise source.fault(params, "this function has no parameters")
-    here = source.behind(params)
-    signature_end = source.find(r"\b(?:requires|ensures|where)\b|[{;]", here, end)
-    if signature_end is None:
-        raise source.fault(place, "this function has no end")
-    answer = source.bare[here : signature_end.start()].strip().removeprefix("->").strip()
-    here = signature_end.start()
-    if signature_end[1] == "where":
-        bounds_end = source.find(r"\b(?:requires|ensures)\b|[{;]", here, end)
-        here = bounds_end.start() if bounds_end else here
-    clauses: list[Clause] = []
-    while found := CLAUSE.match(source.bare, here):
-        comment = [line.strip() for line in source.text[here : found.start(1)].split("\n")]
-        here = source.behind(found.end())
-        lines = source.text[found.end() : here].split("\n")
-        clauses.append(
-            Clause(found[1], found[2] or "", [line for line in comment if line], dedented(lines))
-        )
-    body = source.find(r"[{;]", here, end)
-    if body is None:
-        raise source.fault(here, "this function has no body")
-    after = source.behind(body.start()) if body[1] == "{" else body.end()
+    answer_end, contract = places_after(source, source.behind(params))
+    clauses, place = clauses_at(source, contract)
+    body = found_in(source, r"[{;]", place)
     function = Function(
         named[1],
         first_sentence(head.comment) if head else "",
         head is not None and head.is_public,
         one_line(source.text[named.end() : params]),
         params_of(source, params),
-        one_line(answer),
+        one_line(source.bare[source.behind(params) : answer_end]).removeprefix("-> "),
         clauses,
     )
-    return function, after
+    return function, source.behind(body.start()) if body[1] == "{" else body.end()
+
+
+def places_after(source: Source, place: int) -> tuple[int, int]:
+    """Where the answer ends that a function gives, and where its contract begins."""
+    found = found_in(source, r"\b(?:requires|ensures|where)\b|[{;]", place)
+    if found[1] != "where":
+        return found.start(), found.start()
+    return found.start(), found_in(source, r"\b(?:requires|ensures)\b|[{;]", found.end()).start()
+
+
+def found_in(source: Source, pattern: str, place: int) -> re.Match[str]:
+    """The first match outside of all brackets, which has to be there."""
+    found = source.find(pattern, place, len(source.text))
+    if found is None:
+        raise source.fault(place, "this function has no end")
+    return found
+
+
+def clauses_at(source: Source, place: int) -> tuple[list[Clause], int]:
+    """The clauses from a place on, and the place after them."""
+    clauses: list[Clause] = []
+    while found := CLAUSE.match(source.bare, place):
+        comment = [line.strip() for line in source.text[place : found.start(1)].split("\n")]
+        place = source.behind(found.end())
+        lines = source.text[found.end() : place].split("\n")
+        clauses.append(
+            Clause(found[1], found[2] or "", [line for line in comment if line], dedented(lines))
+        )
+    return clauses, place
 
 
 def params_of(source: Source, place: int) -> list[str]:
