@@ -1,0 +1,151 @@
+"""The test of this program, with the reference on both sides. Silent where it passes."""
+
+import contextlib
+import io
+import subprocess
+import sys
+import tempfile
+from collections.abc import Callable
+from pathlib import Path
+
+from . import command
+from .cases import draw_case
+from .faults import Fault
+from .kinds import ALL_KINDS, KINDS, usual_kinds
+from .simulators import find_reference
+
+SECONDS = 120
+
+# Programs that answer as the reference does, but for some words.
+PASSING = ""
+REFUSING = """case $1 in trace | gdb) echo "fast: usage: none"; exit 10 ;; esac"""
+COUNTING = """case $1 in run) '{reference}' "$@" | sed 's/^cycles: /&1/'; exit 2 ;; esac"""
+ENDING = """case $1 in back) '{reference}' "$@"; exit 3 ;; esac"""
+SLEEPING = """case $1 in func) exec sleep 60 ;; esac"""
+PROGRAM = """#!/bin/sh
+{body}
+exec '{reference}' "$@"
+"""
+
+
+class SelfTest:
+    """Runs the checks in a folder of its own, and keeps what went wrong."""
+
+    def __init__(self, folder: Path, reference: Path):
+        self.folder = folder
+        self.reference = reference
+        self.faults: list[str] = []
+
+    def expect(self, what: str, got: object, wanted: object) -> None:
+        """Notes a fault where two values differ."""
+        if got != wanted:
+            self.faults.append(f"{what}: got {got!r}, and wanted {wanted!r}")
+
+    def program(self, name: str, body: str) -> Path:
+        """A program that stands for `fast`."""
+        path = self.folder / name
+        own = body.replace("{reference}", str(self.reference))
+        path.write_text(PROGRAM.format(body=own, reference=self.reference))
+        path.chmod(0o755)
+        return path
+
+    def compare(self, fast: Path, *more: str) -> tuple[int, list[str]]:
+        """Compares, and gives the status with the lines that were said."""
+        words = ["--fast", str(fast), "--reference", str(self.reference), "--quiet"]
+        words += ["--folder", str(self.folder / "kept"), "--jobs", "2"]
+        said = io.StringIO()
+        with contextlib.redirect_stderr(said), contextlib.redirect_stdout(said):
+            status = command.main([*words, *more])
+        return status, said.getvalue().splitlines()
+
+    def check_cases(self) -> None:
+        """A seed always gives the same case, and a kind the same calls beside any others."""
+        whole, again = draw_case(7, ALL_KINDS), draw_case(7, ALL_KINDS)
+        self.expect("cases: again", again, whole)
+        self.expect("cases: another seed", draw_case(8, ALL_KINDS).files == whole.files, False)
+        for kind in ALL_KINDS:
+            own = [call for call in whole.calls if call.kind == kind]
+            self.expect(f"cases: {kind} alone", draw_case(7, [kind]).calls, own)
+        soaks = [seed for seed in range(80) if draw_case(seed, ["soak"]).calls]
+        self.expect("cases: soaks", soaks, [0, 40])
+
+    def check_same(self) -> None:
+        """A program that answers alike has no differences, in all kinds."""
+        same = self.program("same", PASSING)
+        self.expect("same: kinds", usual_kinds(same), ALL_KINDS[:-1])
+        self.expect("same", self.compare(same, "--count", "3", "--seed", "100"), (0, []))
+        itself = self.compare(same, "--count", "2", "--kinds", "itself")
+        self.expect("same: the reference and itself", itself, (0, []))
+        short = self.compare(same, "--seconds", "1", "--kinds", "func")
+        self.expect("same: by the clock", short, (0, []))
+
+    def check_difference(self) -> None:
+        """A line that differs is told, and its case is kept with a script that shows it."""
+        counting = self.program("counting", COUNTING)
+        words = ["--count", "1", "--seed", "101", "--kinds", "func,run"]
+        status, lines = self.compare(counting, *words)
+        self.expect("difference: status", status, 1)
+        self.expect("difference: lines", len(lines), 3)
+        told = "[cycles: 1" in lines[0] and "seed 101: fast run p.elf" in lines[0]
+        self.expect(f"difference: {lines[0]}", told, True)
+        script = self.folder / "kept" / "101" / "again.sh"
+        self.expect("difference: script", lines[1].split(": ")[2].split(" ")[0], str(script))
+        shown = subprocess.run(
+            [script], capture_output=True, text=True, timeout=SECONDS, check=False
+        )
+        self.expect("difference: shown again", shown.stdout.count("> cycles: 1"), 1)
+        self.expect("difference: files", (script.parent / "p.elf").exists(), True)
+
+    def check_statuses(self) -> None:
+        """Another status is a difference, and so is a call that doesn't end."""
+        words = ["--count", "1", "--seed", "102", "--kinds"]
+        status, lines = self.compare(self.program("ending", ENDING), *words, "back")
+        self.expect("status: status", status, 1)
+        self.expect("status: line", "status 3 for status 5" in lines[0], True)
+        sleeping = self.program("sleeping", SLEEPING)
+        status, lines = self.compare(sleeping, *words, "func", "--timeout", "2")
+        self.expect("no end: status", status, 1)
+        self.expect("no end: line", "no end in time for status" in lines[0], True)
+
+    def check_kinds(self) -> None:
+        """Kinds that a program doesn't know are left out, and refused if they are named."""
+        refusing = self.program("refusing", REFUSING)
+        others = [kind for kind in ALL_KINDS[:-1] if kind not in ("trace", "gdb")]
+        self.expect("kinds: known", usual_kinds(refusing), others)
+        self.expect("kinds", self.compare(refusing, "--count", "1"), (0, []))
+        for kinds, text in {
+            "trace": "doesn't know the command trace",
+            "func,walk": "'walk' is no kind",
+        }.items():
+            status, lines = self.compare(refusing, "--kinds", kinds)
+            self.expect(f"kinds {kinds}: status", status, 2)
+            self.expect(f"kinds {kinds}: {lines}", len(lines) == 1 and text in lines[0], True)
+
+    def check_missing(self) -> None:
+        """A program that isn't there ends the comparison with one line."""
+        status, lines = self.compare(self.folder / "nothere", "--kinds", ",".join(KINDS))
+        self.expect("missing: status", status, 2)
+        self.expect(f"missing: {lines}", len(lines) == 1 and "is no program" in lines[0], True)
+
+
+def self_test(reference: Path | None) -> int:
+    """Runs all checks; says what went wrong."""
+    program = find_reference(reference)
+    with tempfile.TemporaryDirectory() as name:
+        test = SelfTest(Path(name), program)
+        checks: list[Callable[[], None]] = [
+            test.check_cases,
+            test.check_same,
+            test.check_difference,
+            test.check_statuses,
+            test.check_kinds,
+            test.check_missing,
+        ]
+        for check in checks:
+            try:
+                check()
+            except (Fault, OSError, subprocess.TimeoutExpired) as fault:
+                test.faults.append(f"{check.__name__}: {fault}")
+    for text in test.faults:
+        print(f"differential: self-test: {text}", file=sys.stderr)
+    return 1 if test.faults else 0
