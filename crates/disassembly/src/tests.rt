@@ -2,6 +2,7 @@ use crate::{WordText, write_text};
 
 /// Words at 80000000, and their texts as GNU objdump 2.40 writes them with `-M numeric,no-aliases`,
 /// but for the tab after a mnemonic, the `0x` of a target, and the last, which is `.4byte 0x3003`.
+/// `reference/out/reference disasm` writes them too.
 static TEXTS: [(u32, &str); 106] = [
     (0x0000_0037, "lui x0,0x0"),
     (0xffff_ffb7, "lui x31,0xfffff"),

@@ -1,5 +1,5 @@
 // What no clause says: that memory is found, and that the words are those of another program that
-// makes the same images.
+// makes the same images: `reference/out/reference soakimage SEED BLOCKS FILE` makes them again.
 ghost use Rattle.std.specs.Prelude.{◌≤◌};
 
 use crate::soak_image;

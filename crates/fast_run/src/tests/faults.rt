@@ -65,7 +65,8 @@ fn files_of(alloc: Global) -> Result<MemoryFiles, Fail> {
     Ok(files)
 }
 
-/// Lines and their refusals, in the order in which these are tested.
+/// Lines and their refusals, in the order in which these are tested. `reference/out/reference`
+/// with a line's words writes them too.
 const REFUSED: [(&str, u8, &str); 39] = [
     ("func none", 13, "fast: missing: image\n"),
     ("func none --input none", 13, "fast: missing: image\n"),

@@ -1,5 +1,5 @@
 //! Plans that starve a side, each ten thousand times, and a sink that fails behind a long run. The
-//! reports are those of another simulator.
+//! reports are those of another simulator: `reference/out/reference sched` writes them again.
 use super::answer;
 use super::programs::{files_of_runs, repeated};
 use super::reports::check_report;

@@ -1,5 +1,6 @@
 //! Reports of `func`, `run`, `sched` and `inorder`. The values were worked out by hand, and by
-//! another simulator.
+//! another simulator: `reference/out/reference` with a line's words writes them again, on images
+//! that `reference/out/reference mkelf` makes of the words in `programs.rt`.
 use super::answer;
 use super::programs::files_of_runs;
 use fsim_ports::{MemoryFiles, MemorySink};

@@ -1,4 +1,5 @@
-//! Sessions of a debugger, against values worked out by hand.
+//! Sessions of a debugger, against values worked out by hand. `reference/out/reference back`
+//! writes them too.
 use super::programs::files_of_runs;
 use super::{SMALLEST_PASS, check, image_of};
 use fsim_ports::MemoryFiles;

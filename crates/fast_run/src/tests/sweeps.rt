@@ -1,5 +1,5 @@
 //! Lines of a sweep, against values worked out by hand from the machine's rules, and by another
-//! simulator.
+//! simulator: `reference/out/reference sweep` writes them again.
 use super::programs::files_of_runs;
 use super::{answer_with, check, set_with};
 use device_bus::Console;
