@@ -7,9 +7,11 @@ Printed are the lowest time and the median in milliseconds by the clock, and how
 takes: the geometric mean over the rounds, with its standard error. Many short runs (some 50 milliseconds each) tell more
 than few long ones. All programs have to write the same. As in
 
-    bench/in_turn.py --rounds 40 simulator out/fast 'out/fast --threads 1' -- run IMAGE MACHINE --cycles 100000
+    bench/in_turn.py --rounds 40 reference/out/reference 'out/fast --threads 1' -- run IMAGE MACHINE --cycles 100000
 
-By root it runs them at real-time priority; --processors 0,1 keeps them on these processors. It is no part of the gate.
+reference/out/reference is the simulator in C++ that `make -C reference` builds. bench/ratios.py writes such means for many
+images and machines. By root it runs them at real-time priority; --processors 0,1 keeps them on these processors. It is
+no part of the gate.
 """
 import argparse
 import math
@@ -63,11 +65,16 @@ def rounds_of(commands, rounds, processors):
     return times
 
 
-def told(name, times, first):
-    """The line of a program, by its times and those of the first one."""
+def ratio_of(times, first):
+    """How many times as long as the first program one takes: the geometric mean over the rounds, and its error."""
     logs = [math.log(one / other) for one, other in zip(times, first)]
     mean = math.exp(statistics.fmean(logs))
-    error = mean * (statistics.stdev(logs) / math.sqrt(len(logs)) if len(logs) > 1 else 0)
+    return mean, mean * (statistics.stdev(logs) / math.sqrt(len(logs)) if len(logs) > 1 else 0)
+
+
+def told(name, times, first):
+    """The line of a program, by its times and those of the first one."""
+    mean, error = ratio_of(times, first)
     lowest, median = 1000 * min(times), 1000 * statistics.median(times)
     return f"{name}: {lowest:.1f} ms, median {median:.1f}, {mean:.2f} times as long (± {error:.2f})"
 
@@ -83,4 +90,5 @@ def main():
         print(told(program, own, times[0]), flush=True)
 
 
-main()
+if __name__ == "__main__":
+    main()

@@ -1,7 +1,7 @@
 #!/bin/sh
 # Runs `fast` on machine files, images, inputs and plans of the greatest sizes, and prints for each run its seconds, its
 # processor seconds and the most memory that it had: bench/limits.sh [SIMULATOR]
-# Where a simulator that takes the same words but --threads is named, its output has to be the same.
+# Where a simulator that takes the same words is named, as reference/out/reference, its output has to be the same.
 here=$(cd "$(dirname "$0")/.." && pwd) || exit 1
 simulator=$1
 work=$(mktemp -d) || exit 1

@@ -3,7 +3,8 @@
 # C program, each cut off after so many cycles, under the plain and the wide machine of examples/machines, with rings of 1,
 # 64, 4,096 and 65,536 entries, and then on twice and four times as many cycles.
 #
-#     bench/run.sh [SIMULATOR]    a program that takes the same words but --threads; its reports have to be the same
+#     bench/run.sh [SIMULATOR]    a program that takes the same words, as reference/out/reference, which `make -C
+#                                 reference` builds; its reports have to be the same
 #
 # A line for each: milliseconds of the best of some runs of the whole program, and millions of cycles in a second, on two
 # threads and on one; with a simulator, which runs in turn with `fast`, its milliseconds and how many times as long as these
