@@ -30,7 +30,8 @@ def find_reference(path: Path | None) -> Path:
         return path.absolute()
     if not can_build():
         raise Fault("the reference can't be built: it takes make and g++")
-    words = ["make", "--silent", "--directory", str(FOLDER)]
+    jobs = f"--jobs={len(os.sched_getaffinity(0))}"
+    words = ["make", "--silent", jobs, "--directory", str(FOLDER)]
     done = subprocess.run(words, capture_output=True, text=True, check=False)
     if done.returncode != 0:
         last = (done.stderr.strip() or "no message").splitlines()[-1]
