@@ -2,6 +2,7 @@
 
 #include <unistd.h>
 
+#include <cerrno>
 #include <cinttypes>
 #include <cstdio>
 #include <cstring>
@@ -140,8 +141,7 @@ Answer sched(const Line& line, const Setup& setup, const std::string& plan) {
     return run_answer(line, split.final(), split.functional.state, split.functional.memory);
 }
 
-Answer inorder(const Line& line, Setup setup, const std::string& plan) {
-    setup.parameters.core_window = 4;
+Answer inorder(const Line& line, const Setup& setup, const std::string& plan) {
     InOrder machine(setup);
     machine.tells_commits = line.tells_commits;
     machine.run();
@@ -246,7 +246,7 @@ Answer answer_line(const Line& line) {
     if (command == "func") return func(line, setup);
     if (command == "run") return run(line, setup);
     if (command == "sched") return sched(line, setup, files.plan);
-    if (command == "inorder") return inorder(line, setup, files.plan);
+    if (command == "inorder") return inorder(line, in_order_setup(setup), files.plan);
     if (command == "splitrun") return splitrun(line, setup);
     if (command == "back") return back(line, setup, files.script);
     if (command == "gdb") return gdb(line, setup);

@@ -75,11 +75,11 @@ Answer count(const Setup& setup) {
 
 }  // namespace
 
-Answer answer_insight(const Line& line, Setup setup) {
+Answer answer_insight(const Line& line, const Setup& setup) {
     if (line.command == "count") return count(setup);
     if (line.is_in_order) {
-        setup.parameters.core_window = 4;
-        InOrder machine(setup);
+        const Setup own = in_order_setup(setup);
+        InOrder machine(own);
         return watched(line, machine, PipelineKind::InOrder);
     }
     Monolithic machine(setup);

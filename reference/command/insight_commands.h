@@ -6,4 +6,4 @@
 #include "command/line.h"
 #include "hart/state.h"
 
-Answer answer_insight(const Line& line, Setup setup);
+Answer answer_insight(const Line& line, const Setup& setup);

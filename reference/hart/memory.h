@@ -26,6 +26,12 @@ private:
     std::unique_ptr<uint8_t, decltype(&free)> bytes_;
 };
 
+// Whether an access can be made where it lies: a device has to accept it.
+inline bool is_accepted(Spot spot, uint32_t address, uint8_t width) {
+    if (spot == Spot::Device) return accepts(*device_at(address), width);
+    return spot == Spot::Ram;
+}
+
 class Memory {
 public:
     // Fresh memory with an image in it.

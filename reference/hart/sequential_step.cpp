@@ -24,10 +24,7 @@ void place_access(const Memory& memory, Result& result, Entry& entry) {
     entry.width = outcome.width;
     entry.spot = memory.spot(outcome.address, outcome.width);
     if (outcome.cause != Cause::None) return;
-    bool is_possible =
-        entry.spot == Spot::Ram ||
-        (entry.spot == Spot::Device && accepts(*device_at(outcome.address), outcome.width));
-    if (!is_possible)
+    if (!is_accepted(entry.spot, outcome.address, outcome.width))
         fail(result, outcome.reach == Reach::Load ? Cause::LoadAccess : Cause::StoreAccess,
              outcome.address);
 }

@@ -19,7 +19,7 @@ public:
 
     void make_cycle();
     // Goes on to a cycle, or to the end.
-    void run_until(uint64_t cycle);
+    void run_until(uint64_t goal);
     void run() { run_until(~0ull); }
 
     // The window, the oldest record first.
@@ -56,7 +56,7 @@ private:
     bool fetch_phase();
 
     void flush_from(uint64_t number, uint32_t address);
-    void forget(uint64_t number, uint64_t kept);
+    void forget(uint64_t number, uint64_t kept_below);
     void append();
     bool must_await(uint64_t producer);
     void wake_those_awaiting(uint64_t number);
@@ -67,10 +67,10 @@ private:
         uint32_t alu, mul, div, mem;
     };
     enum class Turn { Passes, Begins, Replays };
-    Turn issue_turn(uint64_t number, Units& units, uint64_t first_unfinished_store);
+    // The barrier of loads is the oldest store that isn't done.
+    Turn issue_turn(uint64_t number, Units& units, uint64_t barrier);
     uint32_t* units_for(Class unit, Units& units);
-    bool class_allows(uint64_t number, const Outcome& outcome,
-                      uint64_t first_unfinished_store) const;
+    bool class_allows(uint64_t number, const Outcome& outcome, uint64_t barrier) const;
     uint64_t latency_of(const Record& record);
     void begin(uint64_t number);
     uint64_t first_unfinished_store() const;

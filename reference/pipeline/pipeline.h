@@ -148,10 +148,7 @@ void Pipeline::execute(Record& record, uint32_t source, const Outcome& outcome,
         record.stored = outcome.stored;
         record.spot = memory.spot(outcome.address, outcome.width);
         bool is_load = outcome.reach == Reach::Load;
-        bool is_possible =
-            record.spot == Spot::Ram ||
-            (record.spot == Spot::Device && accepts(*device_at(outcome.address), outcome.width));
-        if (!record.has_cause() && !is_possible) {
+        if (!record.has_cause() && !is_accepted(record.spot, outcome.address, outcome.width)) {
             record.cause = is_load ? Cause::LoadAccess : Cause::StoreAccess;
             record.mtval = outcome.address;
         }
