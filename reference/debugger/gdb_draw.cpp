@@ -125,13 +125,15 @@ private:
     std::string device_bytes() {
         static const uint32_t addresses[] = {0x10000000, 0x10000003, 0x02004000,
                                              0x0200bff8, 0x00100000, 0x0};
-        return formatted("m%x,%x", addresses[draws_.below(6)], 1 + draws_.below(9));
+        uint32_t address = addresses[draws_.below(6)];
+        return formatted("m%x,%x", address, 1 + draws_.below(9));
     }
 
     // A write, mostly of what may be there already.
     std::string write_back() {
-        if (draws_.below(2)) return formatted("P%x=%08x", draws_.below(40), draws_.below(3));
-        uint32_t address = positions_.at(position()).next_address, count = draws_.below(3);
+        uint32_t count = draws_.below(3);
+        if (draws_.below(2)) return formatted("P%x=%08x", draws_.below(40), count);
+        uint32_t address = positions_.at(position()).next_address;
         return formatted("M%x,%x:", address, count) + std::string(2 * count, '0');
     }
 
@@ -185,8 +187,8 @@ private:
     }
 
     std::string description() {
-        return formatted("qXfer:features:read:target.xml:%x,%x", draws_.below(4200),
-                         draws_.below(5000));
+        uint32_t place = draws_.below(4200);
+        return formatted("qXfer:features:read:target.xml:%x,%x", place, draws_.below(5000));
     }
 };
 
