@@ -16,7 +16,7 @@ SHORT = ["--cycles", "200"]
 # Runs that are long, or that two threads make turn by turn on a busy host, are rare.
 SEEDS_PER_SOAK = 40
 SEEDS_PER_RUN_IN_THREADS = 4
-PACKETS = 60
+PACKETS = 150
 
 
 @dataclass
