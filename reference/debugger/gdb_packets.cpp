@@ -1,7 +1,5 @@
 #include "debugger/gdb_packets.h"
 
-#include <algorithm>
-
 #include "base/text.h"
 
 namespace {

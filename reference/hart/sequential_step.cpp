@@ -1,7 +1,5 @@
 #include "hart/sequential_step.h"
 
-#include "base/text.h"
-
 namespace {
 
 // What an instruction comes to, before anything changes.

@@ -2,8 +2,6 @@
 // Definition: crates/insight_model/specs/Facts.antt.
 #pragma once
 
-#include <algorithm>
-
 #include "insight/cause.h"
 #include "insight/sight.h"
 

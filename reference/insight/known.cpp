@@ -1,6 +1,6 @@
 #include "insight/known.h"
 
-#include "base/text.h"
+#include <algorithm>
 
 namespace {
 

@@ -1,7 +1,5 @@
 // The laws of a profile and a stack, tested on a run that is over: sums over rows and over causes,
 // and what the phases told of themselves. Laws: crates/insight_laws/src.
-#include <cinttypes>
-
 #include "base/text.h"
 #include "insight/profile.h"
 

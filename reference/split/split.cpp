@@ -1,5 +1,10 @@
 #include "split/split.h"
 
+#include <cinttypes>
+#include <cstdio>
+
+#include "base/text.h"
+
 void Split::play(char event) {
     switch (event) {
         case 'O':

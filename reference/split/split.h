@@ -2,14 +2,11 @@
 // Definition: crates/mono_model/specs/Split.antt.
 #pragma once
 
-#include <cinttypes>
-#include <cstdio>
 #include <deque>
 #include <memory>
 #include <optional>
 #include <string>
 
-#include "base/text.h"
 #include "split/functional_side.h"
 #include "split/timing_side.h"
 

@@ -1,6 +1,9 @@
 // A split machine in random events, held against the machine that isn't split.
 #pragma once
 
+#include <cinttypes>
+
+#include "base/text.h"
 #include "files/soak.h"
 #include "hart/report.h"
 #include "split/split.h"
