@@ -42,8 +42,8 @@ class CaseDraw:
         self._seed = seed
         draws = self._draws("files")
         self._files = draw_files(draws)
-        output = draws.choice([0, 1, 3, 16777216, 16777216])
-        cycles = draws.choice([300, 5000, 30000])
+        output = draws.choice([0, 1, 3, *[16777216] * 5])
+        cycles = draws.choice([300, 5000, 30000, 30000])
         self._options = ["--cycles", str(cycles), "--output", str(output), "--input", "input"]
         self._ring = ["--ring", str(draws.choice([1, 2, 3, 7, 16, 64, 300]))]
         self._history = ["--history", str(draws.choice([1, 2, 10, 50, 1000, 65536]))]

@@ -77,7 +77,7 @@ class ProgramDraw:
     def _add_start(self) -> int:
         """Addresses, handlers, interrupts and data; where the address of the end is to stand."""
         draws = self._draws
-        if draws.chance(0.85):
+        if draws.chance(0.95):
             handler = BASE + 4 | (1 if self._is_vectored else 0)
             self._words += [*asm.constant(28, handler), asm.csr(1, 0, MTVEC, 28)]
         end = len(self._words)
