@@ -19,7 +19,13 @@ SECONDS = 120
 # Programs that answer as the reference does, but for some words.
 PASSING = ""
 REFUSING = """case $1 in trace | gdb) echo "fast: usage: none"; exit 10 ;; esac"""
-COUNTING = """case $1 in run) '{reference}' "$@" | sed 's/^cycles: /&1/'; exit 2 ;; esac"""
+COUNTING = """case $1 in
+    run)
+        text=$('{reference}' "$@"; echo "$?")
+        echo "$text" | sed -e 's/^cycles: /&1/' -e '$d'
+        exit "$(echo "$text" | tail -n 1)"
+        ;;
+esac"""
 ENDING = """case $1 in back) '{reference}' "$@"; exit 3 ;; esac"""
 SLEEPING = """case $1 in func) exec sleep 60 ;; esac"""
 PROGRAM = """#!/bin/sh
