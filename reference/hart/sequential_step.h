@@ -1,5 +1,5 @@
 // The sequential step: one instruction at the next address, what is told of it, and what takes it
-// back. Definitions: crates/mono_model/specs/Found.antt, Result.antt, Effect.antt, Sequence.antt;
+// back. Definitions: crates/mono_model/specs/Found.antt, Sequence.antt;
 // crates/func_model/specs/Undo.antt.
 #pragma once
 
@@ -7,8 +7,7 @@
 #include <optional>
 #include <string>
 
-#include "hart/memory.h"
-#include "hart/state.h"
+#include "hart/result.h"
 
 // What is told of an instruction: all that timing depends on, and no values.
 struct Entry {
@@ -53,16 +52,9 @@ struct UndoStep {
 };
 
 // Executes the next instruction, with a time or none. Nothing changes, and the answer is nothing,
-// where it would send a byte for which there is no room. FENCE.I leaves the text as it is.
+// where it would send a byte for which there is no room.
 std::optional<Entry> sequential_step(State& state, Memory& memory, const std::string& input,
                                      std::optional<uint64_t> time, uint64_t output_room,
                                      UndoStep* undo);
 
 void take_back(State& state, Memory& memory, const UndoStep& undo);
-
-// Whether the output has no room for the byte that an access would send.
-inline bool lacks_room(const State& state, Reach access, Spot spot, uint32_t address,
-                       uint64_t output_room) {
-    return access == Reach::Store && spot == Spot::Device && state.devices.would_send(address) &&
-           state.output.size() >= output_room;
-}

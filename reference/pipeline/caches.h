@@ -27,6 +27,10 @@ public:
         Line* lines = &lines_[(size_t)set * ways_];
         bool makes_dirty = is_store && writes_back_;
         uint32_t held = used_[set], place = 0;
+        if (held > 0 && lines[0].number == number) {
+            lines[0].is_dirty |= makes_dirty;
+            return true;
+        }
         while (place < held && lines[place].number != number)
             place++;
         bool hits = place < held;

@@ -23,7 +23,7 @@ void InOrder::flush_up_to(Place place, uint32_t address) {
 void InOrder::interrupt_phase() {
     if (!state.take_interrupt(cycle)) return;
     flush_up_to(Place::Write, state.pc);
-    has_kept_time_ = false;
+    kept_time_.reset();
     counts.interrupts++;
 }
 

@@ -40,7 +40,7 @@ void Monolithic::skip_idle_cycles() {
 bool Monolithic::interrupt_phase() {
     if (!state.take_interrupt(cycle)) return false;
     flush_from(oldest_, state.pc);
-    has_kept_time_ = false;
+    kept_time_.reset();
     counts.interrupts++;
     return true;
 }

@@ -1,6 +1,6 @@
-// What the two machines that hold values have in common: the committed state, what issue computes,
-// how the oldest record leaves, and a try of fetch.
-// Definitions: crates/mono_model/specs/Machine.antt, Result.antt, Commit.antt, Fetch.antt.
+// What the two machines that hold values have in common: the committed state, how the oldest record
+// leaves, and a try of fetch.
+// Definitions: crates/mono_model/specs/Machine.antt, Commit.antt, Fetch.antt.
 #pragma once
 
 #include <map>
@@ -44,8 +44,7 @@ public:
     Final final() const;
 
 protected:
-    bool has_kept_time_ = false;
-    uint64_t kept_time_ = 0;  // for the record to fetch next
+    std::optional<uint64_t> kept_time_;  // for the record to fetch next
 
     // How the oldest record left.
     enum class Leaving { Full, Leaves, Faults, Synchronises, Ends };
@@ -69,21 +68,24 @@ protected:
 
     // The oldest record goes back to fetch, to be given this cycle as its time.
     void keep_time() {
-        has_kept_time_ = true;
         kept_time_ = cycle;
         counts.replays++;
     }
 
     bool wants_time(const Record& record, const Outcome& outcome) const {
-        if (record.has_time) return false;
-        if (record.instruction.operation == Operation::Csr) return reads_time(record.instruction);
-        return outcome.reach == Reach::Load && is_time_address(outcome.address, outcome.width);
+        return !record.time &&
+               is_time_read(record.instruction, outcome.reach, outcome.address, outcome.width);
     }
 
-    // Gives a record its result: with its outcome, the value of its first source, and a function
-    // that tells the bytes of RAM under older stores.
+    // Gives a record its result, by its outcome and the value of its first source; a function tells
+    // the bytes of RAM under older stores.
     template <class LoadedBytes>
-    void execute(Record& record, uint32_t source, const Outcome& outcome, LoadedBytes loaded_bytes);
+    void execute(Record& record, uint32_t source, const Outcome& outcome,
+                 LoadedBytes loaded_bytes) {
+        Seen seen{state, memory, setup.input, record.time};
+        Result& result = record;
+        result = executed(record.instruction, record.word, source, outcome, seen, loaded_bytes);
+    }
 
     uint32_t fetch_line(uint32_t address) {
         return witnessed(address, [&] { return caches.fetch(address); });
@@ -104,11 +106,11 @@ private:
         uint32_t word = 0;  // which is no instruction, as the one beside it says
         Instruction instruction;
     };
+    static constexpr uint32_t known_room = 4096;
     std::vector<Known> known_;  // decoded words by their addresses
 
     const Instruction& known_instruction(uint32_t address, uint32_t word);
     void tell_commit(const Record& record) const;
-    Leaving retire(const Record& record);
     void witness_access(uint32_t address, const CacheCounts& before);
 
     template <class Access>
@@ -120,43 +122,3 @@ private:
         return cycles;
     }
 };
-
-template <class LoadedBytes>
-void Pipeline::execute(Record& record, uint32_t source, const Outcome& outcome,
-                       LoadedBytes loaded_bytes) {
-    const Instruction& instruction = record.instruction;
-    record.value = outcome.value;
-    record.next = outcome.next;
-    record.cause = outcome.cause;
-    record.mtval = outcome.mtval;
-    if (instruction.operation == Operation::Csr) {
-        auto access =
-            csr_access(state.csrs, instruction, source, record.time, state.devices.compare());
-        if (access) {
-            record.value = access->value;
-            record.csr_written = access->written;
-        } else {
-            record.cause = Cause::IllegalInstruction;
-            record.mtval = record.word;
-        }
-    } else if (instruction.operation == Operation::Mret) {
-        record.next = state.csrs.mepc;
-    } else if (outcome.reach != Reach::Nothing) {
-        record.access = outcome.reach;
-        record.access_address = outcome.address;
-        record.width = outcome.width;
-        record.stored = outcome.stored;
-        record.spot = memory.spot(outcome.address, outcome.width);
-        bool is_load = outcome.reach == Reach::Load;
-        if (!record.has_cause() && !is_accepted(record.spot, outcome.address, outcome.width)) {
-            record.cause = is_load ? Cause::LoadAccess : Cause::StoreAccess;
-            record.mtval = outcome.address;
-        }
-        if (record.has_cause() || !is_load) return;
-        bool takes;
-        uint32_t bytes = record.spot == Spot::Ram
-                             ? loaded_bytes()
-                             : state.devices.look(setup.input, outcome.address, record.time, takes);
-        record.value = extended(bytes, outcome.width, outcome.is_signed);
-    }
-}

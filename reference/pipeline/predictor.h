@@ -13,6 +13,8 @@ public:
         : is_static_(parameters.predictor_kind == 0),
           has_history_(parameters.predictor_kind == 2),
           history_mask_((1u << parameters.predictor_history) - 1),
+          counter_mask_(parameters.predictor_counters - 1),
+          target_mask_(parameters.predictor_targets - 1),
           counters_(parameters.predictor_counters, 1),
           targets_(parameters.predictor_targets) {}
 
@@ -47,14 +49,14 @@ private:
     };
 
     bool is_static_, has_history_;
-    uint32_t history_mask_;
+    uint32_t history_mask_, counter_mask_, target_mask_;
     uint32_t outcomes_ = 0;  // of the last branches, the last one lowest
     std::vector<uint8_t> counters_;
     std::vector<Target> targets_;
 
     size_t counter_place(uint32_t address) const {
         uint32_t place = has_history_ ? address / 4 ^ outcomes_ : address / 4;
-        return place & (counters_.size() - 1);
+        return place & counter_mask_;
     }
-    size_t target_place(uint32_t address) const { return address / 4 & (targets_.size() - 1); }
+    size_t target_place(uint32_t address) const { return address / 4 & target_mask_; }
 };
