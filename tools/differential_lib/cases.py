@@ -17,6 +17,7 @@ SHORT = ["--cycles", "200"]
 SEEDS_PER_SOAK = 40
 SEEDS_PER_RUN_IN_THREADS = 4
 PACKETS = 150
+MOST_CYCLES_AGAIN = 3000
 
 
 @dataclass
@@ -43,8 +44,8 @@ class CaseDraw:
         draws = self._draws("files")
         self._files = draw_files(draws)
         output = draws.choice([0, 1, 3, *[16777216] * 5])
-        cycles = draws.choice([300, 5000, 30000, 30000])
-        self._options = ["--cycles", str(cycles), "--output", str(output), "--input", "input"]
+        self._cycles = draws.choice([300, 5000, 30000, 30000])
+        self._options = ["--cycles", str(self._cycles), "--output", str(output), "--input", "input"]
         self._ring = ["--ring", str(draws.choice([1, 2, 3, 7, 16, 64, 300]))]
         self._history = ["--history", str(draws.choice([1, 2, 10, 50, 1000, 65536]))]
         self._pipeline = draws.choice(
@@ -100,15 +101,19 @@ class CaseDraw:
                 seed = str(self._draws("soak").getrandbits(64))
                 return [[kind, seed]] if self._seed % SEEDS_PER_SOAK == 0 else []
             case "trace":
-                return [[kind, *machine, *self._cycles(), *self._pipeline, *options]]
+                return [[kind, *machine, *self._span(), *self._pipeline, *options]]
             case "stack" | "profile":
                 return [[kind, *machine, *self._pipeline, *options]]
         raise ValueError(kind)
 
     def _calls_again(self) -> list[Call]:
-        """Pairs of words that the reference has to answer alike; some make it test itself."""
-        machine, seed = ["p.elf", "m.toml", *self._options], ["--seed", str(self._seed)]
-        inorder = ["inorder", "p.elf", "m.toml", "plan", *self._ring, *self._options]
+        """Pairs of words that the reference has to answer alike; some make it test itself.
+
+        The runs are short, since the split machine searches its window for each event.
+        """
+        options = ["--cycles", str(min(self._cycles, MOST_CYCLES_AGAIN)), *self._options[2:]]
+        machine, seed = ["p.elf", "m.toml", *options], ["--seed", str(self._seed)]
+        inorder = ["inorder", "p.elf", "m.toml", "plan", *self._ring, *options]
         stack = ["stack", *machine, *self._pipeline]
         pairs = [
             (["run", *machine], ["run", *machine, "--noskip"]),
@@ -119,7 +124,7 @@ class CaseDraw:
         ]
         return [Call(ITSELF, tuple(one), None, tuple(again)) for one, again in pairs]
 
-    def _cycles(self) -> list[str]:
+    def _span(self) -> list[str]:
         """From which cycle to which a trace goes."""
         draws = self._draws("trace")
         first = draws.choice([0, 0, 1, 5, 40, 300, 5000])
