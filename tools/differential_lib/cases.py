@@ -13,11 +13,12 @@ from .programs import draw_program
 from .texts import damage_plan, draw_plan, draw_script
 
 SHORT = ["--cycles", "200"]
-# Runs that are long, or that two threads make turn by turn on a busy host, are rare.
+# Runs that are long, or that two threads make turn by turn on a busy host, are rare, and the latter
+# short.
 SEEDS_PER_SOAK = 40
 SEEDS_PER_RUN_IN_THREADS = 4
 PACKETS = 150
-MOST_CYCLES_AGAIN = 3000
+MOST_SHORT_CYCLES = 3000
 
 
 @dataclass
@@ -77,8 +78,8 @@ class CaseDraw:
                 return [[kind, "p.elf", *options]]
             case "run":
                 one = [kind, *machine, *ring, *options, "--threads", "1"]
-                is_rare = self._seed % SEEDS_PER_RUN_IN_THREADS == 0
-                return [one, one[:-2]] if is_rare else [one]
+                two = [kind, *machine, *ring, *self._short_options()]
+                return [one, two] if self._seed % SEEDS_PER_RUN_IN_THREADS == 0 else [one]
             case "sched" | "inorder":
                 plans = ["plan", "badplan"]
                 return [[kind, *machine, plan, *ring, *options] for plan in plans]
@@ -111,7 +112,7 @@ class CaseDraw:
 
         The runs are short, since the split machine searches its window for each event.
         """
-        options = ["--cycles", str(min(self._cycles, MOST_CYCLES_AGAIN)), *self._options[2:]]
+        options = self._short_options()
         machine, seed = ["p.elf", "m.toml", *options], ["--seed", str(self._seed)]
         inorder = ["inorder", "p.elf", "m.toml", "plan", *self._ring, *options]
         stack = ["stack", *machine, *self._pipeline]
@@ -123,6 +124,10 @@ class CaseDraw:
             (stack, [*stack, "--check"]),
         ]
         return [Call(ITSELF, tuple(one), None, tuple(again)) for one, again in pairs]
+
+    def _short_options(self) -> list[str]:
+        """The same options with not so many cycles."""
+        return ["--cycles", str(min(self._cycles, MOST_SHORT_CYCLES)), *self._options[2:]]
 
     def _span(self) -> list[str]:
         """From which cycle to which a trace goes."""
