@@ -1,5 +1,5 @@
 -- Which bytes are a machine file, and the parameters that it gives: a document of TOML 1.1 whose
--- keys have the values of the table in docs/PIPELINE.md (`Table`).
+-- keys have the values of the table in docs/MACHINE-FILE.md (`Table`).
 use Rattle.std.specs.Prelude.{◌≡◌, ℕ, ◌+◌, ◌^◌, ◌%◌, ◌==◌, Bool, true, false, not, ◌&&◌, ◌||◌}
 use Rattle.std.specs.Prelude.{if◌then◌else◌, nat_le, int_le, ◌-◌, ℤ, pos, negsuc, List, [], ◌∷◌}
 use Rattle.std.specs.Prelude.{length, Option, Some, None, is_some, option_map, option_and_then}

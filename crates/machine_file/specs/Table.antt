@@ -1,4 +1,4 @@
--- The keys of a machine file, in the order of the table in docs/PIPELINE.md.
+-- The keys of a machine file, in the order of the table in docs/MACHINE-FILE.md.
 use Rattle.std.specs.Prelude.{ℕ, List, [], ◌∷◌, ◌++◌, Option, Some, None, codes}
 
 -- what the value of a key has to be

@@ -44,7 +44,7 @@ fn is_cache(most_sets: u32, line: u32, sets: u32, ways: u32, miss: u32) -> bool
 /// The parameters of the machine: one field for each key of a machine file, the dot written as an
 /// underscore.
 ///
-/// `docs/PIPELINE.md` has the meaning, range and default of each.
+/// `docs/MACHINE-FILE.md` has the meaning, range and default of each.
 #[derive(Clone, Copy, Debug, PartialEq, Eq)]
 pub struct Params {
     /// The version of the machine file, 1 or 2. Version 1 has no second level of caches and writes
