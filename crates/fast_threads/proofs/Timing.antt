@@ -17,17 +17,17 @@ use Rattle.machine_laws.proofs.Telling.{step_told}
 use Rattle.machine_laws.proofs.Whole.{order_is}
 use Rattle.machine_laws.proofs.OrderSteps.{needed_is}
 use Rattle.machine_laws.proofs.Stopping.{halted_machine}
-use Rattle.time_model.specs.declared.state.TimeState.{TimeState}
 use Rattle.time_model.specs.declared.turn.Turn.{Turn}
 use Rattle.time_model.specs.declared.turn.Turn.TheVariants.{Moved, Ordered, Want, CycleEnd, Halted}
 use Rattle.time_model.specs.Turns.{turn_told, order_told}
 use Rattle.time_model.specs.Running.{is_silent, IsSilent, start, more, IsRun, Steps}
-use Rattle.time_model.proofs.Turns.{told_turn}
 use Rattle.time_model.specs.declared.side.Taken.{Taken}
 use Rattle.time_model.specs.declared.side.Taken.TheVariants.{Used, Dropped}
 use Rattle.time_model.specs.Feeding.{holding, IsFed}
-use Rattle.time_model.proofs.Feeding.{holding_stands}
-use Rattle.time_model.specs.Standing.{TimeSideStandsFor, IsStep, IsMade, IsRight, is_told_out, wants_in}
+use Rattle.time_model.proofs.Feeding.{holding_stands, told_turn}
+use Rattle.time_model.specs.Standing.{IsStep, IsMade, IsRight, is_told_out, wants_in}
+use Rattle.time_model.specs.OutOfOrder.{TimeState, TimeSideStandsFor, core_piped}
+use Rattle.time_model.specs.OutOfOrderLaws.{core_laws}
 use Rattle.time_model.proofs.Owing.{stands_wants}
 use Rattle.trace_ring.specs.Ring.{IsNamed}
 use Rattle.trace_ring.specs.Ends.{TimeAt, time_start, time_pushed, time_read, time_flushed, time_taken}
@@ -72,15 +72,15 @@ time_takes end behind side new e hand is_halted is taken stands =
 -- the entry with the wanted number may be handed to the side: where it is of the side's epoch, it
 -- is the one that is needed
 module _ (end : TimeAt) (side : TimeState) (e : Entry) (hand : Option Order) (is_halted : Bool) (is : IsTimeAt end side hand is_halted)
-    (named : IsNamed end.setup e) (wants : wants_in side ≡ true) (number : e.number ≡ next (place end.setup is.steps).run.demand) where
+    (named : IsNamed end.setup e) (wants : wants_in core_piped side ≡ true) (number : e.number ≡ next (place end.setup is.steps).run.demand) where
   pub time_needs : e.epoch ≡ side.telling.epoch → e ≡ needed_entry end.setup (place end.setup is.steps)
   time_needs epoch =
       let s = end.setup in
       let p = place s is.steps in
-      let needs : needs_entry p ≡ true = (and_parts (needs_entry p) (is_none side.telling.held) (sym (stands_wants s is.steps side is.stands) ∙ wants)).0 in
+      let needs : needs_entry p ≡ true = (and_parts (needs_entry p) (is_none side.telling.held) (sym (stands_wants core_piped core_laws s is.steps side is.stands) ∙ wants)).0 in
       needed_is s is.steps e (setup_facts s is.sound).some_cycle needs named (epoch ∙ is.stands.epoch) number
 
-  pub time_right : IsRight e side
+  pub time_right : IsRight core_piped e side
   time_right = record { setup = end.setup; sound = is.sound; steps = is.steps; stands = is.stands; needed = time_needs }
 
 pub time_with : (end : TimeAt) (side : TimeState) (hand other : Option Order) (is_halted : Bool) → hand ≡ other → IsTimeAt end side hand is_halted → IsTimeAt end side other is_halted
@@ -112,7 +112,7 @@ in_place s None m n same is = tt
 in_place s (Some o) m n same is = subst (λ (k : ℕ). order s k ≡ Some o) same is
 
 module _ (end : TimeAt) (side new : TimeState) (hand : Option Order) (is_halted : Bool) (turn : Turn) (none : hand ≡ None)
-    (is : IsTimeAt end side hand is_halted) (made : IsStep end.setup is.steps side new turn) where
+    (is : IsTimeAt end side hand is_halted) (made : IsStep core_piped end.setup is.steps side new turn) where
   abbrev Stepped : Type 0
   Stepped = IsTimeAt end new (order_told turn) is_halted
 
@@ -125,7 +125,7 @@ module _ (end : TimeAt) (side new : TimeState) (hand : Option Order) (is_halted 
       let Q : Option Order → Type 0 = λ o. IsTimeAt end new o is_halted in
       subst Q (none ∙ sym told) (subst P (sym same) is)
 
-  goes : IsMade end.setup is.steps side new turn → is_told_out (place end.setup is.steps) ≡ false → Stepped
+  goes : IsMade core_piped end.setup is.steps side new turn → is_told_out (place end.setup is.steps) ≡ false → Stepped
   goes it on =
       let s = end.setup in
       let p = place s is.steps in
@@ -191,7 +191,7 @@ silent_told CycleEnd is = refl
 silent_told Halted is = cc
 
 -- steps that tell no order
-time_passes : (end : TimeAt) (side behind : TimeState) (hand : Option Order) (is_halted : Bool) → hand ≡ None → IsTimeAt end side hand is_halted → IsSilent Steps side behind →
+time_passes : (end : TimeAt) (side behind : TimeState) (hand : Option Order) (is_halted : Bool) → hand ≡ None → IsTimeAt end side hand is_halted → IsSilent (Steps core_piped) side behind →
     IsTimeAt end behind hand is_halted
 time_passes end side _ hand is_halted none is start = is
 time_passes end side _ hand is_halted none is (more mid new turn rest made silent) =
@@ -200,11 +200,11 @@ time_passes end side _ hand is_halted none is (more mid new turn rest made silen
 
 -- several steps, by what the last one did
 module _ (end : TimeAt) (side new : TimeState) (hand : Option Order) (is_halted : Bool) (turn : Turn) (none : hand ≡ None)
-    (is : IsTimeAt end side hand is_halted) (ran : IsRun Steps side new turn) where
+    (is : IsTimeAt end side hand is_halted) (ran : IsRun (Steps core_piped) side new turn) where
   before_last : IsTimeAt end ran.behind hand is_halted
   before_last = time_passes end side ran.behind hand is_halted none is ran.silent
 
-  last_made : IsStep end.setup before_last.steps ran.behind new turn
+  last_made : IsStep core_piped end.setup before_last.steps ran.behind new turn
   last_made = ran.last end.setup before_last.steps before_last.sound before_last.stands
 
   -- the order that they told is in hand
@@ -223,12 +223,12 @@ module _ (end : TimeAt) (side new : TimeState) (hand : Option Order) (is_halted 
 -- the side stands where it stood behind an entry that was held or dropped
 taken_stands : (s : Setup) (k : ℕ) (e : Entry) (old taken : TimeState) (answer : Taken) → (answer ≡ Used → taken ≡ holding e old) → (answer ≡ Dropped → taken ≡ old) →
     ((answer ≡ Used) ↔ (e.epoch ≡ old.telling.epoch)) → TimeSideStandsFor s k old → (e.epoch ≡ old.telling.epoch → e ≡ needed_entry s (place s k)) → TimeSideStandsFor s k taken
-taken_stands s k e old taken Used used dropped by_epoch stands needs = subst (TimeSideStandsFor s k) (sym (used refl)) (holding_stands s k e old stands (needs (by_epoch.0 refl)))
+taken_stands s k e old taken Used used dropped by_epoch stands needs = subst (TimeSideStandsFor s k) (sym (used refl)) (holding_stands core_piped core_laws s k e old stands (needs (by_epoch.0 refl)))
 taken_stands s k e old taken Dropped used dropped by_epoch stands needs = subst (TimeSideStandsFor s k) (sym (dropped refl)) stands
 
 -- an entry is taken from the queue and fed to the side, and the order that it told is in hand
 pub time_fed : (end behind : TimeAt) (side new : TimeState) (e : Entry) (hand told : Option Order) (is_halted : Bool) (turn : Turn) → hand ≡ None → (is : IsTimeAt end side hand is_halted) →
-    behind ≡ time_taken end e → (e.epoch ≡ side.telling.epoch → e ≡ needed_entry end.setup (place end.setup is.steps)) → IsFed e side new turn → told ≡ order_told turn →
+    behind ≡ time_taken end e → (e.epoch ≡ side.telling.epoch → e ≡ needed_entry end.setup (place end.setup is.steps)) → IsFed core_piped e side new turn → told ≡ order_told turn →
     IsTimeAt behind new told is_halted
 time_fed end behind side new e hand told is_halted turn none is taken needs fed is_told =
     let stands = taken_stands end.setup is.steps e side fed.taken fed.answer fed.used fed.dropped fed.by_epoch is.stands needs in

@@ -9,8 +9,8 @@ use Rattle.mono_model.specs.Setup.{is_setup}
 use Rattle.mono_model.specs.Demand.{place, told}
 use Rattle.side_laws.specs.Along.{IsAlong}
 use Rattle.func_model.specs.declared.walk.Walk.{Walk}
-use Rattle.time_model.specs.declared.state.TimeState.{TimeState}
-use Rattle.time_model.specs.Standing.{TimeSideStandsFor, is_told_out}
+use Rattle.time_model.specs.OutOfOrder.{TimeState, TimeSideStandsFor}
+use Rattle.time_model.specs.Standing.{is_told_out}
 use Rattle.trace_ring.specs.Ring.{IsNamed, Follows}
 use Rattle.trace_ring.specs.Orders.{IsInPlace}
 use Rattle.trace_ring.specs.Ends.{FuncAt, TimeAt}

@@ -36,6 +36,7 @@ impl TimeWorker {
     ghost use Rattle.mono_model.specs.Setup.{is_setup};
     ghost use Rattle.mono_model.specs.Cycle.{mono};
     ghost use Rattle.mono_model.specs.Machine.{stats_of};
+    ghost use Rattle.time_model.specs.OutOfOrder.{core_piped};
     ghost use Rattle.time_model.specs.Standing.{wants_in};
     ghost use Rattle.trace_ring.specs.Ends.{time_start};
 
@@ -96,7 +97,7 @@ impl TimeWorker {
     /// its number isn't the wanted one, or it is of another epoch. Where there is none, the orders
     /// that were sent go into the queue.
     fn take<R: Wait>(&mut self, rt: &R) -> bool
-        requires wants { wants_in self.old.side ≡ true }
+        requires wants { wants_in core_piped self.old.side ≡ true }
         requires none { self.old.hand ≡ None }
         ensures setup { self.new.setup ≡ self.old.setup }
     {

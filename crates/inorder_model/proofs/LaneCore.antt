@@ -24,7 +24,7 @@ use Rattle.split_core.specs.AlongLaws.{reached_sees, start_reached_on, played_re
 use Rattle.split_core.proofs.Standing.{Agrees, agrees}
 use Rattle.split_core.proofs.Playing.{told_at_boundary}
 use Rattle.split_core.specs.Standing.{HoldsCommitted, StandsOn, LeadsOn, IsStandingOn, IsAtBoundaryOn, IsEndedOn, EndsOn, TellsBoundaryOn, ReportsOn, GoesBackOn}
-use Rattle.inorder_model.specs.declared.state.InorderState.{InorderState}
+use Rattle.inorder_model.specs.Standing.{InorderState}
 use Rattle.inorder_model.specs.Standing.{IsInorder}
 use Rattle.inorder_model.specs.LaneTimed.{lane_timed, lane_at}
 use Rattle.inorder_model.specs.LaneTimedLaws.{lane_timed_laws, start_lane, played_lane, rounds_lane, lane_reached}

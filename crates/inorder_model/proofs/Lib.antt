@@ -3,16 +3,6 @@ pub mod Lists
 pub mod Slots
 pub mod Deciding
 pub mod Lanes
-pub mod Owing
 pub mod Numbers
-pub mod Bounded
-pub mod Small
-pub mod Steps
-pub mod Sides
-pub mod Striding
-pub mod Trying
 pub mod Turns
-pub mod NextNumber
-pub mod Feeding
-pub mod StepsOn
 pub mod LaneCore

@@ -1,5 +1,5 @@
 -- Where a try of fetch comes next, the window has room, and the entry that the place needs follows the youngest slot.
-use Rattle.std.proofs.Common.{◌≡◌, ℕ, zero, suc, ◌≤◌, true, Option, List, length, sym, subst, arith}
+use Rattle.std.proofs.Common.{◌≡◌, ℕ, zero, suc, ◌+◌, ◌≤◌, ◌<◌, true, IfSome, Option, List, length, ap, ◌∙◌, sym, subst, arith}
 use Rattle.mono_model.specs.declared.setup.Setup.{Setup}
 use Rattle.mono_model.specs.Window.{Record}
 use Rattle.mono_model.specs.Path.{entry}
@@ -10,7 +10,13 @@ use Rattle.timing_laws.specs.Seen.{slots_of}
 use Rattle.timing_laws.proofs.Entries.{slots_length}
 use Rattle.lane_model.specs.Demand.{LaneAt, interrupting, writing, accessing, executing, issuing, trying, ending, stopping, halted, LaneRun, lane_turn, lane_step_by, lane_step, seen_at, lane_place, seen}
 use Rattle.lane_laws.proofs.Stages.{Stands, start_stands, turn_stands, stands_room}
-use Rattle.lane_timing_laws.specs.Seen.{lane_held_at}
+use Rattle.trace_entry.specs.declared.Entry.{Entry}
+use Rattle.reorder_buffer.specs.declared.slot.Slot.{Slot}
+use Rattle.reorder_buffer.specs.Window.{youngest}
+use Rattle.time_model.specs.Piped.{MayTry}
+use Rattle.inorder_model.specs.declared.at.At.{At}
+use Rattle.inorder_model.specs.declared.lane.LaneCore.{LaneCore}
+use Rattle.inorder_model.specs.Standing.{lane_piped}
 use Rattle.time_model.proofs.Numbers.{IsBehind, slots_behind}
 
 stands_by : (s : Setup) (owed : ℕ) (r : LaneRun) → Stands r.at r.demand.machine.window r.memory →
@@ -35,15 +41,29 @@ try_room ending window memory is stands = cc
 try_room stopping window memory is stands = cc
 try_room halted window memory is stands = cc
 
-pub held_room : (s : Setup) (k : ℕ) → is_try (seen_at (lane_place s k).run.at) ≡ true → length (lane_held_at s (lane_place s k)).lane.timing.slots ≤ 3
-unfolding lane_held_at timing.seen
+pub held_room : (s : Setup) (k : ℕ) → is_try (seen_at (lane_place s k).run.at) ≡ true → length (timing.seen s (lane_place s k).run.demand).slots ≤ 3
+unfolding timing.seen
 held_room s k is =
     let p = lane_place s k in
     let d = p.run.demand in
     omega (arith, slots_length s d.orders d.to_commit d.machine.window, try_room p.run.at d.machine.window p.run.memory is (place_stands s k))
 
-pub held_behind : (s : Setup) (k : ℕ) → IsBehind (needed_entry s (seen s k)).number (lane_held_at s (lane_place s k)).lane.timing.slots
-unfolding lane_held_at timing.seen
+pub held_behind : (s : Setup) (k : ℕ) → IsBehind (needed_entry s (seen s k)).number (timing.seen s (lane_place s k).run.demand).slots
+unfolding timing.seen
 held_behind s k =
     let d = (lane_place s k).run.demand in
     subst (λ (n : ℕ). IsBehind n (slots_of (entry s d.orders) d.to_commit d.machine.window)) (sym (entry_number s d.orders (next d))) (slots_behind s d.orders d.to_commit d.machine.window)
+
+-- so a pipeline that may try has room, and the entry follows the youngest of its slots
+module _ (lane : LaneCore) (at : At) (entry : Entry) (may : MayTry lane_piped lane at entry) where
+  pub try_has_room : length lane.core.flight.slots < lane.core.flight.capacity
+  try_has_room =
+      let h = may.stands.lane.core in
+      let room = held_room may.setup may.steps (ap (λ (a : LaneAt). is_try (seen_at a)) (sym may.stands.at) ∙ may.tries) in
+      omega (arith, room, ap (λ (l : List Slot). length l) h.slots, h.room, may.allowed.window)
+
+  pub try_follows : IfSome (youngest lane.core.flight.slots) (λ last. entry.number ≡ last.number + 1)
+  try_follows =
+      let h = may.stands.lane.core in
+      subst (IsBehind entry.number) (sym h.slots)
+      (subst (λ (e : Entry). IsBehind e.number (timing.seen may.setup (lane_place may.setup may.steps).run.demand).slots) (sym may.needed) (held_behind may.setup may.steps))

@@ -11,7 +11,7 @@ use Rattle.lane_laws.specs.SplitLaw.{lane_demand_run, IsLaneReached}
 use Rattle.split_core.specs.Along.{At, IsReachedOn}
 use Rattle.split_core.specs.Standing.{StandsOn, HoldsCommitted}
 use Rattle.split_core.specs.declared.state.SplitState.{SplitState}
-use Rattle.inorder_model.specs.declared.state.InorderState.{InorderState}
+use Rattle.inorder_model.specs.Standing.{InorderState}
 use Rattle.inorder_model.specs.Standing.{IsInorder}
 use Rattle.inorder_model.specs.LaneTimed.{lane_timed, lane_at}
 

@@ -3,22 +3,12 @@ use Rattle.mono_model.specs.declared.setup.Setup.{Setup}
 use Rattle.lane_model.specs.Demand.{lane_place}
 use Rattle.lane_model.specs.Split.{LaneSplit}
 use Rattle.lane_laws.specs.Rounds.{lane_boundary_rounds}
-use Rattle.lane_laws.specs.SplitLaw.{lane_demand_run}
 use Rattle.split_core.specs.Along.{At}
-use Rattle.split_core.specs.Timed.{Timed}
-use Rattle.inorder_model.specs.declared.state.InorderState.{InorderState}
-use Rattle.inorder_model.specs.Standing.{IsInorder, InorderStandsFor, wants_in}
+use Rattle.split_core.specs.Timed.{Timed, timed_of}
+use Rattle.inorder_model.specs.Standing.{InorderState, lane_piped}
 
 abbrev pub lane_timed : Timed InorderState
-lane_timed = record {
-  allows = IsInorder;
-  run = lane_demand_run;
-  stands = InorderStandsFor;
-  wants = wants_in;
-  held = λ side. side.telling.held;
-  epoch = λ side. side.telling.epoch;
-  rounds = lane_boundary_rounds;
-}
+lane_timed = timed_of lane_piped lane_boundary_rounds
 
 -- with the place that the timing side is at
 abbrev pub lane_at : Setup → At → LaneSplit

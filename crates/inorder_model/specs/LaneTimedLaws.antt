@@ -3,7 +3,6 @@ use Rattle.std.specs.Prelude.{◌≡◌, ℕ, zero, suc, ◌≤◌, true, if◌t
 use Rattle.std.proofs.Common.{refl, ap, sym, ◌∙◌, subst}
 use Rattle.std.proofs.lemmas.Bool.{cond-true, cond-false, cond_both}
 use Rattle.mono_model.specs.declared.setup.Setup.{Setup}
-use Rattle.mono_model.specs.Demand.{place_start}
 use Rattle.mono_model.specs.Split.{Event, compute, push, obey, tick, take, send, may_tick, is_halted, is_place_boundary, is_boundary}
 use Rattle.mono_model.proofs.Sound.{setup_facts}
 use Rattle.machine_laws.specs.SplitLaw.{IsRunIn, IsRanged}
@@ -18,9 +17,10 @@ use Rattle.lane_laws.proofs.SplitRun.{reached_lane_run}
 use Rattle.lane_laws.proofs.SplitRanges.{lane_run_ranged}
 use Rattle.lane_laws.proofs.Arriving.{comes_to_lane_boundary}
 use Rattle.split_core.specs.Along.{At, start_at, stepped_to, event_on, played_on, IsReachedOn, round_on, rounds_on}
-use Rattle.split_core.specs.Timed.{IsTimed}
-use Rattle.inorder_model.specs.Standing.{IsInorder}
-use Rattle.inorder_model.specs.OwingLaws.{stands_wants}
+use Rattle.split_core.specs.Timed.{IsTimed, IsSplit}
+use Rattle.split_core.specs.TimedLaws.{timed_laws}
+use Rattle.inorder_model.specs.Standing.{IsInorder, lane_piped}
+use Rattle.inorder_model.specs.StandingLaws.{lane_laws}
 use Rattle.inorder_model.specs.LaneTimed.{lane_timed, lane_at}
 
 -- Along its demand run the split state is that of the in-order machine's split run.
@@ -79,10 +79,6 @@ rounds_lane s (suc n) x =
     (λ at. sym (cond-true (is_boundary x.split) (lane_at s x) on at))
     (λ off. rounds_lane s n (round_on s (lane_demand_run s) x) ∙ ap (lane_rounds_to_boundary s n) (round_lane s x) ∙ sym (cond-false (is_boundary x.split) (lane_at s x) on off))
 
-starts : (s : Setup) → seen s 0 ≡ place_start s
-unfolding lane_place
-starts s = refl
-
 law : (s : Setup) (x : At) → IsInorder s → IsReachedOn s (lane_demand_run s) x → IsRunIn s (lane_demand_run s) x.split
 law s x sound reached = let window = sound.window in (reached_lane_run s (lane_at s x) window (lane_reached s x reached)).law
 
@@ -106,15 +102,8 @@ halts s k sound most =
     let is : LaneHalts s = run_halts s (setup_facts s setup).some_cycle in
     ap (λ (p : LanePlace). is_halted (seen_at p.run.at)) (is.still k most) ∙ ap (λ (at : LaneAt). is_halted (seen_at at)) is.at
 
+pub lane_splits : IsSplit IsInorder lane_demand_run lane_boundary_rounds
+lane_splits = record { law = law; ranged = ranged; arrives = arrives; stop = lane_stop_told; halts = halts }
+
 pub lane_timed_laws : IsTimed lane_timed
-lane_timed_laws = record {
-  sound = λ s sound. sound.sound;
-  start = starts;
-  epoch = λ s k side h. h.epoch;
-  needs = stands_wants;
-  law = law;
-  ranged = ranged;
-  arrives = arrives;
-  stop = lane_stop_told;
-  halts = halts;
-}
+lane_timed_laws = timed_laws lane_piped lane_laws lane_boundary_rounds lane_splits

@@ -1,11 +1,10 @@
 pub mod At
 pub mod LaneStandsFor
-pub mod Stages
 pub mod Standing
-pub mod Turning
-pub mod Running
-pub mod Feeding
+pub mod BoundedLaws
+pub mod SmallLaws
+pub mod StandingLaws
+pub mod Stages
 pub mod LaneTimed
-pub mod OwingLaws
 pub mod LaneTimedLaws
 pub mod Core

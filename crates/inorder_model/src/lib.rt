@@ -4,12 +4,10 @@
 
 mod at;
 mod bounds;
+mod in_order;
 mod lane;
-mod side;
 mod split;
 mod stages;
-mod state;
-mod timing;
 
-pub use side::InorderSide;
+pub use in_order::InorderSide;
 pub use split::InorderCore;

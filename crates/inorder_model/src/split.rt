@@ -1,6 +1,6 @@
 ghost use Rattle.std.specs.Prelude.{◌≡◌, true, false, map, IfOk};
 
-use crate::side::InorderSide;
+use crate::in_order::InorderSide;
 use device_bus::Device;
 use fsim_base::NoMemory;
 use mono_model::{Final, Setup};
@@ -25,7 +25,7 @@ impl<D: Device> Model for InorderCore<D> {
     ghost use Rattle.std.specs.Prelude.{◌≡◌, false};
     ghost use Rattle.split_core.specs.declared.state.SplitState.{SplitState};
     ghost use Rattle.split_core.specs.Standing.{IsStandingOn};
-    ghost use Rattle.inorder_model.specs.declared.state.InorderState.{InorderState};
+    ghost use Rattle.inorder_model.specs.Standing.{InorderState};
     ghost use Rattle.inorder_model.specs.LaneTimed.{lane_timed};
 
     ghost Value = { SplitState D InorderState };

@@ -13,7 +13,7 @@ use Rattle.machine_laws.proofs.Halting.{run_halts}
 use Rattle.machine_laws.proofs.SplitStaying.{events_stay, rounds_stay, end_stays}
 use Rattle.machine_laws.proofs.Stopping.{halted_last}
 use Rattle.func_model.specs.Contents.{ContentsStandFor}
-use Rattle.time_model.specs.declared.state.TimeState.{TimeState}
+use Rattle.time_model.specs.OutOfOrder.{TimeState}
 use Rattle.split_core.specs.declared.event.Event.{Event}
 use Rattle.split_core.specs.declared.state.SplitState.{SplitState}
 use Rattle.split_core.specs.Events.{event_in}

@@ -2,6 +2,7 @@ pub mod Events
 pub mod Along
 pub mod AlongLaws
 pub mod Timed
+pub mod TimedLaws
 pub mod TimeSide
 pub mod TimeSideLaws
 pub mod Standing

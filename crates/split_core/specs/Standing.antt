@@ -13,7 +13,7 @@ use Rattle.machine_laws.specs.Reached.{IsReached}
 use Rattle.machine_laws.specs.Stays.{CommittedStays}
 use Rattle.func_model.specs.Contents.{ContentsStandFor}
 use Rattle.func_model.specs.Walk.{WalkStandsFor}
-use Rattle.time_model.specs.declared.state.TimeState.{TimeState}
+use Rattle.time_model.specs.OutOfOrder.{TimeState}
 use Rattle.split_core.specs.Along.{At, IsReachedOn}
 use Rattle.split_core.specs.Timed.{Timed}
 use Rattle.split_core.specs.TimeSide.{mono_timed}

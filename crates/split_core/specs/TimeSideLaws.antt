@@ -17,10 +17,12 @@ use Rattle.machine_laws.proofs.SplitReached.{reached_run}
 use Rattle.machine_laws.proofs.SplitRanges.{run_ranged}
 use Rattle.machine_laws.proofs.SplitArriving.{comes_to_boundary}
 use Rattle.machine_laws.proofs.Stopping.{stop_told}
-use Rattle.time_model.proofs.Owing.{stands_wants}
+use Rattle.time_model.specs.OutOfOrder.{core_piped}
+use Rattle.time_model.specs.OutOfOrderLaws.{core_laws}
 use Rattle.split_core.specs.Along.{At, start_at, stepped_to, event_on, played_on, IsReachedOn, round_on, rounds_on}
 use Rattle.split_core.specs.AlongLaws.{Sees, event_sees, played_sees, start_sees}
-use Rattle.split_core.specs.Timed.{IsTimed}
+use Rattle.split_core.specs.Timed.{IsTimed, IsSplit}
+use Rattle.split_core.specs.TimedLaws.{timed_laws}
 use Rattle.split_core.specs.TimeSide.{mono_timed}
 
 -- Along the monolithic machine's demand run the split state is that of its split run.
@@ -122,15 +124,14 @@ halts s k sound most =
     let is : Halts s = run_halts s (setup_facts s sound).some_cycle in
     ap (λ (p : Place). is_halted p.run.at) (is.still k most) ∙ ap is_halted is.at
 
-pub mono_laws : IsTimed mono_timed
-mono_laws = record {
-  sound = λ s sound. sound;
-  start = place_starts;
-  epoch = λ s k side h. h.epoch;
-  needs = stands_wants;
+pub mono_splits : IsSplit core_piped.allows mono_run boundary_rounds
+mono_splits = record {
   law = λ s x sound reached. reached_run s x.split (mono_reached s x reached);
   ranged = ranged;
   arrives = arrives;
   stop = stop_told;
   halts = halts;
 }
+
+pub mono_laws : IsTimed mono_timed
+mono_laws = timed_laws core_piped core_laws boundary_rounds mono_splits

@@ -11,7 +11,9 @@ use Rattle.machine_laws.specs.SplitLaw.{IsRunIn, IsRanged}
 use Rattle.time_model.specs.declared.side.Taken.{Taken}
 use Rattle.time_model.specs.declared.side.Taken.TheVariants.{Used, Dropped}
 use Rattle.time_model.specs.declared.turn.Turn.{Turn}
-use Rattle.time_model.specs.Standing.{is_told_out}
+use Rattle.time_model.specs.declared.state.TimingState.{TimingState}
+use Rattle.time_model.specs.Piped.{Piped}
+use Rattle.time_model.specs.Standing.{SideStandsFor, wants_in, is_told_out}
 use Rattle.time_model.specs.Turns.{order_told}
 use Rattle.time_model.specs.Running.{IsRun}
 use Rattle.split_core.specs.Along.{At, rounds_on, IsReachedOn}
@@ -29,6 +31,18 @@ pub record Timed (T : Type 0) : Type 1 where
   pub epoch : T → ℕ
   -- a boundary is never further than so many rounds
   pub rounds : Setup → ℕ
+
+-- a timing side of a pipeline
+abbrev pub timed_of : {P A : Type 0} → Piped P A → (Setup → ℕ) → Timed (TimingState P A)
+timed_of piped rounds = record {
+  allows = piped.allows;
+  run = piped.run;
+  stands = SideStandsFor piped;
+  wants = wants_in piped;
+  held = λ side. side.telling.held;
+  epoch = λ side. side.telling.epoch;
+  rounds = rounds;
+}
 
 -- one step of the demand run was made
 pub record IsMadeOn {T : Type 0} (timed : Timed T) (s : Setup) (k : ℕ) (old new : T) (turn : Turn) : Type 0 where
@@ -65,6 +79,17 @@ pub record IsFedOn {T : Type 0} (timed : Timed T) (entry : Entry) (old new : T) 
   pub dropped : answer ≡ Dropped → taken ≡ old
   pub by_epoch : (answer ≡ Used) ↔ (entry.epoch ≡ timed.epoch old)
   pub run : IsRun (StepsOn timed) taken new turn
+
+-- what it needs of the demand run alone
+pub record IsSplit (allows : Setup → Type 0) (run : Setup → DemandRun) (rounds : Setup → ℕ) : Type 0 where
+  -- the law of the split state
+  pub law : (s : Setup) (x : At) → allows s → IsReachedOn s (run s) x → IsRunIn s (run s) x.split
+  pub ranged : (s : Setup) (x : At) → allows s → IsReachedOn s (run s) x → IsRanged x.split
+  -- the rounds to a boundary come to one
+  pub arrives : (s : Setup) (x : At) → allows s → IsReachedOn s (run s) x → is_boundary (rounds_on s (run s) (rounds s) x).split ≡ true
+  -- the last order is told by the last step, within the bound
+  pub stop : (s : Setup) (k : ℕ) → has_stop (told ((run s).places k)) ≡ is_halted ((run s).places k).run.at
+  pub halts : (s : Setup) (k : ℕ) → allows s → (run s).bound ≤ k → is_halted ((run s).places k).run.at ≡ true
 
 -- What the split state needs of the demand run and of the side.
 pub record IsTimed {T : Type 0} (timed : Timed T) : Type 0 where

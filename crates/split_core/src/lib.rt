@@ -13,4 +13,4 @@ mod timing;
 pub use event::Event;
 pub use split::SplitCore;
 pub use state::SplitState;
-pub use timing::Timing;
+pub use timing::{Bounded, Timing};

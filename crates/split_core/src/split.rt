@@ -24,7 +24,7 @@ pub struct SplitCore<D: Device> {
 impl<D: Device> Model for SplitCore<D> {
     ghost use Rattle.std.specs.Prelude.{◌≡◌, false};
     ghost use Rattle.split_core.specs.declared.state.SplitState.{SplitState};
-    ghost use Rattle.time_model.specs.declared.state.TimeState.{TimeState};
+    ghost use Rattle.time_model.specs.OutOfOrder.{TimeState};
     ghost use Rattle.split_core.specs.TimeSide.{mono_timed};
     ghost use Rattle.split_core.specs.Standing.{IsStandingOn};
 

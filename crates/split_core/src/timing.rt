@@ -4,7 +4,8 @@ use crate::bounds;
 use fsim_base::NoMemory;
 use mono_model::{End, Setup, Stats};
 use std::alloc::Global;
-use time_model::{Taken, TimeSide, Turn};
+use time_model::{Pipeline, Taken, TimingSide, Turn};
+use timing_core::TimingCore;
 use trace_entry::Entry;
 
 /// A timing side, as the split machine takes it: it makes the steps of a demand run, tells their
@@ -93,17 +94,33 @@ pub trait Timing: Drop {
     ghost laws: { IsTimed timed };
 }
 
-impl Timing for TimeSide {
-    ghost use Rattle.split_core.specs.TimeSide.{mono_timed};
-    ghost use Rattle.split_core.specs.TimeSideLaws.{mono_laws};
+/// A pipeline whose demand run the split machine can follow.
+pub trait Bounded: Pipeline {
+    ghost use Rattle.mono_model.specs.declared.setup.Setup.{Setup as RunSetup};
+    ghost use Rattle.split_core.specs.Timed.{IsSplit};
 
-    ghost timed = { mono_timed };
+    ghost rounds: { RunSetup → ℕ };
 
-    ghost laws = { mono_laws };
+    /// A boundary is never further than so many rounds.
+    fn most_rounds(setup: &Setup) -> u32
+        requires sound { Self.piped.allows setup.now }
+        ensures rounds { result ≡ rounds setup.now };
 
-    fn new(alloc: Global, setup: &Setup) -> Result<TimeSide, NoMemory> {
-        TimeSide::new(alloc, setup)
-    }
+    /// No run has more steps of the timing side.
+    fn most_steps(setup: &Setup) -> u64
+        requires sound { Self.piped.allows setup.now }
+        ensures steps { result ≡ (Self.piped.run setup.now).bound };
+
+    ghost splits: { IsSplit Self.piped.allows Self.piped.run rounds };
+}
+
+impl Bounded for TimingCore {
+    ghost use Rattle.mono_model.specs.Split.{boundary_rounds};
+    ghost use Rattle.split_core.specs.TimeSideLaws.{mono_splits};
+
+    ghost rounds = { boundary_rounds };
+
+    ghost splits = { mono_splits };
 
     fn most_rounds(setup: &Setup) -> u32 {
         bounds::most_rounds(setup)
@@ -112,38 +129,59 @@ impl Timing for TimeSide {
     fn most_steps(setup: &Setup) -> u64 {
         bounds::most_steps(setup)
     }
+}
+
+impl<P: Bounded> Timing for TimingSide<P> {
+    ghost use Rattle.split_core.specs.Timed.{timed_of};
+    ghost use Rattle.split_core.specs.TimedLaws.{timed_laws};
+
+    ghost timed = { timed_of P.piped P.rounds };
+
+    ghost laws = { timed_laws P.piped P.laws P.rounds P.splits };
+
+    fn new(alloc: Global, setup: &Setup) -> Result<TimingSide<P>, NoMemory> {
+        TimingSide::new(alloc, setup)
+    }
+
+    fn most_rounds(setup: &Setup) -> u32 {
+        P::most_rounds(setup)
+    }
+
+    fn most_steps(setup: &Setup) -> u64 {
+        P::most_steps(setup)
+    }
 
     fn step(&mut self) -> Turn {
-        TimeSide::step(self)
+        TimingSide::step(self)
     }
 
     #[inline(always)]
     fn run(&mut self) -> Turn {
-        TimeSide::run(self)
+        TimingSide::run(self)
     }
 
     fn wants(&self) -> bool {
-        TimeSide::wants(self)
+        TimingSide::wants(self)
     }
 
     fn take(&mut self, entry: &Entry) -> Taken {
-        TimeSide::take(self, entry)
+        TimingSide::take(self, entry)
     }
 
     #[inline(always)]
     fn feed_own(&mut self, entry: &Entry) -> Turn {
-        TimeSide::feed_own(self, entry)
+        TimingSide::feed_own(self, entry)
     }
 
     fn end(&self) -> End {
-        TimeSide::end(self)
+        TimingSide::end(self)
     }
 
     fn stats(&self) -> Stats {
-        TimeSide::stats(self)
+        TimingSide::stats(self)
     }
 
     fn at_boundary(&self) -> bool {
-        TimeSide::at_boundary(self)
+        TimingSide::at_boundary(self)
     }
 }

@@ -1,5 +1,5 @@
 -- Cycles in which nothing happens, as the turns that they are.
-use Rattle.std.proofs.Common.{◌≡◌, ◌<◌, ◌≤◌, ◌==◌, ℕ, zero, suc, ◌+◌, ◌-◌, if◌then◌else◌, Bool, false, None, refl, ap, sym, ◌∙◌, subst, arith}
+use Rattle.std.proofs.Common.{◌≡◌, ◌<◌, ◌≤◌, ◌==◌, ℕ, zero, suc, ◌+◌, ◌-◌, if◌then◌else◌, Bool, false, true, None, refl, ap, sym, ◌∙◌, subst, arith}
 use Rattle.std.proofs.lemmas.Bool.{ne_eqb}
 use Rattle.trace_entry.specs.declared.Entry.{Entry}
 use Rattle.mono_model.specs.declared.final_state.End.{End}
@@ -17,14 +17,12 @@ use Rattle.timing_core.specs.CoreStandsFor.{CoreStandsFor}
 use Rattle.timing_core.specs.Idle.{IsIdle}
 use Rattle.time_model.specs.declared.at.At as declared
 use Rattle.time_model.specs.declared.at.At.TheVariants as code
-use Rattle.time_model.specs.declared.state.TimeState.{TimeState}
-use Rattle.time_model.specs.declared.telling.Telling.{Telling}
 use Rattle.time_model.specs.At.{at_in}
-use Rattle.time_model.specs.Running.{IsSilent, start, Steps}
-use Rattle.time_model.specs.Standing.{IsStanding}
-use Rattle.time_model.specs.Turning.{IsTurned, placed}
-use Rattle.time_model.proofs.Running.{silent_on}
-use Rattle.time_model.proofs.Striding.{stridden}
+use Rattle.time_model.specs.Turns.{is_ending}
+use Rattle.time_model.specs.OutOfOrder.{core_piped}
+use Rattle.time_model.specs.Piped.{IsQuiet, start, more}
+use Rattle.time_model.proofs.Striding.{quiet_on}
+use Rattle.time_model.proofs.Turns.{IsTurnOf, turned_by}
 
 -- a core in a later cycle, in which nothing else changed
 abbrev pub in_cycle : ℕ → TimingCore → TimingCore
@@ -41,30 +39,18 @@ StandsIdleFor count core = (cycle : ℕ) → core.cycle < cycle → cycle ≤ co
 abbrev no_orders : Orders
 no_orders = record { first = None; second = None }
 
--- some steps that told no order, behind which the side stands
-record IsPassed (old new : TimeState) : Type 0 where
-  silent : IsSilent Steps old new
-  standing : IsStanding new
+abbrev Passes : TimingCore → declared.At → TimingCore → declared.At → Type 0
+Passes old at new next = IsQuiet core_piped old at new next
 
-passed_on : {old mid new : TimeState} → IsPassed old mid → IsPassed mid new → IsPassed old new
-passed_on before behind = record { silent = silent_on Steps before.silent behind.silent; standing = behind.standing }
-
--- telling no orders changes nothing
-none_told : (telling : Telling) → telling.owed ≡ None → telling ≡ record telling { owed = None }
-none_told telling free = λ i. record telling { owed = free i }
-
--- a turn with no orders, which changes no more than the core and the turn that comes next
-passes : (old : TimeState) (core : TimingCore) (at : declared.At) → IsStanding old → old.telling.owed ≡ None → is_try (at_in old.at) ≡ false → is_halted (at_in old.at) ≡ false →
-    ((s : Setup) (t : Timing) (e : Entry) → CoreStandsFor s t old.core → IsTurned s (timing_turn s e (at_in old.at) t) (record old { core = core; at = at }) no_orders) →
-    IsPassed old (record old { core = core; at = at })
-passes old core at standing free no_try on made =
-    let new : TimeState = record old { core = core; at = at } in
-    let strode = stridden old new no_orders None old.telling standing free no_try on (λ s t e h small. made s t e h) refl refl (none_told old.telling free) in
-    record { silent = strode.silent; standing = strode.standing }
+-- a turn with no orders
+passes : (old : TimingCore) (at : declared.At) (new : TimingCore) (next : declared.At) → is_try (at_in at) ≡ false → is_halted (at_in at) ≡ false →
+    ((s : Setup) (t : Timing) (e : Entry) → CoreStandsFor s t old → IsTurnOf s (timing_turn s e (at_in at) t) new next no_orders) → Passes old at new next
+passes old at new next plain on made =
+    more old new at next no_orders start (record { plain = plain; goes = on; made = turned_by old at new next no_orders (λ s t e h small. made s t e h) }) refl
 
 -- A turn of the timing machine that leaves a state and makes no order, where the core stands for that state.
-calm : (s : Setup) (made : Turned) (t : Timing) (next : At) (side : TimeState) → made ≡ turned (quiet t) next → CoreStandsFor s t side.core → at_in side.at ≡ next → IsTurned s made side no_orders
-calm s made t next side is core at = subst (λ (x : Turned). IsTurned s x side no_orders) (sym is) (record { core = core; at = at; orders = refl })
+calm : (s : Setup) (made : Turned) (t : Timing) (next : declared.At) (core : TimingCore) → made ≡ turned (quiet t) (at_in next) → CoreStandsFor s t core → IsTurnOf s made core next no_orders
+calm s made t next core is h = subst (λ (x : Turned). IsTurnOf s x core next no_orders) (sym is) (record { core = h; at = refl; orders = refl })
 
 -- The turns, where nothing happens.
 module _ (s : Setup) (t : Timing) (e : Entry) where
@@ -83,7 +69,7 @@ module _ (s : Setup) (t : Timing) (e : Entry) where
 
   no_tries : (allowed : ℕ) → may_fetch s t ≡ false → try_or_end s allowed t ≡ ending
   no_tries zero off = refl
-  no_tries (suc more) off = ap (λ (b : Bool). if b then trying more else ending) off
+  no_tries (suc left) off = ap (λ (b : Bool). if b then trying left else ending) off
 
   turned_issuing : IsIdle s t → timing_turn s e issuing t ≡ turned (quiet t) ending
   unfolding timing_turn
@@ -123,62 +109,58 @@ next_stands s t core h = record {
 }
 
 -- a turn of a cycle in which nothing happens leaves the core
-pass_turn : (side : TimeState) (at : declared.At) → IsStanding side → side.telling.owed ≡ None → is_try (at_in side.at) ≡ false → is_halted (at_in side.at) ≡ false → StandsIdle side.core →
-    ((s : Setup) (t : Timing) (e : Entry) → IsIdle s t → timing_turn s e (at_in side.at) t ≡ turned (quiet t) (at_in at)) →
-    IsPassed side (placed at side)
-pass_turn side at standing free no_try on idle is =
-    passes side side.core at standing free no_try on
-    (λ s t e h. calm s (timing_turn s e (at_in side.at) t) t (at_in at) (placed at side) (is s t e (idle s t h)) h refl)
+pass_turn : (core : TimingCore) (at next : declared.At) → is_try (at_in at) ≡ false → is_halted (at_in at) ≡ false → StandsIdle core →
+    ((s : Setup) (t : Timing) (e : Entry) → IsIdle s t → timing_turn s e (at_in at) t ≡ turned (quiet t) (at_in next)) → Passes core at core next
+pass_turn core at next plain on idle is =
+    passes core at core next plain on (λ s t e h. calm s (timing_turn s e (at_in at) t) t next core (is s t e (idle s t h)) h)
 
 -- from the end of a cycle to the end of the next one, in which nothing happens
-pass_cycle : (side : TimeState) → side.at ≡ code.Ending → side.telling.owed ≡ None → IsStanding side → StandsIdle (in_cycle (side.core.cycle + 1) side.core) →
-    IsPassed side (record side { core = in_cycle (side.core.cycle + 1) side.core })
-pass_cycle side at free standing idle =
-    let core : TimingCore = in_cycle (side.core.cycle + 1) side.core in
-    let behind : declared.At → TimeState = λ (a : declared.At). record side { core = core; at = a } in
-    let one = passes side core code.Interrupting standing free (ap (λ (a : declared.At). is_try (at_in a)) at) (ap (λ (a : declared.At). is_halted (at_in a)) at)
+pass_cycle : (core : TimingCore) → StandsIdle (in_cycle (core.cycle + 1) core) → Passes core code.Ending (in_cycle (core.cycle + 1) core) code.Ending
+pass_cycle core idle =
+    let new : TimingCore = in_cycle (core.cycle + 1) core in
+    let one : Passes core code.Ending new code.Interrupting = passes core code.Ending new code.Interrupting refl refl
     (λ s t e h. let next : Timing = record t { cycle = t.cycle + 1 } in
-    let stands = next_stands s t side.core h in
-    calm s (timing_turn s e (at_in side.at) t) next interrupting (behind code.Interrupting)
-    (ap (λ (a : declared.At). timing_turn s e (at_in a) t) at ∙ turned_ending s t e (idle s next stands)) stands refl) in
-    let two = pass_turn (behind code.Interrupting) code.Committing one.standing free refl refl idle turned_interrupting in
-    let three = pass_turn (behind code.Committing) code.Completing two.standing free refl refl idle turned_committing in
-    let four = pass_turn (behind code.Completing) code.Issuing three.standing free refl refl idle turned_completing in
-    let five = pass_turn (behind code.Issuing) code.Ending four.standing free refl refl idle turned_issuing in
-    let all : IsPassed side (behind code.Ending) = passed_on one (passed_on two (passed_on three (passed_on four five))) in
-    subst (λ (a : declared.At). IsPassed side (behind a)) (sym at) all
+    let stands = next_stands s t core h in
+    calm s (timing_turn s e ending t) next code.Interrupting new (turned_ending s t e (idle s next stands)) stands) in
+    let two = pass_turn new code.Interrupting code.Committing refl refl idle turned_interrupting in
+    let three = pass_turn new code.Committing code.Completing refl refl idle turned_committing in
+    let four = pass_turn new code.Completing code.Issuing refl refl idle turned_completing in
+    let five = pass_turn new code.Issuing code.Ending refl refl idle turned_issuing in
+    quiet_on core_piped one (quiet_on core_piped two (quiet_on core_piped three (quiet_on core_piped four five)))
 
 -- so many cycles, in each of which nothing happens
-pass_cycles : (count : ℕ) (side : TimeState) → side.at ≡ code.Ending → side.telling.owed ≡ None → IsStanding side → StandsIdleFor count side.core →
-    IsPassed side (record side { core = in_cycle (side.core.cycle + count) side.core })
-pass_cycles zero side at free standing idle =
-    subst (λ (c : ℕ). IsPassed side (record side { core = in_cycle c side.core })) (sym (add_zero side.core.cycle)) (record { silent = start; standing = standing })
+pass_cycles : (count : ℕ) (core : TimingCore) → StandsIdleFor count core → Passes core code.Ending (in_cycle (core.cycle + count) core) code.Ending
+pass_cycles zero core idle =
+    subst (λ (c : ℕ). Passes core code.Ending (in_cycle c core) code.Ending) (sym (add_zero core.cycle)) start
   where
     add_zero : (n : ℕ) → n + 0 ≡ n
     add_zero n = omega arith
-pass_cycles (suc more) side at free standing idle =
-    let cycle = side.core.cycle in
-    let mid : TimeState = record side { core = in_cycle (cycle + more) side.core } in
-    let before = pass_cycles more side at free standing (λ c after within. idle c after (omega (arith, within))) in
-    let is : cycle + suc more ≡ cycle + more + 1 = omega arith in
-    let last = pass_cycle mid at free before.standing (idle (cycle + more + 1) (omega arith) (omega arith)) in
-    subst (λ (c : ℕ). IsPassed side (record side { core = in_cycle c side.core })) (sym is) (passed_on before last)
+pass_cycles (suc before) core idle =
+    let cycle = core.cycle in
+    let mid : TimingCore = in_cycle (cycle + before) core in
+    let first = pass_cycles before core (λ c after within. idle c after (omega (arith, within))) in
+    let is : cycle + suc before ≡ cycle + before + 1 = omega arith in
+    let last = pass_cycle mid (idle (cycle + before + 1) (omega arith) (omega arith)) in
+    subst (λ (c : ℕ). Passes core code.Ending (in_cycle c core) code.Ending) (sym is) (quiet_on core_piped first last)
+
+-- the turn that ends a cycle
+ends_by : (at : declared.At) → is_ending (at_in at) ≡ true → at ≡ code.Ending
+ends_by code.Interrupting is = cc
+ends_by code.Committing is = cc
+ends_by code.Completing is = cc
+ends_by code.Issuing is = cc
+ends_by (code.Trying tries) is = cc
+ends_by code.Ending is = refl
+ends_by code.Stopping is = cc
+ends_by code.Halted is = cc
 
 -- up to a cycle, where the core in it is all that changed
-module _ (side : TimeState) (core : TimingCore) (at : side.at ≡ code.Ending) (free : side.telling.owed ≡ None) (standing : IsStanding side)
-    (same : core ≡ in_cycle core.cycle side.core) (later : side.core.cycle ≤ core.cycle)
-    (idle : (s : Setup) (t : Timing) (cycle : ℕ) → side.core.cycle < cycle → cycle ≤ core.cycle → CoreStandsFor s t (in_cycle cycle side.core) → IsIdle s t)
-  where
-    passed : IsPassed side (record side { core = core })
-    passed =
-        let count = core.cycle - side.core.cycle in
-        let is : side.core.cycle + count ≡ core.cycle = omega (arith, later) in
-        let all = pass_cycles count side at free standing (λ cycle after within s t h. idle s t cycle after (omega (arith, within, is)) h) in
-        subst (λ (c : TimingCore). IsPassed side (record side { core = c })) (sym same)
-        (subst (λ (c : ℕ). IsPassed side (record side { core = in_cycle c side.core })) is all)
-
-    pub passed_silent : IsSilent Steps side (record side { core = core })
-    passed_silent = passed.silent
-
-    pub passed_standing : IsStanding (record side { core = core })
-    passed_standing = passed.standing
+pub passed : (old new : TimingCore) (at : declared.At) → is_ending (at_in at) ≡ true → new ≡ in_cycle new.cycle old → old.cycle ≤ new.cycle →
+    ((s : Setup) (t : Timing) (cycle : ℕ) → old.cycle < cycle → cycle ≤ new.cycle → CoreStandsFor s t (in_cycle cycle old) → IsIdle s t) → IsQuiet core_piped old at new at
+passed old new at ends same later idle =
+    let count = new.cycle - old.cycle in
+    let is : old.cycle + count ≡ new.cycle = omega (arith, later) in
+    let all = pass_cycles count old (λ cycle after within s t h. idle s t cycle after (omega (arith, within, is)) h) in
+    subst (λ (a : declared.At). Passes old a new a) (sym (ends_by at ends))
+    (subst (λ (c : TimingCore). Passes old code.Ending c code.Ending) (sym same)
+    (subst (λ (c : ℕ). Passes old code.Ending (in_cycle c old) code.Ending) is all))

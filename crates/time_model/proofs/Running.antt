@@ -7,7 +7,7 @@ use Rattle.time_model.specs.Turns.{told_or, untold_by}
 use Rattle.time_model.specs.Running.{is_silent, IsSilent, start, more, IsRun}
 
 -- a turn that tells no order is silent
-untold_silent : (ends : Bool) → is_silent (untold_by ends) ≡ true
+pub untold_silent : (ends : Bool) → is_silent (untold_by ends) ≡ true
 untold_silent true = refl
 untold_silent false = refl
 

@@ -3,20 +3,21 @@ use Rattle.std.specs.Prelude.{◌≡◌, ◌↔◌, Some}
 use Rattle.trace_entry.specs.declared.Entry.{Entry}
 use Rattle.time_model.specs.declared.side.Taken.{Taken}
 use Rattle.time_model.specs.declared.side.Taken.TheVariants.{Used, Dropped}
-use Rattle.time_model.specs.declared.state.TimeState.{TimeState}
+use Rattle.time_model.specs.declared.state.TimingState.{TimingState}
 use Rattle.time_model.specs.declared.turn.Turn.{Turn}
+use Rattle.time_model.specs.Piped.{Piped}
 use Rattle.time_model.specs.Running.{IsRun, Steps}
 
 -- a side with this entry held
-abbrev pub holding : Entry → TimeState → TimeState
+abbrev pub holding : {P A : Type 0} → Entry → TimingState P A → TimingState P A
 holding entry side = record side { telling = record side.telling { held = Some entry } }
 
 -- An entry of the side's epoch was held and any other dropped, and from the side behind that some steps were made, the
 -- last of which did this.
-pub record IsFed (entry : Entry) (old new : TimeState) (turn : Turn) : Type 0 where
+pub record IsFed {P A : Type 0} (piped : Piped P A) (entry : Entry) (old new : TimingState P A) (turn : Turn) : Type 0 where
   pub answer : Taken
-  pub taken : TimeState
+  pub taken : TimingState P A
   pub used : answer ≡ Used → taken ≡ holding entry old
   pub dropped : answer ≡ Dropped → taken ≡ old
   pub by_epoch : (answer ≡ Used) ↔ (entry.epoch ≡ old.telling.epoch)
-  pub run : IsRun Steps taken new turn
+  pub run : IsRun (Steps piped) taken new turn

@@ -1,7 +1,12 @@
 pub mod At
 pub mod Turns
 pub mod Telling
+pub mod Piped
 pub mod Standing
 pub mod Turning
 pub mod Running
 pub mod Feeding
+pub mod OutOfOrder
+pub mod BoundedLaws
+pub mod SmallLaws
+pub mod OutOfOrderLaws

@@ -3,13 +3,18 @@
 #![tactic(auto)]
 
 mod at;
+mod fetched;
+mod out_of_order;
+mod phase;
+mod pipeline;
 mod side;
 mod state;
-mod stepping;
 mod telling;
 mod turn;
 
-pub use side::{Taken, TimeSide};
-pub use stepping::{STRIDES, Stepping};
+pub use fetched::Fetched;
+pub use phase::{Phase, over};
+pub use pipeline::Pipeline;
+pub use side::{Taken, TimeSide, TimingSide};
 pub use telling::Telling;
 pub use turn::Turn;

@@ -1,4 +1,4 @@
-ghost use Rattle.std.specs.Prelude.{◌≡◌, None};
+ghost use Rattle.std.specs.Prelude.{◌≡◌, None, Some, if◌then◌else◌};
 ghost use Rattle.time_model.specs.Telling.{told_behind};
 
 use rollback_cmds::Order;
@@ -46,5 +46,27 @@ impl Telling {
             self.held = None;
         }
         Some(order)
+    }
+
+    /// The held entry was tried: it is spent where its instruction was appended.
+    #[inline(always)]
+    pub(crate) fn spend(&mut self, appended: bool)
+        ensures spent { self.new
+            ≡ record self.old { held = if appended then None else self.old.held } }
+    {
+        if appended {
+            self.held = None;
+        }
+    }
+
+    /// An entry was tried at once: it is held where its instruction wasn't appended.
+    #[inline(always)]
+    pub(crate) fn keep(&mut self, entry: &Entry, appended: bool)
+        ensures kept { self.new
+            ≡ record self.old { held = if appended then self.old.held else Some entry.now } }
+    {
+        if !appended {
+            self.held = Some(*entry);
+        }
     }
 }

@@ -1,5 +1,5 @@
 use Rattle.std.proofs.Common.{ap, ◌∙◌}
-use Rattle.inorder_model.specs.declared.state.InorderState.{InorderState}
+use Rattle.inorder_model.specs.Standing.{InorderState}
 use Rattle.split_core.specs.declared.state.SplitState.{SplitState}
 use Rattle.split_core.specs.Standing.{IsAtBoundaryOn}
 use Rattle.inorder_model.specs.LaneTimed.{lane_timed}

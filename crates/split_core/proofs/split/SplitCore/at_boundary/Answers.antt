@@ -1,5 +1,5 @@
 use Rattle.std.proofs.Common.{ap, ◌∙◌}
-use Rattle.time_model.specs.declared.state.TimeState.{TimeState}
+use Rattle.time_model.specs.OutOfOrder.{TimeState}
 use Rattle.split_core.specs.declared.state.SplitState.{SplitState}
 use Rattle.split_core.proofs.Mono.{tells, told_boundary}
 use Rattle.split_core.proofs.split.SplitCore.at_boundary.Goals as goal

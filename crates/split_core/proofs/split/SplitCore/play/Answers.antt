@@ -1,5 +1,5 @@
 use Rattle.std.proofs.Common.{ap, ◌∙◌}
-use Rattle.time_model.specs.declared.state.TimeState.{TimeState}
+use Rattle.time_model.specs.OutOfOrder.{TimeState}
 use Rattle.split_core.specs.declared.state.SplitState.{SplitState}
 use Rattle.split_core.specs.Standing.{IsStandingOn}
 use Rattle.split_core.specs.TimeSide.{mono_timed}
