@@ -1,5 +1,5 @@
 -- An instruction that changes at most a register and the next address, put together from its outcome.
-use Rattle.std.proofs.Common.{◌≡◌, ℕ, ◌+◌, ◌&&◌, Bool, true, false, not, if◌then◌else◌, length, Option, Some, None, is_none, refl, ap, ◌∙◌, arith}
+use Rattle.std.proofs.Common.{◌≡◌, ℕ, ◌&&◌, Bool, true, false, not, if◌then◌else◌, Option, Some, None, is_none, refl, ap, ◌∙◌}
 use Rattle.fsim_base.specs.declared.access.RamRange.{RamRange}
 use Rattle.fsim_base.specs.declared.access.Access.TheVariants as access
 use Rattle.fsim_base.specs.declared.access.Spot.TheVariants.{Ram}
@@ -14,20 +14,14 @@ use Rattle.rv_exec.specs.declared.outcome.Reach.TheVariants as reach
 use Rattle.rv_exec.specs.Eval.{eval_of, branched}
 use Rattle.rv_exec.specs.Branch.{branch_taken}
 use Rattle.machine_csr.specs.Csr.{reads_time_of}
-use Rattle.undo_journal.specs.declared.past.Past.{Past}
 use Rattle.undo_journal.specs.declared.past.Change.TheVariants.{Nothing}
-use Rattle.mono_model.specs.declared.setup.Setup.{Setup}
-use Rattle.mono_model.specs.Setup.{ram_range}
 use Rattle.mono_model.specs.Arch.{Arch, register_value}
-use Rattle.mono_model.specs.Found.{Found, known, is_csr_insn, is_mret_insn}
-use Rattle.mono_model.specs.Result.{resulting, is_time_read}
-use Rattle.mono_model.specs.Sequence.{seen_in, found_next, result_at, seq}
-use Rattle.func_model.specs.Steps.{finished, plain_with, reaches_out, outcome_at, plain_outcome, outcome_result, result_of, behind, Told}
-use Rattle.func_model.specs.Undo.{undone, past_of}
+use Rattle.mono_model.specs.Found.{known, is_csr_insn, is_mret_insn}
+use Rattle.mono_model.specs.Result.{resulting, is_time_read, evaluated}
+use Rattle.mono_model.specs.Sequence.{seen_in}
+use Rattle.func_model.specs.Steps.{finished, plain_with, reaches_out, outcome_at, plain_outcome, result_of, behind, Told}
 use Rattle.func_model.proofs.Concluded.{nothing_made, told_plain, told_same}
 use Rattle.func_model.proofs.Effects.{evaluated_behind, evaluated_result}
-use Rattle.func_model.proofs.Stepping.{Executed, executed_at, executed_seq, back_from}
-use Rattle.func_model.proofs.TakenBack.{plain_back}
 
 -- what such an instruction isn't, and what its outcome is
 pub record IsPlain (i : Insn) (addr : ℕ) (regs : ℕ → ℕ) (o : Outcome) : Type 0 where
@@ -89,7 +83,7 @@ is_plain i addr regs o given = by_test (reaches_out i) refl (outcome_at i addr r
 plain_result : (range : RamRange) (word : ℕ) (i : Insn) (time : Option ℕ) (o : Outcome) (a : Arch) → IsPlain i a.pc a.regs o →
     resulting o.value o.next access.Nothing ≡ result_of range (known word i) time a
 plain_result range word i time o a plain =
-    let same : resulting o.value o.next access.Nothing ≡ outcome_result range (seen_in time a) o = rw (plain.cause, plain.reach) refl in
+    let same : resulting o.value o.next access.Nothing ≡ evaluated range (seen_in time a) o = rw (plain.cause, plain.reach) refl in
     same
     ∙ evaluated_result range word i (register_value a.regs (sources_of i).0) (register_value a.regs (sources_of i).1) time o a plain.csr plain.mret plain.outcome refl refl
 
@@ -105,26 +99,6 @@ pub computed_behind : (limit : ℕ) (time : Option ℕ) (range : RamRange) (word
 computed_behind limit time range word i o destination x b plain register made =
     evaluated_behind range limit word i (register_value x.regs (sources_of i).0) (register_value x.regs (sources_of i).1) time o destination x b plain.csr plain.mret plain.outcome register refl refl
     (nothing_made range limit destination o time x b plain.cause plain.reach made)
-
--- it was executed, whatever its time
-pub computed_executed : (s : Setup) (time : Option ℕ) (range : RamRange) (word : ℕ) (i : Insn) (o : Outcome) (destination : Option ℕ) (x a b : Arch) → x ≡ a → range ≡ ram_range s.params →
-    known word i ≡ found_next s a → IsPlain i x.pc x.regs o → destination ≡ dest_of i → b ≡ finished destination o.value o.next x →
-    Executed s time (length x.output + 1) a (known word i) (plain_with Nothing) b
-computed_executed s time range word i o destination x a b here in_range found plain register made =
-    let limit : ℕ = length x.output + 1 in
-    executed_at s time limit range (known word i) x a b (plain_with Nothing) here in_range found (computed_told limit time range word i o x plain)
-    (computed_behind limit time range word i o destination x b plain register made) (omega arith)
-
--- and is taken back
-pub computed_back : (s : Setup) (time : Option ℕ) (limit number word : ℕ) (i : Insn) (o : Outcome) (destination : Option ℕ) (a b : Arch) (past : Past) →
-    Executed s time limit a (known word i) (plain_with Nothing) b → b ≡ finished destination o.value o.next a → past ≡ past_of number (known word i) a (plain_with Nothing) →
-    undone (ram_range s.params) past (seq s time a) ≡ a
-computed_back s time limit number word i o destination a b past e made is =
-    back_from s time limit number (ram_range s.params) (found_next s a) (result_at s time a) a a b (plain_with Nothing) past refl refl
-    (is ∙ ap (λ (f : Found). past_of number f a (plain_with Nothing)) e.found_is)
-    e.told e.made
-    (plain_back (ram_range s.params) (plain_with Nothing) a b refl (ap (λ (x : Arch). x.ram) made) (ap (λ (x : Arch). x.devices) made) (ap (λ (x : Arch). x.csrs) made))
-    e.room (executed_seq s time limit a (known word i) (plain_with Nothing) b e)
 
 -- it reads no time
 pub never_unserved : (word : ℕ) (i : Insn) (time : Option ℕ) → reads_time_of i ≡ false → false ≡ (is_time_read (known word i) access.Nothing && is_none time)

@@ -8,14 +8,14 @@ use Rattle.fsim_base.specs.declared.access.RamRange.{RamRange}
 use Rattle.rv_exec.specs.declared.outcome.Outcome.{Outcome}
 use Rattle.rv_exec.specs.declared.outcome.Reach.TheVariants as reach
 use Rattle.fsim_base.specs.declared.access.Width.{Width}
-use Rattle.mono_model.specs.Result.{Seen, Result, spot_of, loaded_at, stored_at, resulting, failing_access}
+use Rattle.mono_model.specs.Result.{Seen, Result, spot_of, loaded_at, stored_at, resulting, failing_access, evaluated}
 use Rattle.fsim_base.specs.declared.access.Access.{Access}
 use Rattle.fsim_base.specs.declared.access.Access.TheVariants as access
 use Rattle.fsim_base.specs.declared.cause.Cause.{Cause}
 use Rattle.func_model.specs.declared.performed.Performed.{Performed}
 use Rattle.machine_csr.specs.declared.csrs.Csrs.{Csrs}
 use Rattle.undo_journal.specs.declared.past.Change.{Change}
-use Rattle.func_model.specs.Steps.{finished, concluded, load_made, store_made, outcome_made, outcome_result, plain_with, failed_with, Told}
+use Rattle.func_model.specs.Steps.{finished, concluded, load_made, store_made, outcome_made, plain_with, failed_with, Told}
 
 pub conclude_nothing : (limit next : ℕ) (what : Note) (a b : Arch) → what ≡ note.Nothing → b ≡ finished None 0 next a → b ≡ concluded limit what next a
 conclude_nothing limit next what a b is made = rw is made
@@ -34,7 +34,7 @@ nothing_made range limit destination o time a b none plain made = rw (none, plai
 
 -- what a load comes to, by its outcome
 pub load_result : (range : RamRange) (e : Seen) (o : Outcome) (addr : ℕ) (width : Width) (signed : Bool) → o.cause ≡ None → o.reach ≡ reach.Load addr width signed →
-    loaded_at o.next addr width signed e (spot_of range addr width) ≡ outcome_result range e o
+    loaded_at o.next addr width signed e (spot_of range addr width) ≡ evaluated range e o
 load_result range e o addr width signed none there = rw (none, there) refl
 
 pub load_behind : (range : RamRange) (limit : ℕ) (destination : Option ℕ) (o : Outcome) (time : Option ℕ) (a b : Arch) (addr : ℕ) (width : Width) (signed : Bool) → o.cause ≡ None →
@@ -62,7 +62,7 @@ told_failed limit next tried cause mtval before a done is =
 
 -- what a store comes to, by its outcome
 pub store_result : (range : RamRange) (e : Seen) (o : Outcome) (addr : ℕ) (width : Width) (value : ℕ) → o.cause ≡ None → o.reach ≡ reach.Store addr width value →
-    stored_at o.next addr width value (spot_of range addr width) ≡ outcome_result range e o
+    stored_at o.next addr width value (spot_of range addr width) ≡ evaluated range e o
 store_result range e o addr width value none there = rw (none, there) refl
 
 pub store_behind : (range : RamRange) (limit : ℕ) (destination : Option ℕ) (o : Outcome) (time : Option ℕ) (a b : Arch) (addr : ℕ) (width : Width) (value : ℕ) → o.cause ≡ None →

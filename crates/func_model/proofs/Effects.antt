@@ -13,10 +13,10 @@ use Rattle.rv_exec.specs.declared.outcome.Reach.TheVariants as reach
 use Rattle.rv_exec.specs.Eval.{eval_of}
 use Rattle.mono_model.specs.Arch.{Arch, register_value}
 use Rattle.mono_model.specs.Found.{known, is_csr_insn, is_mret_insn}
-use Rattle.mono_model.specs.Result.{Seen, Result, executed, by_cause, reached, loaded_raw, stored_at, raw_at, spot_of, can_store}
+use Rattle.mono_model.specs.Result.{Seen, Result, executed, evaluated, by_cause, reached, loaded_raw, stored_at, raw_at, spot_of, can_store}
 use Rattle.mono_model.specs.Effect.{effect, retired}
 use Rattle.mono_model.specs.Sequence.{seen_in}
-use Rattle.func_model.specs.Steps.{load_done, store_made, reached_made, caused_made, outcome_made, reached_result, caused_result, outcome_result, behind, result_of}
+use Rattle.func_model.specs.Steps.{load_done, store_made, reached_made, caused_made, outcome_made, behind, result_of}
 use Rattle.func_model.proofs.Evaluated.{NoDestination, stores_write_none}
 
 loaded_behind : (range : RamRange) (limit word : ℕ) (time : Option ℕ) (i : Insn) (next addr : ℕ) (width : Width) (signed : Bool) (spot : Spot) (raw : Option ℕ) (a : Arch) → is_csr_insn i ≡ false → is_mret_insn i ≡ false → spot ≡ spot_of range addr width →
@@ -48,21 +48,11 @@ unfolding effect
 caused_behind range limit word i time o None a csr mret none = reached_behind range limit word i time o o.reach a csr mret none
 caused_behind range limit word i time o (Some why) a csr mret none = refl
 
--- what is told of an outcome
-reached_is : (range : RamRange) (e : Seen) (o : Outcome) (what : Reach) → reached range e o what ≡ reached_result range e o what
-reached_is range e o reach.Nothing = refl
-reached_is range e o (reach.Load target width signed) = refl
-reached_is range e o (reach.Store target width value) = refl
-
-caused_is : (range : RamRange) (e : Seen) (o : Outcome) (why : Option (Cause × ℕ)) → by_cause range e o why ≡ caused_result range e o why
-caused_is range e o None = reached_is range e o o.reach
-caused_is range e o (Some why) = refl
-
 -- an instruction that is none of CSRs or MRET comes to what its outcome does
 pub instruction_is : (range : RamRange) (word : ℕ) (i : Insn) (addr x y : ℕ) (e : Seen) → is_csr_insn i ≡ false → is_mret_insn i ≡ false →
-    executed range (known word i) addr x y e ≡ outcome_result range e (eval_of i addr x y)
+    executed range (known word i) addr x y e ≡ evaluated range e (eval_of i addr x y)
 unfolding executed
-instruction_is range word i addr x y e csr mret = rw (csr, mret) (caused_is range e (eval_of i addr x y) (eval_of i addr x y).cause)
+instruction_is range word i addr x y e csr mret = rw (csr, mret) refl
 
 pub instruction_behind : (range : RamRange) (limit word : ℕ) (i : Insn) (x y : ℕ) (time : Option ℕ) (a : Arch) → is_csr_insn i ≡ false → is_mret_insn i ≡ false →
     behind limit (known word i) (executed range (known word i) a.pc x y (seen_in time a)) time a ≡ outcome_made range limit (dest_of i) (eval_of i a.pc x y) time a
@@ -76,9 +66,9 @@ instruction_behind range limit word i x y time a csr mret =
 -- the same of what the code computed
 pub evaluated_result : (range : RamRange) (word : ℕ) (i : Insn) (x y : ℕ) (time : Option ℕ) (o : Outcome) (a : Arch) → is_csr_insn i ≡ false → is_mret_insn i ≡ false →
     o ≡ eval_of i a.pc x y → x ≡ register_value a.regs (sources_of i).0 → y ≡ register_value a.regs (sources_of i).1 →
-    outcome_result range (seen_in time a) o ≡ result_of range (known word i) time a
+    evaluated range (seen_in time a) o ≡ result_of range (known word i) time a
 evaluated_result range word i x y time o a csr mret is first second =
-    ap (λ (e : Outcome). outcome_result range (seen_in time a) e) (is ∙ ap (λ v. eval_of i a.pc v y) first ∙ ap (λ w. eval_of i a.pc (register_value a.regs (sources_of i).0) w) second)
+    ap (λ (e : Outcome). evaluated range (seen_in time a) e) (is ∙ ap (λ v. eval_of i a.pc v y) first ∙ ap (λ w. eval_of i a.pc (register_value a.regs (sources_of i).0) w) second)
     ∙ sym (instruction_is range word i a.pc (register_value a.regs (sources_of i).0) (register_value a.regs (sources_of i).1) (seen_in time a) csr mret)
 
 pub evaluated_behind : (range : RamRange) (limit word : ℕ) (i : Insn) (x y : ℕ) (time : Option ℕ) (o : Outcome) (destination : Option ℕ) (a b : Arch) → is_csr_insn i ≡ false → is_mret_insn i ≡ false →

@@ -19,7 +19,7 @@ use Rattle.func_model.specs.declared.contents.Contents.{Contents}
 use Rattle.func_model.specs.declared.trail.Trail.{Trail}
 use Rattle.func_model.specs.Contents.{ContentsStandFor, output_in, retired_in, before}
 use Rattle.func_model.specs.Undo.{IsRestorable}
-use Rattle.func_model.specs.History.{walk, floor, step_seq, instruction_in, step_undone, end_by, IsMade}
+use Rattle.func_model.specs.History.{walk, floor, step_seq, step_undone, end_by, IsMade}
 use Rattle.func_model.specs.Trail.{IsPlace, IsBackOver, StepsLeadBack, TrailStandsFor, IsOnTrail, IsTold, IsBack}
 use Rattle.func_model.proofs.Running.{alone_adds, stands_retired}
 use Rattle.func_model.proofs.Walking.{stands_output}
@@ -178,7 +178,7 @@ one_longer : (xs : List PastStep) (x : PastStep) → length (xs ++ x ∷ []) ≡
 one_longer xs x = length-append xs (x ∷ [])
 
 pub noted : {D : Type 0} (s : Setup) (trail : Trail D) (is_full : Bool) (made : Made) (how : End) (contents : Contents D) → Going s trail is_full made → (is_full && made.has_sent) ≡ false →
-    how ≡ end_by made.halt (trail.at + 1 == trail.cycles) → made.is_fence ≡ false → IsRestorable (instruction_in made.past) → ContentsStandFor s (step_seq s trail.at (walk s trail.at)) contents →
+    how ≡ end_by made.halt (trail.at + 1 == trail.cycles) → made.is_fence ≡ false → IsRestorable made.past.past → ContentsStandFor s (step_seq s trail.at (walk s trail.at)) contents →
     contents.hart.room ≡ trail.contents.hart.room →
     IsTold s trail (record trail {
       contents = contents;
@@ -240,7 +240,7 @@ last_over s trail rest past h is =
     let end : trail.floor + length rest ≡ trail.at - 1 = omega (arith, count, h.held) in
     (less.0, subst B end less.1)
 
-pub newest_restorable : {D : Type 0} (trail : Trail D) (rest : List PastStep) (past : PastStep) → IsOnTrail trail → trail.steps.items ≡ rest ++ past ∷ [] → IsRestorable (instruction_in past)
+pub newest_restorable : {D : Type 0} (trail : Trail D) (rest : List PastStep) (past : PastStep) → IsOnTrail trail → trail.steps.items ≡ rest ++ past ∷ [] → IsRestorable past.past
 newest_restorable trail rest past on is = (last_over on.setup trail rest past on.stands is).1.restorable
 
 pub some_made : {D : Type 0} (trail : Trail D) (rest : List PastStep) (past : PastStep) → IsOnTrail trail → trail.steps.items ≡ rest ++ past ∷ [] → trail.floor < trail.at

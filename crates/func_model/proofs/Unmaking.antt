@@ -1,6 +1,5 @@
 -- A step of the run alone is taken back, its interrupt included.
-use Rattle.std.proofs.Common.{◌≡◌, ℕ, Bool, true, false, if◌then◌else◌, Option, Some, is_some, refl, ap, sym, ◌∙◌}
-use Rattle.fsim_base.specs.declared.access.RamRange.{RamRange}
+use Rattle.std.proofs.Common.{◌≡◌, ℕ, Bool, true, false, if◌then◌else◌, Some, is_some, refl, ap, ◌∙◌}
 use Rattle.machine_csr.specs.Trap.{timer_pending}
 use Rattle.mono_model.specs.declared.setup.Setup.{Setup}
 use Rattle.mono_model.specs.Setup.{ram_range}
@@ -8,12 +7,11 @@ use Rattle.mono_model.specs.Arch.{Arch, compare_of, trapped, interrupted}
 use Rattle.mono_model.specs.Found.{is_fence_i}
 use Rattle.mono_model.specs.Sequence.{found_next, entry_at}
 use Rattle.trace_entry.specs.declared.Entry.{Entry}
-use Rattle.undo_journal.specs.declared.past.Past.{Past}
 use Rattle.func_model.specs.declared.performed.Interrupted.{Interrupted}
 use Rattle.func_model.specs.declared.performed.Made.{Made}
 use Rattle.func_model.specs.Contents.{before}
 use Rattle.func_model.specs.Undo.{trap_before, trap_back, undone}
-use Rattle.func_model.specs.History.{step_seq, resumed, instruction_in, IsMade}
+use Rattle.func_model.specs.History.{step_seq, resumed, IsMade}
 
 -- what an interrupt changes
 set_back : (is_due : Bool) (a : Arch) → record (if is_due then interrupted a else a) { pc = a.pc; csrs = trap_back (trap_before a.csrs) (if is_due then interrupted a else a).csrs } ≡ a
@@ -26,15 +24,9 @@ resumed_back number was a pc trap =
     (λ i. record (before number a) { pc = pc i; csrs = trap_back (trap i) (before number a).csrs })
     ∙ set_back (timer_pending a.csrs number (compare_of a.devices)) a
 
--- the number of an instruction doesn't matter where it is taken back
-pub numberless : (range : RamRange) (past : Past) (sent : Option ℕ) (a : Arch) → past.out ≡ is_some sent →
-    undone range (record { number = 0; addr = past.addr; out = is_some sent; value = past.value; register = past.register; change = past.change }) a ≡ undone range past a
-unfolding undone
-numberless range past sent a out = ap (λ (o : Bool). undone range (record { number = 0; addr = past.addr; out = o; value = past.value; register = past.register; change = past.change }) a) (sym out)
-
 -- what is told of the step, by the entry of its instruction
 pub made_is : (s : Setup) (number : ℕ) (a : Arch) (entry : Entry) (made : Made) → entry ≡ entry_at s (Some number) (before number a) number 0 → made.has_sent ≡ is_some entry.out → made.halt ≡ entry.halt →
-    made.is_fence ≡ is_fence_i (found_next s (before number a)) → undone (ram_range s.params) (instruction_in made.past) (step_seq s number a) ≡ before number a → resumed made.past.interrupted (before number a) ≡ a →
+    made.is_fence ≡ is_fence_i (found_next s (before number a)) → undone (ram_range s.params) made.past.past (step_seq s number a) ≡ before number a → resumed made.past.interrupted (before number a) ≡ a →
     IsMade s number a made
 unfolding entry_at
 made_is s number a entry made told sent halt fence back resumes = record {

@@ -16,6 +16,7 @@ use Rattle.func_model.specs.declared.contents.Contents.{Contents}
 use Rattle.func_model.specs.declared.walk.Walk.{Walk}
 use Rattle.func_model.specs.Hart.{arch_of}
 use Rattle.func_model.specs.Undo.{undone, IsRestorable}
+use Rattle.func_model.specs.Telling.{IsNextStep}
 use Rattle.func_model.specs.Contents.{ContentsStandFor, output_in, retired_in}
 use Rattle.func_model.specs.Walk.{IsStep, LeadsBack, IsOnPath, WalkStandsFor, IsProduced, noted_in}
 use Rattle.mono_model.proofs.Path.{path_next, goes_on_more}
@@ -186,21 +187,19 @@ noted_on {D} s os old contents past h running made number back restorable = at (
     at false is = unnoted_stands s os old contents h running made (grind (arith, common_steps))
 
 -- what a step makes of a walk and tells of it, by what its contents ensure at its time
-pub produced_on : {D : Type 0} (s : Setup) (os : List Order) (old : Walk D) (contents : Contents D) (time : Option ℕ) (told : Entry) (past : Past) (new : Walk D) → WalkStandsFor s os old →
-    old.is_stopped ≡ false → time ≡ time_of os old.position → ContentsStandFor s (seq s time (path s os old.position)) contents → contents.hart.room ≡ old.contents.hart.room →
-    told ≡ entry_at s time (path s os old.position) old.position old.epoch → past.number ≡ old.position →
-    undone (ram_range s.params) past (seq s time (path s os old.position)) ≡ path s os old.position → IsRestorable past → new ≡ noted_in past (record old { contents = contents }) →
-    IsProduced s os old new (Some told)
+pub produced_on : {D : Type 0} (s : Setup) (os : List Order) (old : Walk D) (contents : Contents D) (time : Option ℕ) (told : Entry × Past) (new : Walk D) → WalkStandsFor s os old →
+    old.is_stopped ≡ false → time ≡ time_of os old.position → IsNextStep s time old.position old.epoch (path s os old.position) contents told → contents.hart.room ≡ old.contents.hart.room →
+    told.1.number ≡ old.position → IsRestorable told.1 → new ≡ noted_in told.1 (record old { contents = contents }) → IsProduced s os old new (Some told.0)
 unfolding entry
-produced_on {D} s os old contents time told past new h running time_is stands space told_is number back restorable new_is =
+produced_on {D} s os old contents time told new h running time_is step space number restorable new_is =
     let a : Arch = path s os old.position in
-    let C : Option ℕ → Type 0 = λ t. ContentsStandFor {D = D} s (seq s t a) contents in
-    let U : Option ℕ → Type 0 = λ t. undone (ram_range s.params) past (seq s t a) ≡ a in
+    let S : Option ℕ → Type 0 = λ t. IsNextStep {D = D} s t old.position old.epoch a contents told in
     let W : Walk D → Type 0 = λ walk. WalkStandsFor s os walk in
-    let made : Stepping s os old contents = record { stands = subst C time_is stands; space = space } in
+    let at : S (time_of os old.position) = subst S time_is step in
+    let made : Stepping s os old contents = record { stands = at.stands; space = space } in
     record {
-      entry_is = told_is ∙ ap (λ (t : Option ℕ). entry_at s t a old.position old.epoch) time_is ∙ ap (λ (e : ℕ). entry_at s (time_of os old.position) a old.position e) h.holds.epoch;
-      stands = subst W (sym new_is) (noted_on s os old contents past h running made number (subst U time_is back) restorable);
+      entry_is = at.entry ∙ ap (λ (e : ℕ). entry_at s (time_of os old.position) a old.position e) h.holds.epoch;
+      stands = subst W (sym new_is) (noted_on s os old contents told.1 h running made number at.back restorable);
     }
 
 -- a walk at the start of a run

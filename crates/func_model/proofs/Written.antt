@@ -6,7 +6,6 @@ use Rattle.rv_decode.specs.declared.insn.Insn.TheVariants as insn
 use Rattle.rv_decode.specs.Class.{dest_of, written}
 use Rattle.rv_decode.specs.Fits.{Fits}
 use Rattle.mono_model.specs.Arch.{with_register}
-use Rattle.func_model.specs.declared.performed.OldRegister.{OldRegister}
 use Rattle.func_model.specs.Hart.{IsWritten}
 use Rattle.func_model.specs.Undo.{register_before}
 

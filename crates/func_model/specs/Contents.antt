@@ -40,8 +40,8 @@ after_instruction s found r time a =
 abbrev pub before : ℕ → Arch → Arch
 before time a = if timer_pending a.csrs time (compare_of a.devices) then interrupted a else a
 
--- the next instruction is executed, and the run goes on, whatever its time
-pub record GoesOn {D : Type 0} (old new : Contents D) : Type 0 where
-  pub stepped : (s : Setup) (time : ℕ) (a : Arch) → ContentsStandFor s a old → On ≡ stepped_by s.output a.output (note_of (result_at s (Some time) a) a)
-  pub stands : (s : Setup) (time : ℕ) (a : Arch) → ContentsStandFor s a old → ContentsStandFor s (after_instruction s (found_next s a) (result_at s (Some time) a) time a) new
+-- the next instruction is executed with a time, and the run goes on
+pub record GoesOn {D : Type 0} (time : ℕ) (old new : Contents D) : Type 0 where
+  pub stepped : (s : Setup) (a : Arch) → ContentsStandFor s a old → On ≡ stepped_by s.output a.output (note_of (result_at s (Some time) a) a)
+  pub stands : (s : Setup) (a : Arch) → ContentsStandFor s a old → ContentsStandFor s (after_instruction s (found_next s a) (result_at s (Some time) a) time a) new
   pub bound : retired_in new ≤ retired_in old + 1

@@ -12,7 +12,6 @@ use Rattle.mono_model.specs.Effect.{note_of}
 use Rattle.mono_model.specs.Sequence.{found_next, result_at, seq, byte_in, halt_in}
 use Rattle.mono_model.specs.Final.{end_of}
 use Rattle.mono_model.specs.Alone.{alone}
-use Rattle.undo_journal.specs.declared.past.Past.{Past}
 use Rattle.func_model.specs.declared.performed.PastStep.{PastStep}
 use Rattle.func_model.specs.declared.performed.Interrupted.{Interrupted}
 use Rattle.func_model.specs.declared.performed.Made.{Made}
@@ -52,20 +51,9 @@ abbrev pub resumed : Option Interrupted → Arch → Arch
 resumed None a = a
 resumed (Some was) a = record a { pc = was.pc; csrs = trap_back was.trap a.csrs }
 
--- what takes the instruction of a step back
-abbrev pub instruction_in : PastStep → Past
-instruction_in past = record {
-  number = 0;
-  addr = past.addr;
-  out = is_some past.sent;
-  value = past.reg.value;
-  register = past.reg.register;
-  change = past.change;
-}
-
 -- the state before a step, from the one behind it
 abbrev pub step_undone : RamRange → PastStep → Arch → Arch
-step_undone range past a = resumed past.interrupted (undone range (instruction_in past) a)
+step_undone range past a = resumed past.interrupted (undone range past.past a)
 
 -- what is told of a step at a state, and what takes it back
 pub record IsMade (s : Setup) (number : ℕ) (a : Arch) (made : Made) : Type 0 where

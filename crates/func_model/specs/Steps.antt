@@ -31,7 +31,7 @@ use Rattle.func_model.specs.Undo.{trap_before}
 use Rattle.mono_model.specs.Arch.{Arch, with_register, register_value, trapped}
 use Rattle.mono_model.specs.Found.{Found, first_source, second_source}
 use Rattle.mono_model.specs.Effect.{counted, with_store, with_access, with_note, access_note, note_of, effect}
-use Rattle.mono_model.specs.Result.{Seen, spot_of, raw_at, can_store, Result, executed, resulting, loaded_at, stored_at, failing_access, attempted, csr_value}
+use Rattle.mono_model.specs.Result.{spot_of, raw_at, can_store, Result, executed, csr_value}
 use Rattle.mono_model.specs.Sequence.{seen_in, byte_in}
 use Rattle.func_model.specs.declared.performed.Performed.{Performed}
 use Rattle.func_model.specs.declared.performed.Stepped.{Stepped}
@@ -100,19 +100,6 @@ caused_made range limit destination o time a (Some why) = trapped (cause_number 
 
 abbrev pub outcome_made : RamRange → ℕ → Option ℕ → Outcome → Option ℕ → Arch → Arch
 outcome_made range limit destination o time a = caused_made range limit destination o time a o.cause
-
--- what such an instruction comes to
-abbrev pub reached_result : RamRange → Seen → Outcome → Reach → Result
-reached_result range e o reach.Nothing = resulting o.value o.next access.Nothing
-reached_result range e o (reach.Load addr width signed) = loaded_at o.next addr width signed e (spot_of range addr width)
-reached_result range e o (reach.Store addr width value) = stored_at o.next addr width value (spot_of range addr width)
-
-abbrev pub caused_result : RamRange → Seen → Outcome → Option (Cause × ℕ) → Result
-caused_result range e o None = reached_result range e o o.reach
-caused_result range e o (Some why) = failing_access o.next (attempted o.reach) why.0 why.1
-
-abbrev pub outcome_result : RamRange → Seen → Outcome → Result
-outcome_result range e o = caused_result range e o o.cause
 
 -- what is told of an instruction that comes to this, where the output has so much room
 pub record Told (limit : ℕ) (r : Result) (a : Arch) (done : Performed) : Type 0 where

@@ -10,7 +10,7 @@ use Rattle.func_model.specs.declared.performed.PastStep.{PastStep}
 use Rattle.func_model.specs.declared.trail.Trail.{Trail}
 use Rattle.func_model.specs.Contents.{ContentsStandFor}
 use Rattle.func_model.specs.Undo.{IsRestorable}
-use Rattle.func_model.specs.History.{walk, IsReached, end_at, floor, instruction_in, step_undone}
+use Rattle.func_model.specs.History.{walk, IsReached, end_at, floor, step_undone}
 
 -- how a run stands behind so many steps, all made
 pub record IsPlace (s : Setup) (made : ℕ) (end : End) : Type 0 where
@@ -24,7 +24,7 @@ pub record IsPlace (s : Setup) (made : ℕ) (end : End) : Type 0 where
 pub record IsBackOver (s : Setup) (made : ℕ) (past : PastStep) : Type 0 where
   pub place : IsPlace s made Running
   pub back : step_undone (ram_range s.params) past (walk s (suc made)) ≡ walk s made
-  pub restorable : IsRestorable (instruction_in past)
+  pub restorable : IsRestorable past.past
 
 -- past steps, the oldest first, lead back to where so many are made
 abbrev pub StepsLeadBack : Setup → ℕ → List PastStep → Type 0

@@ -8,9 +8,10 @@ ghost use Rattle.mono_model.specs.Arch.{compare_of};
 ghost use Rattle.func_model.specs.Undo.{ended_in, is_device};
 
 use crate::found::Fetched;
-use crate::hart::{Hart, StoreAccess, compare, plain, trap_before};
+use crate::hart::{Hart, StoreAccess, compare, plain};
 use crate::memory::Memory;
-use crate::performed::{Interrupted, Made, OldRegister, PastStep, Performed, Stepped};
+use crate::performed::{Interrupted, Made, PastStep, Performed, Stepped};
+use crate::take_back::trap_before;
 use device_bus::{Bus, Device};
 use fsim_base::{Access, Class, Halt, NoMemory, Spot, Width};
 use machine_csr::{Csrs, TIMER_INTERRUPT};
@@ -109,9 +110,10 @@ impl<D: Device> Contents<D> {
     ghost use Rattle.func_model.specs.Steps.{stepped_by};
     ghost use Rattle.func_model.specs.Contents.{ContentsStandFor, retired_in, output_in};
     ghost use Rattle.func_model.specs.Contents.{after_instruction, before, GoesOn};
+    ghost use Rattle.func_model.specs.Telling.{IsNextStep, IsQuiet};
     ghost use Rattle.func_model.specs.Undo.{undone, all_undone, IsRestorable};
     ghost use Rattle.func_model.specs.History.{resumed, step_undone, step_seq};
-    ghost use Rattle.func_model.specs.History.{instruction_in, IsMade, going_on};
+    ghost use Rattle.func_model.specs.History.{IsMade, going_on};
     ghost use Rattle.func_model.specs.Hart.{FetchedFits, next_found, IsRegister};
     ghost use Rattle.func_model.specs.Telling.{named_by, entry_by, past_by};
 
@@ -136,87 +138,39 @@ impl<D: Device> Contents<D> {
         done.stepped
     }
 
-    /// Executes the next instruction, whatever its time, where it is kept and is none that ends the
-    /// run, traps, reaches a device or a control and status register, or lets fetch see memory; and
-    /// says whether it did. Nothing is done of any other.
+    /// Executes the next instruction with a time where it is kept and is none that ends the run,
+    /// traps, reaches a device or a control and status register, or lets fetch see memory; and says
+    /// whether it did. Nothing is done of any other. Nobody reads what is told of it, so that the
+    /// host doesn't put it together.
     #[inline(always)]
-    fn advance_plain(&mut self) -> bool
+    fn advance_plain(&mut self, time: u64) -> bool
         requires count { retired_in self.old < 2 ^ 64 - 1 }
-        ensures on { result ≡ true → GoesOn self.old self.new }
+        ensures on { result ≡ true → GoesOn time self.old self.new }
         ensures unchanged { result ≡ false → self.new ≡ self.old }
         ensures room { self.new.hart.room ≡ self.old.hart.room }
     {
-        self.advance_computed() || self.advance_access()
-    }
-
-    /// Executes it where it changes at most a register and the next address.
-    #[inline(always)]
-    fn advance_computed(&mut self) -> bool
-        requires count { retired_in self.old < 2 ^ 64 - 1 }
-        ensures on { result ≡ true → GoesOn self.old self.new }
-        ensures unchanged { result ≡ false → self.new ≡ self.old }
-        ensures room { self.new.hart.room ≡ self.old.hart.room }
-    {
-        let Some(decoded) = self.hart.known() else {
-            return false;
-        };
-        let Some(outcome) = self.hart.computed(decoded) else {
-            return false;
-        };
-        let register = decoded.written;
-        self.hart.finish_kept(register, outcome.value, outcome.next);
-        true
+        match self.compute(time, &0) {
+            Some(_) => true,
+            None => self.advance_access(time),
+        }
     }
 
     /// The same where it is a load or a store of RAM. It stays a call: beside it the loop of a run
     /// alone would keep less in the host's registers.
     #[inline(never)]
-    fn advance_access(&mut self) -> bool
+    fn advance_access(&mut self, time: u64) -> bool
         requires count { retired_in self.old < 2 ^ 64 - 1 }
-        ensures on { result ≡ true → GoesOn self.old self.new }
+        ensures on { result ≡ true → GoesOn time self.old self.new }
         ensures unchanged { result ≡ false → self.new ≡ self.old }
         ensures room { self.new.hart.room ≡ self.old.hart.room }
     {
-        self.advance_load() || self.advance_store()
-    }
-
-    /// The same where it is a load.
-    #[inline(always)]
-    fn advance_load(&mut self) -> bool
-        requires count { retired_in self.old < 2 ^ 64 - 1 }
-        ensures on { result ≡ true → GoesOn self.old self.new }
-        ensures unchanged { result ≡ false → self.new ≡ self.old }
-        ensures room { self.new.hart.room ≡ self.old.hart.room }
-    {
-        let Some(decoded) = self.hart.known() else {
-            return false;
-        };
-        let Some(load) = self.hart.loaded(decoded) else {
-            return false;
-        };
-        let destination = decoded.destination;
-        self.hart.finish(destination, load.value, load.next);
-        true
-    }
-
-    /// The same where it is a store.
-    #[inline(always)]
-    fn advance_store(&mut self) -> bool
-        requires count { retired_in self.old < 2 ^ 64 - 1 }
-        ensures on { result ≡ true → GoesOn self.old self.new }
-        ensures unchanged { result ≡ false → self.new ≡ self.old }
-        ensures room { self.new.hart.room ≡ self.old.hart.room }
-    {
-        let Some(decoded) = self.hart.known() else {
-            return false;
-        };
-        let Some(store) = self.hart.storing(decoded) else {
-            return false;
-        };
-        let Some(_) = self.hart.store_ram(store) else {
-            return false;
-        };
-        true
+        match self.load(time, 0, Some(time)) {
+            Some(_) => true,
+            None => match self.store(time, 0) {
+                Some(_) => true,
+                None => false,
+            },
+        }
     }
 
     /// Takes a pending timer interrupt, and counts it.
@@ -310,7 +264,7 @@ impl<D: Device> Contents<D> {
         for made in 0..steps {
             interrupts += self.interrupt(made);
             // Most instructions need no frame of what all others need.
-            if self.advance_plain() {
+            if self.advance_plain(made) {
                 continue;
             }
             match self.advance(made, limit) {
@@ -429,18 +383,11 @@ impl<D: Device> Contents<D> {
     pub fn compute(&mut self, number: u64, epoch: &u64) -> Option<(Entry, Past)>
         requires count { retired_in self.old < 2 ^ 64 - 1 }
         ensures none { IfNone result (self.new ≡ self.old) }
-        ensures stands { IfSome result (λ told. (s : Setup) (time : Option ℕ) (a : Arch)
-            → ContentsStandFor s a self.old → ContentsStandFor s (seq s time a) self.new) }
-        ensures entry { IfSome result (λ told. (s : Setup) (time : Option ℕ) (a : Arch)
-            → ContentsStandFor s a self.old → told.0 ≡ entry_at s time a number epoch.now) }
-        ensures back { IfSome result (λ told. (s : Setup) (time : Option ℕ) (a : Arch)
-            → ContentsStandFor s a self.old
-            → undone (ram_range s.params) told.1 (seq s time a) ≡ a) }
+        ensures step { IfSome result (λ told. (s : Setup) (time : Option ℕ) (a : Arch)
+            → ContentsStandFor s a self.old → IsNextStep s time number epoch.now a self.new told) }
+        ensures quiet { IfSome result (IsQuiet self.old self.new) }
         ensures number { IfSome result (λ told. told.1.number ≡ number) }
         ensures restorable { IfSome result (λ told. IsRestorable told.1) }
-        ensures silent { IfSome result (λ told. told.0.out ≡ None) }
-        ensures going { IfSome result (λ told. told.0.halt ≡ None) }
-        ensures out { IfSome result (λ told. told.1.out ≡ false) }
         ensures room { self.new.hart.room ≡ self.old.hart.room }
     {
         let decoded = self.hart.known()?;
@@ -468,13 +415,9 @@ impl<D: Device> Contents<D> {
     pub fn load(&mut self, number: u64, epoch: u64, time: Option<u64>) -> Option<(Entry, Past)>
         requires count { retired_in self.old < 2 ^ 64 - 1 }
         ensures none { IfNone result (self.new ≡ self.old) }
-        ensures stands { IfSome result (λ told. (s : Setup) (a : Arch)
-            → ContentsStandFor s a self.old → ContentsStandFor s (seq s time a) self.new) }
-        ensures entry { IfSome result (λ told. (s : Setup) (a : Arch)
-            → ContentsStandFor s a self.old → told.0 ≡ entry_at s time a number epoch) }
-        ensures back { IfSome result (λ told. (s : Setup) (a : Arch)
-            → ContentsStandFor s a self.old
-            → undone (ram_range s.params) told.1 (seq s time a) ≡ a) }
+        ensures step { IfSome result (λ told. (s : Setup) (a : Arch)
+            → ContentsStandFor s a self.old → IsNextStep s time number epoch a self.new told) }
+        ensures quiet { IfSome result (IsQuiet self.old self.new) }
         ensures number { IfSome result (λ told. told.1.number ≡ number) }
         ensures restorable { IfSome result (λ told. IsRestorable told.1) }
         ensures room { self.new.hart.room ≡ self.old.hart.room }
@@ -497,13 +440,9 @@ impl<D: Device> Contents<D> {
     pub fn store(&mut self, number: u64, epoch: u64) -> Option<(Entry, Past)>
         requires count { retired_in self.old < 2 ^ 64 - 1 }
         ensures none { IfNone result (self.new ≡ self.old) }
-        ensures stands { IfSome result (λ told. (s : Setup) (time : Option ℕ) (a : Arch)
-            → ContentsStandFor s a self.old → ContentsStandFor s (seq s time a) self.new) }
-        ensures entry { IfSome result (λ told. (s : Setup) (time : Option ℕ) (a : Arch)
-            → ContentsStandFor s a self.old → told.0 ≡ entry_at s time a number epoch) }
-        ensures back { IfSome result (λ told. (s : Setup) (time : Option ℕ) (a : Arch)
-            → ContentsStandFor s a self.old
-            → undone (ram_range s.params) told.1 (seq s time a) ≡ a) }
+        ensures step { IfSome result (λ told. (s : Setup) (time : Option ℕ) (a : Arch)
+            → ContentsStandFor s a self.old → IsNextStep s time number epoch a self.new told) }
+        ensures quiet { IfSome result (IsQuiet self.old self.new) }
         ensures number { IfSome result (λ told. told.1.number ≡ number) }
         ensures restorable { IfSome result (λ told. IsRestorable told.1) }
         ensures room { self.new.hart.room ≡ self.old.hart.room }
@@ -535,14 +474,9 @@ impl<D: Device> Contents<D> {
         requires fits { FetchedFits fetched }
         requires count { retired_in self.old < 2 ^ 64 - 1 }
         requires room { length (output_in self.old) < self.old.hart.room }
-        ensures stands { (s : Setup) (a : Arch) → ContentsStandFor s a self.old
-            → ContentsStandFor s (seq s time a) self.new }
-        ensures entry { (s : Setup) (a : Arch) → ContentsStandFor s a self.old
-            → result.0 ≡ entry_at s time a number epoch }
-        ensures back { (s : Setup) (a : Arch) → ContentsStandFor s a self.old
-            → undone (ram_range s.params) result.1 (seq s time a) ≡ a }
+        ensures step { (s : Setup) (a : Arch) → ContentsStandFor s a self.old
+            → IsNextStep s time number epoch a self.new result }
         ensures number { result.1.number ≡ number }
-        ensures out { result.1.out ≡ is_some result.0.out }
         ensures restorable { IsRestorable result.1 }
         ensures room { self.new.hart.room ≡ self.old.hart.room }
     {
@@ -618,7 +552,7 @@ impl<D: Device> Contents<D> {
             → ContentsStandFor s (step_seq s number a) self.new }
         ensures made { (s : Setup) (a : Arch) → ContentsStandFor s a self.old
             → IsMade s number a result }
-        ensures restorable { IsRestorable (instruction_in result.past) }
+        ensures restorable { IsRestorable result.past.past }
         ensures room { self.new.hart.room ≡ self.old.hart.room }
     {
         let interrupted = self.take_interrupt(number);
@@ -629,22 +563,13 @@ impl<D: Device> Contents<D> {
             has_sent: entry.out.is_some(),
             halt: entry.halt,
             is_fence,
-            past: PastStep {
-                addr: past.addr,
-                sent: entry.out,
-                reg: OldRegister {
-                    register: past.register,
-                    value: past.value,
-                },
-                change: past.change,
-                interrupted,
-            },
+            past: PastStep { past, interrupted },
         }
     }
 
     /// Makes one step, as `make` does, where no timer interrupt is pending, and the instruction is
-    /// kept, changes at most a register and the next address, and is no FENCE.I: what takes the
-    /// step back. None, and nothing done, of any other step.
+    /// kept and changes at most a register and the next address: what takes the step back. None,
+    /// and nothing done, of any other step.
     #[inline(always)]
     pub fn make_computed(&mut self, number: u64) -> Option<PastStep>
         requires count { retired_in self.old < 2 ^ 64 - 1 }
@@ -653,36 +578,27 @@ impl<D: Device> Contents<D> {
             → ContentsStandFor s a self.old → ContentsStandFor s (step_seq s number a) self.new) }
         ensures made { IfSome result (λ past. (s : Setup) (a : Arch)
             → ContentsStandFor s a self.old → IsMade s number a (going_on past)) }
-        ensures restorable { IfSome result (λ past. IsRestorable (instruction_in past)) }
+        ensures restorable { IfSome result (λ past. IsRestorable past.past) }
         ensures room { self.new.hart.room ≡ self.old.hart.room }
     {
         if self.hart.csrs.timer_pending(number, self.cmp) {
             return None;
         }
-        if self.hart.known()?.is_fence_i() {
-            return None;
-        }
         let (_, past) = self.compute(number, &0)?;
         Some(PastStep {
-            addr: past.addr,
-            sent: None,
-            reg: OldRegister {
-                register: past.register,
-                value: past.value,
-            },
-            change: past.change,
+            past,
             interrupted: None,
         })
     }
 
     /// Takes a step of a run alone back.
     pub fn unmake(&mut self, past: PastStep)
-        requires restorable { IsRestorable (instruction_in past) }
+        requires restorable { IsRestorable past.past }
         ensures stands { (s : Setup) (a : Arch) → ContentsStandFor s a self.old
             → ContentsStandFor s (step_undone (ram_range s.params) past a) self.new }
         ensures room { self.new.hart.room ≡ self.old.hart.room }
     {
-        self.undo(past.instruction());
+        self.undo(past.past);
         if let Some(before) = past.interrupted {
             self.hart.pc = before.pc;
             self.hart.put_trap(before.trap);

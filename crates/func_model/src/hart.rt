@@ -1,26 +1,24 @@
 ghost use Rattle.std.specs.Prelude.{◌≡◌, ◌≤◌, ◌<◌, ◌^◌, ◌+◌, ◌-◌, ◌%◌, ℕ, None, Some};
 ghost use Rattle.std.specs.Prelude.{slice_index, vec_capacity, unwrap_or, if◌then◌else◌};
-ghost use Rattle.std.specs.Prelude.{Option, IfSome, IfNone, true, false, length, drop};
-ghost use Rattle.std.specs.List.{All};
+ghost use Rattle.std.specs.Prelude.{Option, IfSome, IfNone, true, false};
 ghost use Rattle.mono_model.specs.Arch.{compare_of};
 ghost use Rattle.mono_model.specs.Found.{is_csr_insn, is_mret_insn, is_fence_i};
 ghost use Rattle.mono_model.specs.Result.{attempted, csr_value};
 ghost use Rattle.mono_model.specs.Sequence.{byte_in};
 ghost use Rattle.func_model.specs.Steps.{plain_with, is_load, is_store};
-ghost use Rattle.func_model.specs.Undo.{csr_back, flags_before, trap_before};
-ghost use Rattle.machine_csr.specs.Csr.{csr_written};
+ghost use Rattle.func_model.specs.Undo.{flags_before, trap_before};
 ghost use Rattle.rv_exec.specs.Load.{loaded_value};
 
 use crate::found::{Decoded, Fetched};
 use crate::memory::Memory;
 use crate::performed::{OldRegister, Performed, Stepped};
+use crate::take_back::{csr_before, flags_before, trap_before};
 use device_bus::{Bus, Device, Note};
 use fsim_base::{Access, Cause, Spot, Width, wrap_add};
-use machine_csr::address::{MCAUSE, MEPC, MSCRATCH, MTVAL, MTVEC};
-use machine_csr::{CsrWrite, Csrs, reads_time};
+use machine_csr::{Csrs, reads_time};
 use rv_decode::Insn;
 use rv_exec::{Outcome, Reach, eval, extend};
-use undo_journal::{Change, OldCsr, OldTrap, Past};
+use undo_journal::Change;
 
 /// The registers, memory and output of the hart, changed in place by each instruction.
 #[derive(Drop)]
@@ -178,48 +176,6 @@ pub fn plain(change: Change) -> Performed
     }
 }
 
-/// What a trap changes, as it is before.
-pub fn trap_before(csrs: &Csrs) -> OldTrap
-    ensures before { result ≡ trap_before csrs.now }
-{
-    OldTrap {
-        mie: csrs.mie,
-        mpie: csrs.mpie,
-        mepc: csrs.mepc,
-        mcause: csrs.mcause,
-        mtval: csrs.mtval,
-    }
-}
-
-/// The flags, as they are before.
-fn flags_before(csrs: &Csrs) -> OldCsr
-    ensures before { result ≡ flags_before csrs.now }
-{
-    OldCsr::Flags {
-        mie: csrs.mie,
-        mpie: csrs.mpie,
-        mtie: csrs.mtie,
-    }
-}
-
-/// What a write changes, as it is before.
-#[tactic(auto, unfolding(machine_csr::specs::Csr::csr_written, machine_csr::specs::Csr::row_at))]
-fn csr_before(csrs: &Csrs, write: CsrWrite) -> OldCsr
-    ensures back { csr_back result (csr_written write csrs.now) ≡ csrs.now }
-{
-    let CsrWrite::Put { csr, .. } = write else {
-        return flags_before(csrs);
-    };
-    match csr {
-        MTVEC => OldCsr::Mtvec(csrs.mtvec),
-        MSCRATCH => OldCsr::Mscratch(csrs.mscratch),
-        MEPC => OldCsr::Mepc(csrs.mepc),
-        MCAUSE => OldCsr::Mcause(csrs.mcause),
-        MTVAL => OldCsr::Mtval(csrs.mtval),
-        _ => flags_before(csrs),
-    }
-}
-
 impl Hart {
     ghost use Rattle.device_bus.specs.Bus.{Devices};
     ghost use Rattle.fsim_base.specs.Cause.{cause_number};
@@ -227,25 +183,23 @@ impl Hart {
     ghost use Rattle.mono_model.specs.Arch.{Arch, register_value, with_register, trapped};
     ghost use Rattle.mono_model.specs.Found.{known};
     ghost use Rattle.mono_model.specs.Result.{raw_at, spot_of, loaded_at, stored_at};
-    ghost use Rattle.mono_model.specs.Result.{csr_result};
+    ghost use Rattle.mono_model.specs.Result.{csr_result, evaluated};
     ghost use Rattle.mono_model.specs.Sequence.{seen_in};
     ghost use Rattle.machine_csr.specs.Csr.{csr_access};
     ghost use Rattle.rv_decode.specs.Class.{dest_of};
     ghost use Rattle.phys_mem.specs.Ram.{ram_of, text_of, exec_of, range_of, text_from};
     ghost use Rattle.func_model.specs.Steps.{failed_with, finished, read_devices, load_made};
     ghost use Rattle.func_model.specs.Steps.{stepped_by, concluded, store_made, outcome_made};
-    ghost use Rattle.func_model.specs.Steps.{outcome_result, AlignedBy, csr_made, mret_made};
+    ghost use Rattle.func_model.specs.Steps.{AlignedBy, csr_made, mret_made};
     ghost use Rattle.func_model.specs.Steps.{behind, result_of, plain_outcome, Told, load_with};
     ghost use Rattle.func_model.specs.Steps.{store_with};
     ghost use Rattle.func_model.specs.Hart.{found_in, DecodedFits, FetchedFits, found_by};
     ghost use Rattle.func_model.specs.Hart.{arch_of, next_found, IsRegister, IsWritten};
-    ghost use Rattle.func_model.specs.Undo.{undone, TakesBack, IsRestorable, IsRestorableChange};
-    ghost use Rattle.func_model.specs.Undo.{IsOfLoad, uncounted, devices_back, changed_back};
-    ghost use Rattle.func_model.specs.Undo.{register_before, trap_back, all_undone};
-    ghost use Rattle.func_model.specs.Undo.{all_registers_back};
+    ghost use Rattle.func_model.specs.Undo.{TakesBack, IsRestorableChange};
+    ghost use Rattle.func_model.specs.Undo.{IsOfLoad, devices_back};
+    ghost use Rattle.func_model.specs.Undo.{register_before};
     ghost use Rattle.fsim_base.specs.declared.access.RamRange.{RamRange};
     ghost use Rattle.undo_journal.specs.declared.past.Change.TheVariants.{Csr};
-    ghost use Rattle.undo_journal.specs.Journal.{IsPlain};
 
     /// What stands at the next address.
     #[inline(always)]
@@ -635,7 +589,7 @@ impl Hart {
         requires count { self.old.csrs.retired < 2 ^ 64 - 1 }
         requires aligned { AlignedBy outcome.cause outcome.reach }
         requires limit { limit ≤ self.old.room }
-        ensures told { Told limit (outcome_result (range_of self.old.memory)
+        ensures told { Told limit (evaluated (range_of self.old.memory)
             (seen_in time (arch_of self.old bus.old)) outcome) (arch_of self.old bus.old) result }
         ensures arch { arch_of self.new bus.new
             ≡ outcome_made (range_of self.old.memory) limit destination outcome time
@@ -950,140 +904,5 @@ impl Hart {
                 value: self.regs[register as usize],
             },
         }
-    }
-
-    /// Takes back what an instruction changed beside its register and the output.
-    #[tactic(auto, unfolding(crate::specs::Hart::arch_of))]
-    fn take_back<D: Device>(&mut self, bus: &mut Bus<D>, change: Change)
-        requires restorable { IsRestorableChange change }
-        ensures arch { arch_of self.new bus.new
-            ≡ changed_back (range_of self.old.memory) change (arch_of self.old bus.old) }
-        ensures range { range_of self.new.memory ≡ range_of self.old.memory }
-        ensures exec { exec_of self.new.memory ≡ exec_of self.old.memory }
-        ensures room { self.new.room ≡ self.old.room }
-    {
-        match change {
-            Change::Nothing => self.uncount(),
-            Change::Memory { addr, width, old } => {
-                let _ = self.memory.set(addr, width, old);
-                self.uncount();
-            }
-            Change::Device { device, undo } => {
-                bus.undo(device, undo);
-                self.uncount();
-            }
-            Change::Trap(before) => self.put_trap(before),
-            Change::Csr(before) => {
-                self.put_csr(before);
-                self.uncount();
-            }
-        }
-    }
-
-    /// Puts back what a trap changed of the control and status registers.
-    pub fn put_trap(&mut self, before: OldTrap)
-        ensures put { self.new ≡ record self.old { csrs = trap_back before self.old.csrs } }
-    {
-        self.csrs.mie = before.mie;
-        self.csrs.mpie = before.mpie;
-        self.csrs.mepc = before.mepc;
-        self.csrs.mcause = before.mcause;
-        self.csrs.mtval = before.mtval;
-    }
-
-    /// Puts back what an instruction changed of the control and status registers.
-    fn put_csr(&mut self, before: OldCsr)
-        ensures put { self.new ≡ record self.old { csrs = csr_back before self.old.csrs } }
-    {
-        match before {
-            OldCsr::Flags { mie, mpie, mtie } => {
-                self.csrs.mie = mie;
-                self.csrs.mpie = mpie;
-                self.csrs.mtie = mtie;
-            }
-            OldCsr::Mtvec(old) => self.csrs.mtvec = old,
-            OldCsr::Mscratch(old) => self.csrs.mscratch = old,
-            OldCsr::Mepc(old) => self.csrs.mepc = old,
-            OldCsr::Mcause(old) => self.csrs.mcause = old,
-            OldCsr::Mtval(old) => self.csrs.mtval = old,
-        }
-    }
-
-    /// One instruction fewer retired.
-    fn uncount(&mut self)
-        ensures uncounted { self.new ≡ record self.old { csrs = uncounted self.old.csrs } }
-    {
-        self.csrs.retired = self.csrs.retired.saturating_sub(1);
-    }
-
-    /// Puts back what a register was.
-    #[inline(always)]
-    fn put_register(&mut self, register: u8, value: u32)
-        requires exists { register < 32 }
-        ensures regs { (λ r. slice_index self.new.regs r)
-            ≡ with_register (Some register) value (λ r. slice_index self.old.regs r) }
-        ensures others { self.new ≡ record self.old { regs = self.new.regs } }
-    {
-        self.regs[register as usize] = value;
-    }
-
-    /// Puts back the registers of instructions, the last one first, as far as their undo steps are
-    /// plain: how many are left.
-    #[inline(always)]
-    fn put_registers(&mut self, steps: &[Past]) -> usize
-        requires restorable { All IsRestorable steps.now }
-        ensures within { result ≤ length steps.now }
-        ensures plain { All IsPlain (drop result steps.now) }
-        ensures regs { (λ r. slice_index self.new.regs r)
-            ≡ all_registers_back (drop result steps.now) (λ r. slice_index self.old.regs r) }
-        ensures others { self.new ≡ record self.old { regs = self.new.regs } }
-    {
-        let mut left = steps.len();
-        while left > 0 && steps[left - 1].is_plain() {
-            left -= 1;
-            let past = &steps[left];
-            self.put_register(past.register, past.value);
-        }
-        left
-    }
-
-    /// Takes instructions back, the last one first, as far as their undo steps are plain: how many
-    /// are left. The next address and the count of retired instructions are put back once for all.
-    #[tactic(auto, unfolding(crate::specs::Hart::arch_of))]
-    #[inline(always)]
-    pub fn restore_plain(&mut self, steps: &[Past]) -> usize
-        requires restorable { All IsRestorable steps.now }
-        ensures within { result ≤ length steps.now }
-        ensures plain { All IsPlain (drop result steps.now) }
-        ensures arch { (range : RamRange) (d : Devices) → arch_of self.new d
-            ≡ all_undone range (drop result steps.now) (arch_of self.old d) }
-        ensures memory { self.new.memory ≡ self.old.memory }
-        ensures room { self.new.room ≡ self.old.room }
-    {
-        let left = self.put_registers(steps);
-        if left < steps.len() {
-            self.pc = steps[left].addr;
-            let count = (steps.len() - left) as u64;
-            self.csrs.retired = self.csrs.retired.saturating_sub(count);
-        }
-        left
-    }
-
-    /// Takes an instruction back.
-    #[tactic(auto, unfolding(crate::specs::Hart::arch_of, crate::specs::Undo::undone))]
-    pub fn restore<D: Device>(&mut self, bus: &mut Bus<D>, past: Past)
-        requires restorable { IsRestorable past }
-        ensures arch { arch_of self.new bus.new
-            ≡ undone (range_of self.old.memory) past (arch_of self.old bus.old) }
-        ensures range { range_of self.new.memory ≡ range_of self.old.memory }
-        ensures exec { exec_of self.new.memory ≡ exec_of self.old.memory }
-        ensures room { self.new.room ≡ self.old.room }
-    {
-        if past.out {
-            self.output.truncate(self.output.len().saturating_sub(1));
-        }
-        self.regs[past.register as usize] = past.value;
-        self.pc = past.addr;
-        self.take_back(bus, past.change);
     }
 }

@@ -10,6 +10,7 @@ mod history;
 mod memory;
 mod performed;
 mod side;
+mod take_back;
 mod trail;
 mod walk;
 

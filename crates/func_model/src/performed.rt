@@ -45,35 +45,10 @@ pub struct Interrupted {
 /// What takes one step of a run alone back.
 #[derive(Clone, Copy, Debug, PartialEq, Eq)]
 pub struct PastStep {
-    /// The address of its instruction.
-    pub addr: u32,
-    /// The byte that it sent to the output. Whether it sent one would be enough; but a lone flag
-    /// leaves a hole in the record, which is zeroed and copied by itself.
-    pub sent: Option<u8>,
-    /// The register that its instruction writes, with its value before.
-    pub reg: OldRegister,
-    pub change: Change,
+    /// What takes its instruction back, to where its interrupt left off.
+    pub past: Past,
     /// What takes its timer interrupt back, where one was taken.
     pub interrupted: Option<Interrupted>,
-}
-
-impl PastStep {
-    ghost use Rattle.std.specs.Prelude.{◌≡◌};
-    ghost use Rattle.func_model.specs.History.{instruction_in};
-
-    /// What takes its instruction back, to where its interrupt left off.
-    pub fn instruction(self) -> Past
-        ensures instruction { result ≡ instruction_in self }
-    {
-        Past {
-            number: 0,
-            addr: self.addr,
-            out: self.sent.is_some(),
-            value: self.reg.value,
-            register: self.reg.register,
-            change: self.change,
-        }
-    }
 }
 
 /// What one step of a run alone did.

@@ -59,15 +59,15 @@ steps_on g c s fits = record {
 }
 
 -- the same where it is executed before any call that may come to a device
-goes : (g : given.Over) (c : goal.Then-advance_plain g) → GoesOn c.interrupt-interrupts.new.self c.advance_plain.new.self
+goes : (g : given.Over) (c : goal.Then-advance_plain g) → GoesOn c.loop-made.made c.interrupt-interrupts.new.self c.advance_plain.new.self
 goes g c = c.advance_plain.ensures.on c.if-advance_plain.true
 
 steps_plain : (g : given.Over) (c : goal.Then-advance_plain g) (s : Setup) → Steps s c.loop-made.made c.interrupt-interrupts.result On c.loop-made.self c.interrupt-interrupts.new.self c.advance_plain.new.self
 steps_plain g c s = record {
   pending = c.interrupt-interrupts.ensures.pending s;
   interrupted = c.interrupt-interrupts.ensures.stands s;
-  stepped = (goes g c).stepped s c.loop-made.made;
-  stands = (goes g c).stands s c.loop-made.made;
+  stepped = (goes g c).stepped s;
+  stands = (goes g c).stands s;
 }
 
 below : (made steps cycles : ℕ) → made < steps → cycles ≡ steps → made < cycles

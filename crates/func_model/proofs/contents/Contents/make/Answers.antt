@@ -1,19 +1,17 @@
 use Rattle.std.proofs.Common.{refl, ap, ◌∙◌}
 use Rattle.mono_model.specs.Found.{is_fence_i}
-use Rattle.mono_model.specs.Setup.{ram_range}
 use Rattle.phys_mem.specs.Ram.{exec_of}
 use Rattle.func_model.specs.Hart.{arch_of, found_in}
 use Rattle.func_model.specs.Contents.{before}
-use Rattle.func_model.specs.History.{step_seq}
 use Rattle.func_model.proofs.Advance.{met_found}
 use Rattle.func_model.proofs.Fetching.{still_stands}
-use Rattle.func_model.proofs.Unmaking.{made_is, numberless}
+use Rattle.func_model.proofs.Unmaking.{made_is}
 use Rattle.func_model.proofs.contents.Contents.make.Goals as goal
 
 pub returns-clause-stands : goal.returns-clause-stands
 returns-clause-stands g c = λ s a h.
-    c.carry_out.ensures.stands s (before c.args.number a)
-    (still_stands s (before c.args.number a) c.take_interrupt-interrupted.new.self c.fetch-fetched.new.self c.fetch-fetched.ensures.others (c.take_interrupt-interrupted.ensures.stands s a h))
+    (c.carry_out.ensures.step s (before c.args.number a)
+    (still_stands s (before c.args.number a) c.take_interrupt-interrupted.new.self c.fetch-fetched.new.self c.fetch-fetched.ensures.others (c.take_interrupt-interrupted.ensures.stands s a h))).stands
 
 pub returns-clause-made : goal.returns-clause-made
 unfolding arch_of
@@ -21,16 +19,13 @@ returns-clause-made g c = λ s a h.
     let ready = c.take_interrupt-interrupted.ensures.stands s a h in
     let side = c.take_interrupt-interrupted.new.self in
     let still = still_stands s (before c.args.number a) side c.fetch-fetched.new.self c.fetch-fetched.ensures.others ready in
+    let step = c.carry_out.ensures.step s (before c.args.number a) still in
     made_is s c.args.number a c.carry_out.result.0 _
-    (c.carry_out.ensures.entry s (before c.args.number a) still)
+    step.entry
     c.is_some.ensures
     refl
     (c.is_fence_i-is_fence.ensures.fence
     ∙ ap is_fence_i
     (met_found s (exec_of side.hart.memory) (found_in c.fetch-fetched.result) (arch_of side.hart side.bus) (before c.args.number a) ready.exec ready.arch c.fetch-fetched.ensures.found))
-    (numberless (ram_range s.params) c.carry_out.result.1 c.carry_out.result.0.out (step_seq s c.args.number a) c.carry_out.ensures.out
-    ∙ c.carry_out.ensures.back s (before c.args.number a) still)
+    step.back
     (c.take_interrupt-interrupted.ensures.back s a h)
-
-pub returns-clause-restorable : goal.returns-clause-restorable
-returns-clause-restorable g c = record { register = c.carry_out.ensures.restorable.register; change = c.carry_out.ensures.restorable.change }

@@ -1,16 +1,12 @@
-use Rattle.std.proofs.Common.{◌≡◌, ℕ, Bool, false, Some, None, is_some, ap, sym, subst, ◌∙◌}
+use Rattle.std.proofs.Common.{◌≡◌, ℕ, Bool, false, Some, is_some, ap, sym, subst, ◌∙◌}
 use Rattle.machine_csr.specs.Trap.{timer_pending}
 use Rattle.mono_model.specs.declared.setup.Setup.{Setup}
-use Rattle.mono_model.specs.Setup.{ram_range}
 use Rattle.mono_model.specs.Arch.{Arch}
-use Rattle.mono_model.specs.Found.{known, is_fence_i}
-use Rattle.phys_mem.specs.Ram.{exec_of}
 use Rattle.func_model.specs.declared.contents.Contents.{Contents}
 use Rattle.func_model.specs.Hart.{arch_of}
 use Rattle.func_model.specs.Contents.{ContentsStandFor, before}
-use Rattle.func_model.specs.History.{step_seq}
-use Rattle.func_model.proofs.Advance.{met_found, pending_is, before_idle}
-use Rattle.func_model.proofs.Unmaking.{made_is, numberless}
+use Rattle.func_model.proofs.Advance.{pending_is, before_idle}
+use Rattle.func_model.proofs.Unmaking.{made_is}
 use Rattle.func_model.proofs.contents.Contents.make_computed.Goals as goal
 
 -- where no interrupt is pending, the instruction is executed at the state as it is
@@ -24,21 +20,13 @@ ready {D} s a b side h same = subst (λ (x : Arch). ContentsStandFor {D = D} s x
 pub returns-clause-stands : goal.returns-clause-stands
 returns-clause-stands g c = λ s a h.
     let idle = unmoved s a c.args.self.now c.args.number c.timer_pending.result h c.timer_pending.ensures.pending c.if-timer_pending.false in
-    c.in_ok-past.ensures.stands s (Some c.args.number) (before c.args.number a) (ready s a (before c.args.number a) c.args.self.now h idle)
+    (c.in_ok-past.ensures.step s (Some c.args.number) (before c.args.number a) (ready s a (before c.args.number a) c.args.self.now h idle)).stands
 
 pub returns-clause-made : goal.returns-clause-made
-unfolding arch_of
 returns-clause-made g c = λ s a h.
     let b : Arch = before c.args.number a in
     let idle = unmoved s a c.args.self.now c.args.number c.timer_pending.result h c.timer_pending.ensures.pending c.if-timer_pending.false in
     let at = ready s a b c.args.self.now h idle in
-    let hart = c.args.self.now.hart in
-    let decoded = c.in_ok-known.field-0.now in
-    made_is s c.args.number a c.in_ok-past.field-0-0 _
-    (c.in_ok-past.ensures.entry s (Some c.args.number) b at)
-    (ap is_some (sym c.in_ok-past.ensures.silent))
-    (sym c.in_ok-past.ensures.going)
-    (sym c.if-is_fence_i.false ∙ c.is_fence_i.ensures.fence
-    ∙ ap is_fence_i (met_found s (exec_of hart.memory) (known decoded.word decoded.insn) (arch_of hart c.args.self.now.bus) b at.exec at.arch c.in_ok-known.ensures.found))
-    (numberless (ram_range s.params) c.in_ok-past.past None (step_seq s c.args.number a) c.in_ok-past.ensures.out ∙ c.in_ok-past.ensures.back s (Some c.args.number) b at)
-    (sym idle)
+    let step = c.in_ok-past.ensures.step s (Some c.args.number) b at in
+    let quiet = c.in_ok-past.ensures.quiet in
+    made_is s c.args.number a c.in_ok-past.field-0-0 _ step.entry (ap is_some (sym quiet.silent)) (sym quiet.going) (sym (quiet.no_fence s b at)) step.back (sym idle)

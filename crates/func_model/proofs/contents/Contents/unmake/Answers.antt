@@ -1,21 +1,19 @@
-use Rattle.std.proofs.Common.{Option, ap, sym, ◌∙◌, subst}
+use Rattle.std.proofs.Common.{Option, ap, sym, ◌∙◌}
 use Rattle.mono_model.specs.Setup.{ram_range}
 use Rattle.mono_model.specs.Arch.{Arch, compare_of}
 use Rattle.phys_mem.specs.Ram.{exec_of, range_of}
-use Rattle.undo_journal.specs.declared.past.Past.{Past}
 use Rattle.func_model.specs.declared.hart.Hart.{Hart}
 use Rattle.func_model.specs.declared.performed.Interrupted.{Interrupted}
-use Rattle.func_model.specs.Contents.{ContentsStandFor}
 use Rattle.func_model.specs.Hart.{arch_of}
-use Rattle.func_model.specs.History.{resumed, instruction_in}
+use Rattle.func_model.specs.History.{resumed}
 use Rattle.func_model.specs.Undo.{trap_back, undone}
 use Rattle.func_model.proofs.contents.Contents.unmake.Goals as goal
 
 pub returns-in-Some-clause-stands : goal.returns-in-Some-clause-stands
 unfolding arch_of
 returns-in-Some-clause-stands g c = λ s a h.
-    let back = subst (λ (p : Past). ContentsStandFor s (undone (ram_range s.params) p a) c.undo.new.self) c.instruction.ensures.instruction (c.undo.ensures.stands s a h) in
-    let before : Arch = undone (ram_range s.params) (instruction_in c.args.past) a in
+    let back = c.undo.ensures.stands s a h in
+    let before : Arch = undone (ram_range s.params) c.args.past.past a in
     record {
       arch = ap (λ (hart : Hart). arch_of hart c.undo.new.self.bus) c.put_trap.ensures.put
           ∙ ap (λ (x : Arch). record x { pc = c.in-Some.before.pc; csrs = trap_back c.in-Some.before.trap x.csrs }) back.arch
@@ -27,8 +25,8 @@ returns-in-Some-clause-stands g c = λ s a h.
 
 pub returns-in_default-clause-stands : goal.returns-in_default-clause-stands
 returns-in_default-clause-stands g c = λ s a h.
-    let back = subst (λ (p : Past). ContentsStandFor s (undone (ram_range s.params) p a) c.undo.new.self) c.instruction.ensures.instruction (c.undo.ensures.stands s a h) in
-    let before : Arch = undone (ram_range s.params) (instruction_in c.args.past) a in
+    let back = c.undo.ensures.stands s a h in
+    let before : Arch = undone (ram_range s.params) c.args.past.past a in
     record {
       arch = back.arch ∙ ap (λ (was : Option Interrupted). resumed was before) (sym c.in_default.is);
       exec = back.exec;

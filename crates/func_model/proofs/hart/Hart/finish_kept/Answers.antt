@@ -1,4 +1,4 @@
-use Rattle.std.proofs.Common.{◌≡◌, ℕ, ◌+◌, slice_index, ap, ◌∙◌}
+use Rattle.std.proofs.Common.{◌≡◌, ◌+◌, ap, ◌∙◌}
 use Rattle.mono_model.specs.Arch.{with_register}
 use Rattle.func_model.specs.declared.hart.Hart.{Hart}
 use Rattle.func_model.specs.Hart.{arch_of}

@@ -22,8 +22,7 @@ pub returns-clause-produced : goal.returns-clause-produced
 returns-clause-produced g c = λ s os h.
     let a = path s os c.args.self.now.position in
     let still = still_stands s a c.args.self.now.contents c.fetch-fetched.new.self c.fetch-fetched.ensures.others h.holds.contents in
-    produced_on s os c.args.self.now c.carry_out.new.self c.time-time.result c.carry_out.result.0 c.carry_out.result.1 c.note.new.self h c.requires.running
+    produced_on s os c.args.self.now c.carry_out.new.self c.time-time.result c.carry_out.result c.note.new.self h c.requires.running
     (c.time-time.ensures.time ∙ h.holds.given c.args.self.now.position)
-    (c.carry_out.ensures.stands s a still) (c.carry_out.ensures.room ∙ ap (λ (x : Hart). x.room) c.fetch-fetched.ensures.others)
-    (c.carry_out.ensures.entry s a still) c.carry_out.ensures.number
-    (c.carry_out.ensures.back s a still) c.carry_out.ensures.restorable c.note.ensures.noted
+    (c.carry_out.ensures.step s a still) (c.carry_out.ensures.room ∙ ap (λ (x : Hart). x.room) c.fetch-fetched.ensures.others)
+    c.carry_out.ensures.number c.carry_out.ensures.restorable c.note.ensures.noted

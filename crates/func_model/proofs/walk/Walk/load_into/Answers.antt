@@ -14,8 +14,6 @@ note-requires-clause-above g c = λ below.
 
 pub returns-clause-produced : goal.returns-clause-produced
 returns-clause-produced g c = λ did s os h.
-    let a = path s os c.args.self.now.position in
-    produced_on s os c.args.self.now c.load.new.self c.time-time.result c.in-Some.made c.in-Some.past c.note.new.self h c.requires.running
+    produced_on s os c.args.self.now c.load.new.self c.time-time.result (c.in-Some.made, c.in-Some.past) c.note.new.self h c.requires.running
     (c.time-time.ensures.time ∙ h.holds.given c.args.self.now.position)
-    (c.in-Some.ensures.stands s a h.holds.contents) c.in-Some.ensures.room
-    (c.in-Some.ensures.entry s a h.holds.contents) c.in-Some.ensures.number (c.in-Some.ensures.back s a h.holds.contents) c.in-Some.ensures.restorable c.note.ensures.noted
+    (c.in-Some.ensures.step s (path s os c.args.self.now.position) h.holds.contents) c.in-Some.ensures.room c.in-Some.ensures.number c.in-Some.ensures.restorable c.note.ensures.noted

@@ -14,8 +14,6 @@ note-requires-clause-above g c = λ below.
 
 pub returns-clause-produced : goal.returns-clause-produced
 returns-clause-produced g c = λ did s os h.
-    let a = path s os c.args.self.now.position in
     let time = time_of os c.args.self.now.position in
-    produced_on s os c.args.self.now c.store.new.self time c.in-Some.made c.in-Some.past c.note.new.self h c.requires.running refl
-    (c.in-Some.ensures.stands s time a h.holds.contents) c.in-Some.ensures.room
-    (c.in-Some.ensures.entry s time a h.holds.contents) c.in-Some.ensures.number (c.in-Some.ensures.back s time a h.holds.contents) c.in-Some.ensures.restorable c.note.ensures.noted
+    produced_on s os c.args.self.now c.store.new.self time (c.in-Some.made, c.in-Some.past) c.note.new.self h c.requires.running refl
+    (c.in-Some.ensures.step s time (path s os c.args.self.now.position) h.holds.contents) c.in-Some.ensures.room c.in-Some.ensures.number c.in-Some.ensures.restorable c.note.ensures.noted
