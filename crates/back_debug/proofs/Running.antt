@@ -115,3 +115,6 @@ on_trail opened now next addr on at told = record {
   setup = on.setup;
   stands = (told on.setup (at.ahead on.setup on.stands).stands).stands;
 }
+
+pub still_on : {D : Type 0} (opened now : Trail D) (addr : ℕ) → IsOnTrail opened → Missing addr opened now → IsOnTrail now
+still_on opened now addr on at = record { setup = on.setup; stands = (at.ahead on.setup on.stands).stands }

@@ -2,7 +2,7 @@ ghost use Rattle.std.specs.Prelude.{◌≡◌, true, map, IfOk};
 
 use device_bus::Device;
 use fsim_base::NoMemory;
-use func_model::{Arch, History};
+use func_model::{Arch, Trail};
 use mono_model::{End, Setup};
 use std::alloc::Global;
 use std::marker::Model;
@@ -36,7 +36,7 @@ pub enum RunTo {
 /// A debugger. It stands for a setup, and a position: how many steps of its run are made.
 #[derive(Drop)]
 pub struct Debugger<D: Device> {
-    history: History<D>,
+    trail: Trail<D>,
 }
 
 impl<D: Device> Model for Debugger<D> {
@@ -45,9 +45,9 @@ impl<D: Device> Model for Debugger<D> {
 
     ghost Value = { Trail D };
 
-    ghost view = { λ debugger. debugger.history };
+    ghost view = { λ debugger. debugger.trail };
 
-    ghost invariant = { λ debugger. IsOnTrail debugger.history };
+    ghost invariant = { λ debugger. IsOnTrail debugger.trail };
 }
 
 impl<D: Device> Debugger<D> {
@@ -72,8 +72,8 @@ impl<D: Device> Debugger<D> {
         ensures stands { IfOk result (λ debugger. TrailStandsFor setup.now debugger) }
         ensures opening { IfOk result (λ debugger. IsOpening history debugger) }
     {
-        let history = History::new(alloc, setup, devices, history)?;
-        Ok(Debugger { history })
+        let trail = Trail::new(alloc, setup, devices, history)?;
+        Ok(Debugger { trail })
     }
 
     /// Makes one step; Ended, and nothing changed, exactly where the run has none behind the
@@ -82,7 +82,7 @@ impl<D: Device> Debugger<D> {
         ensures told { (s : RunSetup) → TrailStandsFor s self.old
             → IsTold s self.old self.new (ended_in result) }
     {
-        match self.history.alone_step() {
+        match self.trail.step() {
             None => Stepped::Moved,
             Some(end) => Stepped::Ended(end),
         }
@@ -93,7 +93,7 @@ impl<D: Device> Debugger<D> {
         ensures stands { (s : RunSetup) → TrailStandsFor s self.old → TrailStandsFor s self.new }
         ensures moved { IsBack self.old self.new (has_moved result) }
     {
-        if self.history.alone_back() {
+        if self.trail.back() {
             Backed::Moved
         } else {
             Backed::Oldest
@@ -107,10 +107,10 @@ impl<D: Device> Debugger<D> {
             → IsRunTo s addr self.old self.new result }
     {
         loop {
-            if let Some(end) = self.history.alone_step() {
+            if let Some(end) = self.trail.step() {
                 return RunTo::Ended(end);
             }
-            if self.history.pc() == addr {
+            if self.trail.pc() == addr {
                 return RunTo::Reached;
             }
         }
@@ -120,14 +120,14 @@ impl<D: Device> Debugger<D> {
     pub fn at(&self) -> u64
         ensures at { result ≡ self.now.at }
     {
-        self.history.at()
+        self.trail.at
     }
 
     /// The oldest position that can be gone back to.
     pub fn floor(&self) -> u64
         ensures floor { result ≡ self.now.floor }
     {
-        self.history.floor()
+        self.trail.floor
     }
 
     /// The registers at the position.
@@ -135,7 +135,7 @@ impl<D: Device> Debugger<D> {
         ensures arch { (s : RunSetup) → TrailStandsFor s self.now
             → result ≡ registers_at (walk s self.now.at) }
     {
-        self.history.arch()
+        self.trail.arch()
     }
 
     /// The output at the position.
@@ -143,6 +143,6 @@ impl<D: Device> Debugger<D> {
         ensures output { (s : RunSetup) → TrailStandsFor s self.now
             → result.now ≡ (walk s self.now.at).output }
     {
-        self.history.output()
+        self.trail.output()
     }
 }

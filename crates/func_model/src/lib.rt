@@ -6,7 +6,6 @@
 mod contents;
 mod found;
 mod hart;
-mod history;
 mod memory;
 mod performed;
 mod side;
@@ -14,5 +13,5 @@ mod take_back;
 mod trail;
 mod walk;
 
-pub use history::History;
 pub use side::{Arch, FuncSide};
+pub use trail::Trail;

@@ -5,6 +5,7 @@ ghost use Rattle.func_model.specs.History.{end_by};
 
 use crate::contents::Contents;
 use crate::performed::PastStep;
+use crate::side::{Arch, registers};
 use circular_buffer::HeapCircularBuffer;
 use device_bus::Device;
 use fsim_base::{Halt, NoMemory};
@@ -54,14 +55,17 @@ impl<D: Device> Trail<D> {
     ghost use Rattle.mono_model.specs.declared.setup.Setup.{Setup as RunSetup};
     ghost use Rattle.device_bus.specs.Bus.{device_order};
     ghost use Rattle.mono_model.specs.Setup.{is_setup};
-    ghost use Rattle.mono_model.specs.Arch.{Arch, synced};
+    ghost use Rattle.mono_model.specs.Arch.{Arch as State, synced};
     ghost use Rattle.func_model.specs.Contents.{ContentsStandFor};
     ghost use Rattle.circular_buffer.specs.Buffer.{buffer};
     ghost use Rattle.func_model.specs.Trail.{TrailStandsFor, IsOnTrail, IsTold, IsBack, IsOpening};
     ghost use Rattle.func_model.specs.Trail.{remembered};
+    ghost use Rattle.func_model.specs.History.{walk};
+    ghost use Rattle.func_model.specs.Side.{registers_at};
 
-    /// The trail at the start of a run, which remembers so many steps. All memory of the run is
-    /// taken here.
+    /// The trail at the start of a run, which remembers so many steps. It takes all its memory here:
+    /// RAM, what leads back, the output, the decoded words, and what the devices keep; a refusal
+    /// drops what it was given.
     pub fn new(
         alloc: Global,
         setup: &Setup,
@@ -88,7 +92,9 @@ impl<D: Device> Trail<D> {
         })
     }
 
-    /// Makes a step, or tells how the run has ended, where there is none.
+    /// Makes one step: a pending timer interrupt, the next instruction, and behind a FENCE.I what
+    /// it lets fetch see. Where there is no further step it changes nothing, and tells how the run
+    /// has ended.
     #[inline(always)]
     pub fn step(&mut self) -> Option<End>
         requires standing { IsOnTrail self.old }
@@ -150,7 +156,7 @@ impl<D: Device> Trail<D> {
 
     /// Lets fetch see memory as it stands. What is behind can't be taken back any more.
     fn sync(&mut self)
-        ensures contents { (s : RunSetup) (a : Arch) → ContentsStandFor s a self.old.contents
+        ensures contents { (s : RunSetup) (a : State) → ContentsStandFor s a self.old.contents
             → ContentsStandFor s (synced s a) self.new.contents }
         ensures room { self.new.contents.hart.room ≡ self.old.contents.hart.room }
         ensures others { self.new
@@ -184,7 +190,8 @@ impl<D: Device> Trail<D> {
         };
     }
 
-    /// Takes the last step back; false exactly where it isn't remembered.
+    /// Takes one step back; false, and nothing changed, exactly where the position is the oldest
+    /// that can be gone back to.
     pub fn back(&mut self) -> bool
         requires standing { IsOnTrail self.old }
         ensures stands { (s : RunSetup) → TrailStandsFor s self.old → TrailStandsFor s self.new }
@@ -197,5 +204,28 @@ impl<D: Device> Trail<D> {
         self.at -= 1;
         self.end = End::Running;
         true
+    }
+
+    /// The address of the next instruction.
+    pub fn pc(&self) -> u32
+        ensures pc { (s : RunSetup) → TrailStandsFor s self.now → result ≡ (walk s self.now.at).pc }
+    {
+        self.contents.hart.pc
+    }
+
+    /// The registers.
+    pub fn arch(&self) -> Arch
+        ensures arch { (s : RunSetup) → TrailStandsFor s self.now
+            → result ≡ registers_at (walk s self.now.at) }
+    {
+        registers(&self.contents)
+    }
+
+    /// The output so far.
+    pub fn output(&self) -> &[u8]
+        ensures output { (s : RunSetup) → TrailStandsFor s self.now
+            → result.now ≡ (walk s self.now.at).output }
+    {
+        self.contents.output()
     }
 }
