@@ -19,8 +19,8 @@ use Rattle.func_model.specs.declared.contents.Contents.{Contents}
 use Rattle.func_model.specs.declared.trail.Trail.{Trail}
 use Rattle.func_model.specs.Contents.{ContentsStandFor, output_in, retired_in, before}
 use Rattle.func_model.specs.Undo.{IsRestorable}
-use Rattle.func_model.specs.History.{walk, floor, step_seq, step_undone, end_by, IsMade}
-use Rattle.func_model.specs.Trail.{IsPlace, IsBackOver, StepsLeadBack, TrailStandsFor, IsOnTrail, IsTold, IsBack}
+use Rattle.func_model.specs.History.{walk, floor, step_seq, step_undone, end_by, going_on, IsMade, IsPlainStep}
+use Rattle.func_model.specs.Trail.{IsPlace, IsBackOver, StepsLeadBack, TrailStandsFor, IsOnTrail, IsTold, IsBack, gone_on}
 use Rattle.func_model.proofs.Running.{alone_adds, stands_retired}
 use Rattle.func_model.proofs.Walking.{stands_output}
 use Rattle.func_model.proofs.Trailing.{steps_more, steps_less, steps_later, room_is, before_output, seq_output, note_at, full_ends, ended_ends, Next, goes_on}
@@ -219,6 +219,18 @@ noted {D} s trail is_full made how contents g room is fence restorable stands sp
       stays = tt;
       history_is = refl;
     }
+
+-- a step that goes on is remembered
+pub passed : {D : Type 0} (s : Setup) (trail : Trail D) (past : PastStep) (contents : Contents D) → TrailStandsFor s trail → has_ended trail.end ≡ false → IsPlainStep trail.at trail.contents contents past →
+    contents.hart.room ≡ trail.contents.hart.room → IsTold s trail (gone_on past (record trail { contents = contents })) None
+passed {D} s trail past contents h going step room =
+    let g : Going s trail (nat_le trail.limit (length (output_in trail.contents))) (going_on past) = record {
+      stands = h;
+      going = going;
+      full = refl;
+      made_is = step.made s (walk s trail.at) h.contents;
+    } in
+    noted s trail _ (going_on past) (end_by None (trail.at + 1 == trail.cycles)) contents g (right_off _ false refl) refl refl step.restorable (step.stands s (walk s trail.at) h.contents) room
 
 -- the newest step that is remembered
 pub newest_is : (steps : List PastStep) (newest : Option PastStep) → newest ≡ last_item steps → IfSome newest (λ past. steps ≡ take (length steps - 1) steps ++ past ∷ [])

@@ -12,11 +12,13 @@ use Rattle.mono_model.specs.Effect.{note_of}
 use Rattle.mono_model.specs.Sequence.{found_next, result_at, seq, byte_in, halt_in}
 use Rattle.mono_model.specs.Final.{end_of}
 use Rattle.mono_model.specs.Alone.{alone}
+use Rattle.undo_journal.specs.declared.past.Past.{Past}
+use Rattle.func_model.specs.declared.contents.Contents.{Contents}
 use Rattle.func_model.specs.declared.performed.PastStep.{PastStep}
 use Rattle.func_model.specs.declared.performed.Interrupted.{Interrupted}
 use Rattle.func_model.specs.declared.performed.Made.{Made}
-use Rattle.func_model.specs.Contents.{before}
-use Rattle.func_model.specs.Undo.{trap_back, undone}
+use Rattle.func_model.specs.Contents.{ContentsStandFor, before}
+use Rattle.func_model.specs.Undo.{trap_back, undone, IsRestorable}
 
 -- the state after so many steps
 abbrev pub walk : Setup → ℕ → Arch
@@ -65,6 +67,16 @@ pub record IsMade (s : Setup) (number : ℕ) (a : Arch) (made : Made) : Type 0 w
 -- what a step did that sends nothing, doesn't end the run, and lets fetch see nothing
 abbrev pub going_on : PastStep → Made
 going_on past = record { has_sent = false; halt = None; is_fence = false; past = past }
+
+-- what takes a step back that took no interrupt
+abbrev pub uninterrupted : Past → PastStep
+uninterrupted past = record { past = past; interrupted = None }
+
+-- a step was made that sends nothing, doesn't end the run, and lets fetch see nothing
+pub record IsPlainStep {D : Type 0} (number : ℕ) (old new : Contents D) (past : PastStep) : Type 0 where
+  pub stands : (s : Setup) (a : Arch) → ContentsStandFor s a old → ContentsStandFor s (step_seq s number a) new
+  pub made : (s : Setup) (a : Arch) → ContentsStandFor s a old → IsMade s number a (going_on past)
+  pub restorable : IsRestorable past.past
 
 -- how the run stands behind a step: the program ended it, or it was the last one
 abbrev pub end_by : Option Halt → Bool → End

@@ -1,5 +1,5 @@
 -- What a run alone that remembers its last steps stands for: a setup, and a number of steps.
-use Rattle.std.specs.Prelude.{◌≡◌, ℕ, ◌+◌, ◌-◌, ◌^◌, max, ◌<◌, ◌≤◌, ◌↔◌, Bool, false, suc, if◌then◌else◌, List, [], ◌∷◌, ◌++◌, length, Option, IfNone, IfSome}
+use Rattle.std.specs.Prelude.{◌≡◌, ℕ, ◌+◌, ◌-◌, ◌^◌, max, ◌<◌, ◌≤◌, ◌↔◌, ◌==◌, Bool, false, suc, if◌then◌else◌, List, [], ◌∷◌, ◌++◌, length, Option, None, IfNone, IfSome}
 use Rattle.circular_buffer.specs.Buffer.{buffer, keep_last}
 use Rattle.mono_model.specs.declared.final_state.End.{End}
 use Rattle.mono_model.specs.declared.final_state.End.TheVariants.{Running}
@@ -10,7 +10,7 @@ use Rattle.func_model.specs.declared.performed.PastStep.{PastStep}
 use Rattle.func_model.specs.declared.trail.Trail.{Trail}
 use Rattle.func_model.specs.Contents.{ContentsStandFor}
 use Rattle.func_model.specs.Undo.{IsRestorable}
-use Rattle.func_model.specs.History.{walk, IsReached, end_at, floor, step_undone}
+use Rattle.func_model.specs.History.{walk, IsReached, end_at, end_by, floor, step_undone}
 
 -- how a run stands behind so many steps, all made
 pub record IsPlace (s : Setup) (made : ℕ) (end : End) : Type 0 where
@@ -47,6 +47,10 @@ remembered past trail = record trail {
   steps = buffer (keep_last trail.steps.capacity (trail.steps.items ++ past ∷ [])) trail.steps.capacity;
   floor = max trail.floor (trail.at - trail.steps.capacity);
 }
+
+-- with one more step made, which doesn't end the run, and remembered
+abbrev pub gone_on : {D : Type 0} → PastStep → Trail D → Trail D
+gone_on past trail = remembered past (record trail { at = trail.at + 1; end = end_by None (trail.at + 1 == trail.cycles) })
 
 -- there is a setup for which it stands
 pub record IsOnTrail {D : Type 0} (trail : Trail D) : Type 0 where

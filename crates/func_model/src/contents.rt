@@ -113,7 +113,7 @@ impl<D: Device> Contents<D> {
     ghost use Rattle.func_model.specs.Telling.{IsNextStep, IsQuiet};
     ghost use Rattle.func_model.specs.Undo.{undone, all_undone, IsRestorable};
     ghost use Rattle.func_model.specs.History.{resumed, step_undone, step_seq};
-    ghost use Rattle.func_model.specs.History.{IsMade, going_on};
+    ghost use Rattle.func_model.specs.History.{IsMade, IsPlainStep};
     ghost use Rattle.func_model.specs.Hart.{FetchedFits, next_found, IsRegister};
     ghost use Rattle.func_model.specs.Telling.{named_by, entry_by, past_by};
 
@@ -574,21 +574,32 @@ impl<D: Device> Contents<D> {
     pub fn make_computed(&mut self, number: u64) -> Option<PastStep>
         requires count { retired_in self.old < 2 ^ 64 - 1 }
         ensures none { IfNone result (self.new ≡ self.old) }
-        ensures stands { IfSome result (λ past. (s : Setup) (a : Arch)
-            → ContentsStandFor s a self.old → ContentsStandFor s (step_seq s number a) self.new) }
-        ensures made { IfSome result (λ past. (s : Setup) (a : Arch)
-            → ContentsStandFor s a self.old → IsMade s number a (going_on past)) }
-        ensures restorable { IfSome result (λ past. IsRestorable past.past) }
+        ensures step { IfSome result (IsPlainStep number self.old self.new) }
         ensures room { self.new.hart.room ≡ self.old.hart.room }
     {
         if self.hart.csrs.timer_pending(number, self.cmp) {
             return None;
         }
         let (_, past) = self.compute(number, &0)?;
-        Some(PastStep {
-            past,
-            interrupted: None,
-        })
+        Some(PastStep::plain(past))
+    }
+
+    /// Makes one step, as `make_computed` does, where the instruction is a load or a store of RAM.
+    #[inline(always)]
+    pub fn make_access(&mut self, number: u64) -> Option<PastStep>
+        requires count { retired_in self.old < 2 ^ 64 - 1 }
+        ensures none { IfNone result (self.new ≡ self.old) }
+        ensures step { IfSome result (IsPlainStep number self.old self.new) }
+        ensures room { self.new.hart.room ≡ self.old.hart.room }
+    {
+        if self.hart.csrs.timer_pending(number, self.cmp) {
+            return None;
+        }
+        if let Some((_, past)) = self.load(number, 0, Some(number)) {
+            return Some(PastStep::plain(past));
+        }
+        let (_, past) = self.store(number, 0)?;
+        Some(PastStep::plain(past))
     }
 
     /// Takes a step of a run alone back.

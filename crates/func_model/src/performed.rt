@@ -51,6 +51,22 @@ pub struct PastStep {
     pub interrupted: Option<Interrupted>,
 }
 
+impl PastStep {
+    ghost use Rattle.std.specs.Prelude.{◌≡◌};
+    ghost use Rattle.func_model.specs.History.{uninterrupted};
+
+    /// What takes a step back that took no timer interrupt.
+    #[inline(always)]
+    pub fn plain(past: Past) -> PastStep
+        ensures plain { result ≡ uninterrupted past }
+    {
+        PastStep {
+            past,
+            interrupted: None,
+        }
+    }
+}
+
 /// What one step of a run alone did.
 #[derive(Clone, Copy, Debug, PartialEq, Eq)]
 pub struct Made {

@@ -1,4 +1,4 @@
-ghost use Rattle.std.specs.Prelude.{◌≡◌, ◌↔◌, ◌≤◌, ◌<◌, ◌+◌, ◌^◌, ℕ, Option, true, false, map};
+ghost use Rattle.std.specs.Prelude.{◌≡◌, ◌↔◌, ◌≤◌, ◌<◌, ◌+◌, ◌-◌, ◌^◌, ℕ, Option, true, false, map};
 ghost use Rattle.std.specs.Prelude.{IfOk, None};
 ghost use Rattle.mono_model.specs.Final.{has_ended};
 ghost use Rattle.func_model.specs.History.{end_by};
@@ -59,7 +59,7 @@ impl<D: Device> Trail<D> {
     ghost use Rattle.func_model.specs.Contents.{ContentsStandFor};
     ghost use Rattle.circular_buffer.specs.Buffer.{buffer};
     ghost use Rattle.func_model.specs.Trail.{TrailStandsFor, IsOnTrail, IsTold, IsBack, IsOpening};
-    ghost use Rattle.func_model.specs.Trail.{remembered};
+    ghost use Rattle.func_model.specs.Trail.{remembered, gone_on};
     ghost use Rattle.func_model.specs.History.{walk};
     ghost use Rattle.func_model.specs.Side.{registers_at};
 
@@ -105,7 +105,7 @@ impl<D: Device> Trail<D> {
             return Some(self.end);
         }
         // Most steps need no frame of what all others need.
-        if self.step_computed() {
+        if self.step_computed() || self.step_access() {
             return None;
         }
         self.step_by_call()
@@ -125,10 +125,36 @@ impl<D: Device> Trail<D> {
         let Some(past) = self.contents.make_computed(self.at) else {
             return false;
         };
+        self.go_on(past);
+        true
+    }
+
+    /// Makes a step, as `step_computed` does, where its instruction is a load or a store of RAM. It
+    /// stays a call: a computed step needs no frame of it.
+    #[inline(never)]
+    fn step_access(&mut self) -> bool
+        requires standing { IsOnTrail self.old }
+        requires going { has_ended self.old.end ≡ false }
+        ensures told { result ≡ true → (s : RunSetup) → TrailStandsFor s self.old
+            → IsTold s self.old self.new None }
+        ensures unchanged { result ≡ false → self.new ≡ self.old }
+    {
+        let Some(past) = self.contents.make_access(self.at) else {
+            return false;
+        };
+        self.go_on(past);
+        true
+    }
+
+    /// Counts and remembers a step that was made and doesn't end the run.
+    #[inline(always)]
+    fn go_on(&mut self, past: PastStep)
+        requires bounded { self.old.at < 2 ^ 64 - 1 }
+        ensures gone { self.new ≡ gone_on past self.old }
+    {
         self.at += 1;
         self.end = end_behind(None, self.at == self.cycles);
         self.note(past);
-        true
     }
 
     /// Makes a step, whatever it does. It stays a call: a computed step needs no frame of it.
@@ -180,14 +206,7 @@ impl<D: Device> Trail<D> {
         self.floor = self
             .floor
             .max(self.at.saturating_sub(self.steps.capacity() as u64));
-        // Where there was no interrupt, nothing of one is moved.
-        let _ = match past.interrupted {
-            None => self.steps.push_back(PastStep {
-                interrupted: None,
-                ..past
-            }),
-            Some(_) => self.steps.push_back(past),
-        };
+        let _ = self.steps.push_back(past);
     }
 
     /// Takes one step back; false, and nothing changed, exactly where the position is the oldest

@@ -10,7 +10,7 @@ returns-then-has_ended g c = record { told = λ s h. over s c.args.self.now h (s
 pub returns : goal.returns
 returns g c = record {
   told = λ s h.
-      let unchanged = c.step_computed.ensures.unchanged c.if-step_computed.false in
+      let unchanged = c.step_access.ensures.unchanged c.if-step_access.false ∙ c.step_computed.ensures.unchanged c.if-step_computed.false in
       subst (λ (x : Trail g.row.D.Denot). IsTold s x c.step_by_call.new.self c.step_by_call.result) unchanged
       (c.step_by_call.ensures.told s (subst (λ (x : Trail g.row.D.Denot). TrailStandsFor s x) (sym unchanged) h));
 }
