@@ -11,3 +11,6 @@ mod time_worker;
 mod worker;
 
 pub use session::Session;
+
+#[cfg(test)]
+mod tests;

@@ -27,7 +27,7 @@ trial_params = record plain_params {
 }
 
 abbrev pub trial : Setup
-trial = record no_setup { params = trial_params; cycles = 11; ring = 4 }
+trial = record no_setup { params = trial_params; cycles = 11; ring = 16 }
 
 -- a fetch that fails at an address
 abbrev pub refused_fetch : ℕ → ℕ → ℕ → Entry

@@ -16,8 +16,8 @@ use std::thread;
 use trace_entry::Entry;
 use trial::{next_word, refused_fetch, setup};
 
-/// How many entries go from one thread to another.
-const ENTRIES: u64 = 5000;
+/// How many entries go from one thread to another, the last three of them by a flush.
+const ENTRIES: u64 = 5003;
 
 /// How many orders go the other way: all but the last of the run.
 const ORDERS: u32 = 88;
@@ -85,7 +85,7 @@ fn push_last<R: Wait + Abort>(rt: &R, func: &mut FuncEnd, room: bool)
     expect_push(rt, func, 3, 3, 12, room);
 }
 
-/// Four entries of two epochs fill the ring of 4; the next one has no room.
+/// Sixteen entries of two epochs fill the ring of 16; the next one has no room.
 #[tactic(auto, using(crate::proofs::Trials::first_of_one, crate::proofs::Trials::second_of_one))]
 fn fill<R: Wait + Abort>(rt: &R, func: &mut FuncEnd)
     requires run { func.old.setup ≡ trial }
@@ -93,7 +93,7 @@ fn fill<R: Wait + Abort>(rt: &R, func: &mut FuncEnd)
     ensures run { func.new.setup ≡ trial }
     ensures last { func.new.last ≡ Some (1, 2) }
 {
-    push_first(rt, func, 2);
+    push_first(rt, func, 14);
     expect_push(rt, func, 1, 1, 4, true);
     expect_push(rt, func, 1, 2, 0, true);
     push_last(rt, func, false);
@@ -115,10 +115,14 @@ fn full_ring_hands_an_entry_back(rt: HostRuntime) -> Result<(), Fail> {
     fill(&rt, &mut func);
     expect_entries(&rt, &mut time, 0, 1);
     push_last(&rt, &mut func, true);
-    expect_entries(&rt, &mut time, 1, 2);
-    for (epoch, number, addr) in [(1, 1, 4), (1, 2, 0), (3, 3, 12)] {
+    expect_entries(&rt, &mut time, 1, 14);
+    for (epoch, number, addr) in [(1, 1, 4), (1, 2, 0)] {
         assert_eq!(rt; time.next(&rt), Some(refused_fetch(epoch, number, addr)));
     }
+    // The last entry waits for more of them, or for a flush.
+    assert_eq!(rt; time.next(&rt), None);
+    func.flush(&rt);
+    assert_eq!(rt; time.next(&rt), Some(refused_fetch(3, 3, 12)));
     assert_eq!(rt; time.next(&rt), None);
     Ok(())
 }
@@ -130,6 +134,8 @@ fn ring_is_drained_once_its_entries_are_taken(rt: HostRuntime) -> Result<(), Fai
     let (mut func, mut time) = rings(rt.alloc(), &setup)?;
     assert!(rt; func.is_drained());
     push_first(&rt, &mut func, 2);
+    assert_eq!(rt; time.next(&rt), None);
+    func.flush(&rt);
     expect_entries(&rt, &mut time, 0, 1);
     assert!(rt; !func.is_drained());
     expect_entries(&rt, &mut time, 1, 2);

@@ -2,6 +2,7 @@
 use super::{image_of, put_words};
 use fsim_ports::MemoryFiles;
 use std::alloc::Global;
+use std::str;
 use std::test::Fail;
 
 /// Programs by the names of their files, each by its words; most end in a pass by x6 and x7.
@@ -158,7 +159,7 @@ const UART: &str = concat!(
 );
 
 /// Machine files by their names.
-const MACHINES: [(&str, &str); 15] = [
+const MACHINES: [(&str, &str); 16] = [
     ("plain", ""),
     ("four", "core.window = 4\ncore.stations = 4\n"),
     ("eight", "core.window = 8"),
@@ -254,6 +255,18 @@ const MACHINES: [(&str, &str); 15] = [
             "dcache.miss = 10\n",
         ),
     ),
+    // All as wide as it may be.
+    (
+        "broad",
+        concat!(
+            "core.fetch = 8\n",
+            "core.commit = 8\n",
+            "core.window = 256\n",
+            "core.stations = 256\n",
+            "alu.count = 8\n",
+            "div.latency = 64\n",
+        ),
+    ),
     ("bad", "core.window = 0"),
     (
         "levels",
@@ -303,6 +316,7 @@ pub fn files_of_runs(alloc: Global) -> Result<MemoryFiles, Fail> {
     }
     files.add("uart", uart(alloc)?.as_slice())?;
     files.add("flags", flagged(alloc)?.as_slice())?;
+    files.add("long", long(alloc)?.as_slice())?;
     files.add("-", image_of(alloc, super::SMALLEST_PASS)?.as_slice())?;
     files.add("in", b"AB")?;
     files.add("nothing", b" \r\n")?;
@@ -323,6 +337,14 @@ fn flagged(alloc: Global) -> Result<Vec<u8>, Fail> {
     let mut image = front.to_vec(alloc)?;
     put_words(&mut image, super::SMALLEST_PASS)?;
     Ok(image)
+}
+
+/// A DIV, and 2,000 instructions without a branch that don't wait for it.
+fn long(alloc: Global) -> Result<Vec<u8>, Fail> {
+    let mut words = b"06400513 02054633".to_vec(alloc)?;
+    words.extend_from_slice(repeated(alloc, b" 00100293", 2000)?.as_slice())?;
+    words.extend_from_slice(b" 00100337 000053b7 55538393 00732023")?;
+    image_of(alloc, str::from_utf8(words.as_slice()).unwrap_or(""))
 }
 
 /// The image of the driver.

@@ -36,7 +36,7 @@ const ZERO: [&str; 20] = [
 ];
 
 /// Words, the exit status, and all lines that don't stand at 0, cut by `; `.
-const REPORTS: [(&str, u8, &str); 64] = [
+const REPORTS: [(&str, u8, &str); 66] = [
     (
         "func pass",
         0,
@@ -490,6 +490,25 @@ const REPORTS: [(&str, u8, &str); 64] = [
         concat!(
             "status: limit; cycles: 31; exceptions: 10; fetched: 11; pc: 00000000; ",
             "mepc=00000000 mcause=00000001 mtval=00000000 mtimecmp=ffffffffffffffff",
+        ),
+    ),
+    // The window is full behind a DIV, and then eight instructions leave in each cycle.
+    (
+        "run long broad --cycles 66",
+        2,
+        concat!(
+            "status: limit; cycles: 66; instructions: 1; fetched: 257; pc: 80000004; ",
+            "x8=00000000 x9=00000000 x10=00000064 x11=00000000",
+        ),
+    ),
+    (
+        "run long broad",
+        0,
+        concat!(
+            "status: pass; cycles: 318; instructions: 2006; fetched: 2257; pc: 80001f58; ",
+            "x4=00000000 x5=00000001 x6=00100000 x7=00005555; ",
+            "x8=00000000 x9=00000000 x10=00000064 x11=00000000; ",
+            "x12=ffffffff x13=00000000 x14=00000000 x15=00000000",
         ),
     ),
     // An instruction is fetched in one cycle, begins in the next, is done in the one behind that,

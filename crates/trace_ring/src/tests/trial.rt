@@ -38,7 +38,7 @@ pub fn setup(alloc: Global) -> Setup
         input: Bytes::new(Vec::new(alloc)),
         cycles: 11,
         output: 0,
-        ring: 4,
+        ring: 16,
     }
 }
 

@@ -6,4 +6,4 @@ use Rattle.trace_ring.proofs.tests.fill.Goals as goal
 
 pub expect_push-requires-clause-follows : goal.expect_push-requires-clause-follows
 expect_push-requires-clause-follows g c =
-    subst (λ (last : Option (ℕ × ℕ)). Follows trial last 1 1) (sym c.push_first.ensures.last) (goes_to_one 1)
+    subst (λ (last : Option (ℕ × ℕ)). Follows trial last 1 1) (sym c.push_first.ensures.last) (goes_to_one 13)
