@@ -23,6 +23,9 @@ REFUSED = {
     "run a": 'run lacks MACHINE; "./fast help run" says more',
     "sweep a": 'sweep lacks MACHINES; "./fast help sweep" says more',
     "func a b": '"b" is a word too many; "./fast help func" says more',
+    "inorder a b c d": '"d" is a word too many; "./fast help inorder" says more',
+    "inorder a b c": '"./fast help inorder" says more',
+    "inorder a": 'inorder lacks MACHINE; "./fast help inorder" says more',
     "run a b --cycle 3": (
         '"--cycle" is no option; is "--cycles" meant? "./fast help run" says more'
     ),

@@ -1,6 +1,6 @@
 #!/bin/sh
 # Runs the program of ../compare on three machines with the same latencies, predictor and caches, and prints a line of
-# counts for each. The in-order machine's plan is empty.
+# counts for each.
 here=$(cd "$(dirname "$0")" && pwd) || exit 1
 fast=$here/../../fast
 image=$here/../compare/work.elf
@@ -21,5 +21,5 @@ line() {
 }
 
 line plain run "$image" "$here/plain.toml"
-line in-order inorder "$image" "$wide" /dev/null
+line in-order inorder "$image" "$wide"
 line wide run "$image" "$wide"

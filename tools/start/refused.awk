@@ -23,12 +23,13 @@ function read_option(words) {
     if (words[4] == "or") most[words[1]] = words[5]
 }
 
-# The names and the options of a command: `{fast} COMMAND NAMES.. [--OPTION VALUE]..`.
+# The names and the options of a command: `{fast} COMMAND NAMES.. [NAME].. [--OPTION VALUE]..`.
 function read_form(line,    words, at, many) {
     many = split(line, words, " ")
     counts[command] = 0
     for (at = 3; at <= many; at++) {
         if (words[at] ~ /^[A-Z]+$/) names[command, ++counts[command]] = words[at]
+        if (words[at] ~ /^\[[A-Z]+\]$/) optional[command]++
         if (words[at] ~ /^\[--/) has[command, substr(words[at], 2)] = 1
     }
 }
@@ -84,7 +85,7 @@ function fault_of(count,    at, word, value, sign, found, is_name) {
     for (at = 2; at <= count; at++) {
         word = ARGV[at]
         if (word == "--" && !is_name) { is_name = 1; continue }
-        if (is_name || word !~ /^-./) { held++; if (held > counts[used]) extra = extra ? extra : word; continue }
+        if (is_name || word !~ /^-./) { held++; if (held > counts[used] + optional[used]) extra = extra ? extra : word; continue }
         sign = index(word, "=")
         value = sign ? substr(word, sign + 1) : (ARGV[at + 1] ~ /^--/ ? "" : ARGV[at + 1])
         found = option_fault(sign ? substr(word, 1, sign - 1) : word, value)

@@ -1,4 +1,4 @@
--- A command that grows by a name or an option.
+-- A command that grows by arguments, one after the other.
 use Rattle.std.proofs.Common.{◌≡◌, ◌∙◌, ◌+◌, ◌<◌, ℕ, List, [], ◌∷◌, ◌++◌, ap, sym, length, map, take, append_assoc, append-nil, add-one}
 use Rattle.std.specs.List.{slice_index_or}
 use Rattle.std.specs.Borrow.{Bor}
@@ -6,22 +6,16 @@ use Rattle.std.proofs.lemmas.List.{map-append}
 use Rattle.std.proofs.Math.Seq.{take-suc}
 use Rattle.clap.specs.Walk.{Rule, Text}
 use Rattle.clap.specs.Simple.{App, with_rule}
-use Rattle.fast_cli.specs.Command.{command_of, name_rule, option_rule}
+use Rattle.fast_cli.specs.Command.{with_rules}
 
-with_rules : (word : Text) (rules more : List Rule) → rules ≡ more → record (command_of word [] []) { top = record (command_of word [] []).top { rules = rules } }
-    ≡ record (command_of word [] []) { top = record (command_of word [] []).top { rules = more } }
-with_rules word rules more e = ap (λ rs. record (command_of word [] []) { top = record (command_of word [] []).top { rules = rs } }) e
+abbrev on_rules : App → List Rule → App
+on_rules a rules = record a { top = record a.top { rules = rules } }
 
-pub command_of-name : (word : Text) (names : List Text) (name : Text)
-    → with_rule (command_of word names []) (name_rule name) ≡ command_of word (names ++ name ∷ []) []
-command_of-name word names name = with_rules word _ _
-    (ap (λ rs. rs ++ name_rule name ∷ []) (append-nil (map name_rule names)) ∙ sym (append-nil (map name_rule (names ++ name ∷ [])) ∙ map-append name_rule names (name ∷ [])))
+pub with_rules-none : (a : App) → a ≡ with_rules [] a
+with_rules-none a = ap (on_rules a) (sym (append-nil a.top.rules))
 
-pub command_of-option : (word : Text) (names options : List Text) (option : Text)
-    → with_rule (command_of word names options) (option_rule option) ≡ command_of word names (options ++ option ∷ [])
-command_of-option word names options option = with_rules word _ _
-    (append_assoc (map name_rule names) (map option_rule options) (option_rule option ∷ [])
-    ∙ ap (λ rs. map name_rule names ++ rs) (sym (map-append option_rule options (option ∷ []))))
+with_rules-more : (a : App) (rules : List Rule) (rule : Rule) → with_rule (with_rules rules a) rule ≡ with_rules (rules ++ rule ∷ []) a
+with_rules-more a rules rule = ap (on_rules a) (append_assoc a.top.rules rules (rule ∷ []))
 
 -- the texts behind references, with one more of them
 pub texts-take-suc : (xs : List (Bor Text)) (i : ℕ) (d : Bor Text) → i < length xs
@@ -29,17 +23,13 @@ pub texts-take-suc : (xs : List (Bor Text)) (i : ℕ) (d : Bor Text) → i < len
 texts-take-suc xs i d below =
     sym (rw (add-one, take-suc xs i d below) (map-append (λ s. s.now) (take i xs) (slice_index_or xs i d ∷ [])))
 
-pub command_of-next_name : (word : Text) (names : List (Bor Text)) (i : ℕ) (d : Bor Text) (a b : App) → i < length names
-    → b ≡ with_rule a (name_rule (slice_index_or names i d).now) → a ≡ command_of word (map (λ n. n.now) (take i names)) []
-    → b ≡ command_of word (map (λ n. n.now) (take (i + 1) names)) []
-command_of-next_name word names i d a b below added so_far =
-    added ∙ ap (λ x. with_rule x (name_rule (slice_index_or names i d).now)) so_far ∙ command_of-name word (map (λ n. n.now) (take i names)) (slice_index_or names i d).now
-    ∙ ap (λ ns. command_of word ns []) (texts-take-suc names i d below)
-
-pub command_of-next_option : (word : Text) (names : List Text) (options : List (Bor Text)) (i : ℕ) (d : Bor Text) (a b : App) → i < length options
-    → b ≡ with_rule a (option_rule (slice_index_or options i d).now) → a ≡ command_of word names (map (λ n. n.now) (take i options))
-    → b ≡ command_of word names (map (λ n. n.now) (take (i + 1) options))
-command_of-next_option word names options i d a b below added so_far =
-    added ∙ ap (λ x. with_rule x (option_rule (slice_index_or options i d).now)) so_far
-    ∙ command_of-option word names (map (λ n. n.now) (take i options)) (slice_index_or options i d).now
-    ∙ ap (λ os. command_of word names os) (texts-take-suc options i d below)
+-- one argument more, by the rule for its name
+pub with_rules-next : (by : Text → Rule) (names : List (Bor Text)) (i : ℕ) (d : Bor Text) (first a b : App) → i < length names
+    → b ≡ with_rule a (by (slice_index_or names i d).now) → a ≡ with_rules (map by (map (λ n. n.now) (take i names))) first
+    → b ≡ with_rules (map by (map (λ n. n.now) (take (i + 1) names))) first
+with_rules-next by names i d first a b below added so_far =
+    let texts = map (λ (n : Bor Text). n.now) (take i names) in
+    let name = (slice_index_or names i d).now in
+    added ∙ ap (λ x. with_rule x (by name)) so_far ∙ with_rules-more first (map by texts) (by name)
+    ∙ ap (λ rules. with_rules rules first) (sym (map-append by texts (name ∷ [])))
+    ∙ ap (λ ts. with_rules (map by ts) first) (texts-take-suc names i d below)

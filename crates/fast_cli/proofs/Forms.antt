@@ -12,7 +12,7 @@ use Rattle.clap.specs.Walk.{Row, Rule, default_rows, has_long, has_row, idle, no
 use Rattle.clap.specs.declared.error.kind.ErrorKind.TheVariants.{MissingRequiredArgument}
 use Rattle.fast_cli.specs.Words.{◌>>=◌, Form, Text, Values, has_names, rest_names, values_in}
 use Rattle.fast_cli.specs.Command.{ReadsAs, accepted, command_by, parsed, values_among}
-use Rattle.fast_cli.specs.Line.{back_form, func_form, inorder_form, plan_form, run_form, sched_form, soak_form, sweep_form}
+use Rattle.fast_cli.specs.Line.{back_form, func_form, inorder_form, run_form, sched_form, soak_form, sweep_form}
 use Rattle.fast_cli.specs.Table.{command_in}
 use Rattle.fast_cli.specs.declared.table.CommandName.{CommandName}
 use Rattle.fast_cli.specs.declared.table.CommandName.TheVariants as names
@@ -93,7 +93,7 @@ parsed-form form c rules words text =
     let rows = (settled c end).rows in
     let walk_kinds = walk_fault s [] (walk_from nothing_held) words in
     let end_kinds = settle_fault c false end in
-    let on = (all form c rules words text).0 form.names idle 1 [] None tt rules.places refl in
+    let on = (all form c rules words text).0 (form.names ++ form.optional) idle 1 [] None tt rules.places refl in
     let g : Values → Option Values = λ values. if has_names form values then Some values else None in
     let level : built_fault a nothing_held words ≡ or_else walk_kinds (or_else end_kinds (check_fault s rows false)) =
     (λ i. level_fault s [] nothing_held words (entered-none s stop i) (entered_fault-none s stop i))
@@ -137,7 +137,7 @@ func_rules = record {
   long = λ name. long_options name func_form.options [] refl;
   short = λ x. refl;
   known = (refl, (refl, (refl, tt)));
-  places = (refl, refl, refl);
+  places = (true, refl, refl, refl);
   defaults = (refl, (refl, (refl, (refl, tt))));
   needs = λ rows. needs_one (is_given (codes "IMAGE") rows);
 }
@@ -147,19 +147,29 @@ run_rules = record {
   long = λ name. long_options name run_form.options [] refl;
   short = λ x. refl;
   known = (refl, (refl, (refl, (refl, (refl, tt)))));
-  places = (refl, refl, (refl, refl, refl));
+  places = (true, refl, refl, (true, refl, refl, refl));
   defaults = (refl, (refl, (refl, (refl, (refl, (refl, (refl, tt)))))));
   needs = λ rows. needs_two (is_given (codes "IMAGE") rows) (is_given (codes "MACHINE") rows);
 }
 
-plan_rules : (word : Text) → AreRulesOf (plan_form word) (rules_of (plan_form word))
-plan_rules word = record {
-  long = λ name. long_options name (plan_form word).options [] refl;
+sched_rules : AreRulesOf sched_form (rules_of sched_form)
+sched_rules = record {
+  long = λ name. long_options name sched_form.options [] refl;
   short = λ x. refl;
   known = (refl, (refl, (refl, (refl, tt))));
-  places = (refl, refl, (refl, refl, (refl, refl, refl)));
+  places = (true, refl, refl, (true, refl, refl, (true, refl, refl, refl)));
   defaults = (refl, (refl, (refl, (refl, (refl, (refl, (refl, tt)))))));
   needs = λ rows. needs_three (is_given (codes "IMAGE") rows) (is_given (codes "MACHINE") rows) (is_given (codes "PLAN") rows);
+}
+
+inorder_rules : AreRulesOf inorder_form (rules_of inorder_form)
+inorder_rules = record {
+  long = λ name. long_options name inorder_form.options [] refl;
+  short = λ x. refl;
+  known = (refl, (refl, (refl, (refl, tt))));
+  places = (true, refl, refl, (true, refl, refl, (false, refl, refl, refl)));
+  defaults = (refl, (refl, (refl, (refl, (refl, (refl, (refl, tt)))))));
+  needs = λ rows. needs_two (is_given (codes "IMAGE") rows) (is_given (codes "MACHINE") rows);
 }
 
 soak_rules : AreRulesOf soak_form (rules_of soak_form)
@@ -167,7 +177,7 @@ soak_rules = record {
   long = λ name. refl;
   short = λ x. refl;
   known = tt;
-  places = (refl, refl, refl);
+  places = (true, refl, refl, refl);
   defaults = (refl, tt);
   needs = λ rows. needs_one (is_given (codes "SEED") rows);
 }
@@ -177,7 +187,7 @@ back_rules = record {
   long = λ name. long_options name back_form.options [] refl;
   short = λ x. refl;
   known = (refl, (refl, (refl, (refl, tt))));
-  places = (refl, refl, (refl, refl, refl));
+  places = (true, refl, refl, (true, refl, refl, refl));
   defaults = (refl, (refl, (refl, (refl, (refl, (refl, tt))))));
   needs = λ rows. needs_two (is_given (codes "IMAGE") rows) (is_given (codes "SCRIPT") rows);
 }
@@ -187,7 +197,7 @@ sweep_rules = record {
   long = λ name. long_options name sweep_form.options (rest_arg 2 (codes "MACHINES") ∷ []) refl;
   short = λ x. refl;
   known = (refl, (refl, (refl, (refl, tt))));
-  places = (refl, refl, (refl, refl));
+  places = (true, refl, refl, (refl, refl));
   defaults = (refl, (refl, (refl, (refl, (refl, (refl, tt))))));
   needs = λ rows. needs_two (is_given (codes "IMAGE") rows) (is_given (codes "MACHINES") rows);
 }
@@ -210,15 +220,13 @@ run_reads : ReadsAs run_form
 unfolding clap_on_literals
 run_reads = reads-free run_form refl refl (λ words. refl) run_rules
 
-plan_reads : (word : Text) → ReadsAs (plan_form word)
-unfolding clap_on_literals
-plan_reads word = reads-free (plan_form word) refl refl (λ words. refl) (plan_rules word)
-
 sched_reads : ReadsAs sched_form
-sched_reads = plan_reads (codes "sched")
+unfolding clap_on_literals
+sched_reads = reads-free sched_form refl refl (λ words. refl) sched_rules
 
 inorder_reads : ReadsAs inorder_form
-inorder_reads = plan_reads (codes "inorder")
+unfolding clap_on_literals
+inorder_reads = reads-free inorder_form refl refl (λ words. refl) inorder_rules
 
 soak_reads : ReadsAs soak_form
 unfolding clap_on_literals

@@ -52,17 +52,17 @@ shape form c = built_shape form.word c
 -- ---- the walk at a name
 
 module _ (form : Form) (c : List Rule) where
-  name_walk : (h : Held) (waiting : Waiting) (position : ℕ) (is_trailing : Bool) (word : Text) (words : List Text) (name : Text)
-      → arg_by_index c position ≡ Some (name_arg position name) → word_met c [] is_trailing waiting position word h ≡ (h, value)
+  name_walk : (needed : Bool) (h : Held) (waiting : Waiting) (position : ℕ) (is_trailing : Bool) (word : Text) (words : List Text) (name : Text)
+      → arg_by_index c position ≡ Some (name_arg needed position name) → word_met c [] is_trailing waiting position word h ≡ (h, value)
       → word_fault (shape form c) [] is_trailing waiting word h ≡ []
       → outcome (shape form c) (stands h waiting position is_trailing) (word ∷ words)
       ≡ after (settle_fault c false h) (outcome (shape form c) (stands (pended c h name word) idle (min (position + 1) usize_max) (is_trailing || false)) words)
-  name_walk h waiting position is_trailing word words name found met no_fault =
+  name_walk needed h waiting position is_trailing word words name found met no_fault =
       let fault : step_fault (shape form c) position h value ≡ settle_fault c false h =
       ap (λ o. option_map_or (λ a. positional_fault c false a h) o (stray_fault (shape form c))) found
-      ∙ and_false (is_pending (name_arg position name) h.pending) [] (settle_fault c false h) in
-      let holds : positional_held c (name_arg position name) word h ≡ pended c h name word =
-      ap (pushed name word) (and_false (is_pending (name_arg position name) h.pending) h (settled c h)) in
+      ∙ and_false (is_pending (name_arg needed position name) h.pending) [] (settle_fault c false h) in
+      let holds : positional_held c (name_arg needed position name) word h ≡ pended c h name word =
+      ap (pushed name word) (and_false (is_pending (name_arg needed position name) h.pending) h (settled c h)) in
       let on : after_step c word (stands h waiting position is_trailing) h value ≡ stands (pended c h name word) idle (min (position + 1) usize_max) (is_trailing || false) =
       ap (λ o. to_positional c o word (stands h waiting position is_trailing) h) found
       ∙ ap (λ k. stands k idle (min (position + 1) usize_max) (is_trailing || false)) holds in
@@ -120,21 +120,21 @@ module _ (form : Form) (c : List Rule) where
     subst IfGiven (sym (outcome-nil (shape form c) (stands h waiting position only_names))) (accepted-given (settle_fault c false h) (settled c h).rows given),
   )
 
-  name_step : (only_names : Bool) (name : Text) (names : List Text) (waiting : Waiting) (position : ℕ) (h : Held) (word : Text) (words : List Text)
-      → arg_by_index c position ≡ Some (name_arg position name) → arg_by_id c name ≡ Some (name_arg position name)
+  name_step : (needed only_names : Bool) (name : Text) (names : List Text) (waiting : Waiting) (position : ℕ) (h : Held) (word : Text) (words : List Text)
+      → arg_by_index c position ≡ Some (name_arg needed position name) → arg_by_id c name ≡ Some (name_arg needed position name)
       → word_met c [] only_names waiting position word h ≡ (h, value) → word_fault (shape form c) [] only_names waiting word h ≡ []
       → (only_names || false) ≡ only_names
       → ((p : Place) → after_word form word p only_names None ≡ as_name form word p p.names)
       → Reads only_names names idle (min (position + 1) usize_max) (pended c h name word) words
       → Reads only_names (name ∷ names) waiting position h (word ∷ words)
-  name_step only_names name names waiting position h word words found known met no_fault same asks later =
+  name_step needed only_names name names waiting position h word words found known met no_fault same asks later =
       let rows = (settled c h).rows in
       let walk : outcome (shape form c) (stands h waiting position only_names) (word ∷ words)
       ≡ after (settle_fault c false h) (outcome (shape form c) (stands (pended c h name word) idle (min (position + 1) usize_max) only_names) words) =
-      name_walk h waiting position only_names word words name found met no_fault
+      name_walk needed h waiting position only_names word words name found met no_fault
       ∙ ap (λ b. after (settle_fault c false h) (outcome (shape form c) (stands (pended c h name word) idle (min (position + 1) usize_max) b) words)) same in
       let used_now : option_map values_among (now (shape form c) (pended c h name word)) ≡ with_only name word (values_among rows) =
-      ap (option_map values_among) (now-pended (shape form c) h name word (name_arg position name) known) ∙ name_use position name word rows in
+      ap (option_map values_among) (now-pended (shape form c) h name word (name_arg needed position name) known) ∙ name_use needed position name word rows in
       let after_name : (with_only name word (values_among rows) >>= (λ values. values_from form (at_place names None only_names values) words))
       ≡ values_from form (at_place (name ∷ names) None only_names (values_among rows)) (word ∷ words) =
       sym (values_from-next form (at_place (name ∷ names) None only_names (values_among rows)) word words
@@ -215,9 +215,9 @@ module _ (form : Form) (c : List Rule) where
       → Reads only_names left w place (pended c h id word) words)
       → Reads only_names names waiting position h (word ∷ words)
   place_step only_names (name ∷ names) waiting position h word words places given met no_fault same asks later =
-      name_step only_names name names waiting position h word words places.0 places.1 met no_fault same asks
-      (later name names idle (min (position + 1) usize_max) tt places.2
-      (subst AreGiven (sym (settled-pended c h name word (name_arg position name) places.1)) (name_given position name word (settled c h).rows given)))
+      name_step places.0 only_names name names waiting position h word words places.1 places.2 met no_fault same asks
+      (later name names idle (min (position + 1) usize_max) tt places.3
+      (subst AreGiven (sym (settled-pended c h name word (name_arg places.0 position name) places.2)) (name_given places.0 position name word (settled c h).rows given)))
   place_step only_names [] waiting position h word words places given met no_fault same asks later = go form.rest refl places
     where
       go : (rest : Option Text) → form.rest ≡ rest → LastPlace c position rest → Reads only_names [] waiting position h (word ∷ words)
@@ -439,7 +439,7 @@ module _ (form : Form) (c : List Rule) where
       outcome-nil (shape form c) (stands (held rows (Some (name, []))) waiting position true)
       ∙ ap (λ kinds. accepted kinds (settled c (held rows (Some (name, [])))).rows) (no_value rows name known)
   lacks_value (word ∷ words) (n ∷ names) waiting position rows name known places =
-      name_walk (held rows (Some (name, []))) waiting position true word words n places.0 refl refl
+      name_walk places.0 (held rows (Some (name, []))) waiting position true word words n places.1 refl refl
       ∙ ap (λ t. after t (outcome (shape form c) (stands (pended c (held rows (Some (name, []))) n word) idle (min (position + 1) usize_max) true) words)) (no_value rows name known)
   lacks_value (word ∷ words) [] waiting position rows name known places = go form.rest places
     where

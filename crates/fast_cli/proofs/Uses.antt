@@ -20,8 +20,8 @@ use Rattle.fast_cli.proofs.Rows.{AreGiven, has_row-values, values-with_values, w
 abbrev pub option_arg : Text → Rule
 option_arg name = filled (option_rule name)
 
-abbrev pub name_arg : ℕ → Text → Rule
-name_arg place name = record (filled (name_rule name)) { index = Some place }
+abbrev pub name_arg : Bool → ℕ → Text → Rule
+name_arg needed place name = record (filled (name_rule needed name)) { index = Some place }
 
 abbrev pub rest_arg : ℕ → Text → Rule
 rest_arg place name = record (filled (names_rule name)) { index = Some place }
@@ -48,7 +48,8 @@ LastPlace c place (Some name) = (arg_by_index c place ≡ Some (rest_arg place n
 abbrev pub Places : List Rule → ℕ → List Text → Option Text → Type 0
 Places c place [] rest = LastPlace c place rest
 Places c place (name ∷ names) rest =
-    (arg_by_index c place ≡ Some (name_arg place name)) × (arg_by_id c name ≡ Some (name_arg place name)) × Places c (min (place + 1) usize_max) names rest
+    (needed : Bool) × (arg_by_index c place ≡ Some (name_arg needed place name)) × (arg_by_id c name ≡ Some (name_arg needed place name))
+    × Places c (min (place + 1) usize_max) names rest
 
 abbrev pub NoDefaults : List Rule → Type 0
 NoDefaults [] = Unit {0}
@@ -59,7 +60,7 @@ pub record AreRulesOf (form : Form) (c : List Rule) : Type 0 where
   pub long : (name : Text) → arg_by_long c name ≡ option_map option_arg (find (λ option. bytes_eq option name) form.options)
   pub short : (x : ℕ) → arg_by_short c x ≡ None
   pub known : Known c form.options
-  pub places : Places c 1 form.names form.rest
+  pub places : Places c 1 (form.names ++ form.optional) form.rest
   pub defaults : NoDefaults c
   pub needs : (rows : List Row) → list_any (λ a. a.required && not (is_given a.id rows)) c
       ≡ not (list_all (λ name. is_given name rows) (form.names ++ rest_names form.rest))
@@ -91,9 +92,10 @@ pub option_use : (name v : Text) (rows : List Row)
     → option_map values_among (accepted (use_fault false (option_arg name) (v ∷ []) rows) (used (option_arg name) (v ∷ []) rows)) ≡ with_only name v (values_among rows)
 option_use name v rows = set_use name _ v rows
 
-pub name_use : (place : ℕ) (name v : Text) (rows : List Row)
-    → option_map values_among (accepted (use_fault false (name_arg place name) (v ∷ []) rows) (used (name_arg place name) (v ∷ []) rows)) ≡ with_only name v (values_among rows)
-name_use place name v rows = set_use name _ v rows
+pub name_use : (needed : Bool) (place : ℕ) (name v : Text) (rows : List Row)
+    → option_map values_among (accepted (use_fault false (name_arg needed place name) (v ∷ []) rows) (used (name_arg needed place name) (v ∷ []) rows))
+    ≡ with_only name v (values_among rows)
+name_use needed place name v rows = set_use name _ v rows
 
 pub rest_use : (place : ℕ) (name v : Text) (rows : List Row)
     → option_map values_among (accepted (use_fault false (rest_arg place name) (v ∷ []) rows) (used (rest_arg place name) (v ∷ []) rows)) ≡ Some (with_value name v (values_among rows))
@@ -104,8 +106,8 @@ rest_use place name v rows =
 pub option_given : (name v : Text) (rows : List Row) → AreGiven rows → AreGiven (used (option_arg name) (v ∷ []) rows)
 option_given name v rows given = with_values-given name _ (v ∷ []) (without name rows) (without-given name rows given)
 
-pub name_given : (place : ℕ) (name v : Text) (rows : List Row) → AreGiven rows → AreGiven (used (name_arg place name) (v ∷ []) rows)
-name_given place name v rows given = with_values-given name _ (v ∷ []) (without name rows) (without-given name rows given)
+pub name_given : (needed : Bool) (place : ℕ) (name v : Text) (rows : List Row) → AreGiven rows → AreGiven (used (name_arg needed place name) (v ∷ []) rows)
+name_given needed place name v rows given = with_values-given name _ (v ∷ []) (without name rows) (without-given name rows given)
 
 pub rest_given : (place : ℕ) (name v : Text) (rows : List Row) → AreGiven rows → AreGiven (used (rest_arg place name) (v ∷ []) rows)
 rest_given place name v rows given = with_values-given name _ (v ∷ []) rows given

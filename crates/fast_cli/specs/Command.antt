@@ -1,5 +1,5 @@
 -- A command's form as clap's builder makes it, and what clap finds in words.
-use Rattle.std.specs.Prelude.{◌≡◌, List, [], ◌∷◌, ◌++◌, map, Option, Some, None, true}
+use Rattle.std.specs.Prelude.{◌≡◌, Bool, true, false, List, [], ◌∷◌, ◌++◌, map, Option, Some, None}
 use Rattle.clap.specs.Walk.{Row, Rule, all_of, rows_of}
 use Rattle.clap.specs.Simple.{App, matches_of, new_rule, new_shape, with_rule}
 use Rattle.clap.specs.Matches.{found_of}
@@ -9,9 +9,9 @@ use Rattle.clap.specs.declared.builder.action.ArgAction.TheVariants.{Append}
 use Rattle.clap.specs.declared.parser.matches.ArgMatches.{ArgMatches}
 use Rattle.fast_cli.specs.Words.{AreText, Form, Text, Values, values_in}
 
--- a name, which must be there
-abbrev pub name_rule : Text → Rule
-name_rule name = record (new_rule name) { required = true }
+-- a name, which must be there or may be
+abbrev pub name_rule : Bool → Text → Rule
+name_rule needed name = record (new_rule name) { required = needed }
 
 -- one name or more
 abbrev pub names_rule : Text → Rule
@@ -21,12 +21,11 @@ names_rule name = record (new_rule name) { required = true; action = Some Append
 abbrev pub option_rule : Text → Rule
 option_rule name = record (new_rule name) { long = Some name }
 
--- a command with these names, in this order, and these options; `--help` and `--version` are none,
--- and the first of its words isn't the program's name
-abbrev pub command_of : Text → List Text → List Text → App
-command_of word names options = record {
+-- a command without names and options; `--help` and `--version` are none, and the first of its words
+-- isn't the program's name
+abbrev pub bare_command : Text → App
+bare_command word = record {
   top = record (new_shape word) {
-    rules = map name_rule names ++ map option_rule options;
     no_binary_name = true;
     disable_help_flag = true;
     disable_version_flag = true;
@@ -34,12 +33,24 @@ command_of word names options = record {
   subs = [];
 }
 
+-- the command with more arguments, in this order
+abbrev pub with_rules : List Rule → App → App
+with_rules rules command =
+    record command { top = record command.top { rules = command.top.rules ++ rules } }
+
+abbrev pub with_names : Bool → List Text → App → App
+with_names needed names = with_rules (map (name_rule needed) names)
+
+abbrev pub with_options : List Text → App → App
+with_options options = with_rules (map option_rule options)
+
 abbrev pub with_rest : Option Text → App → App
 with_rest None command = command
 with_rest (Some name) command = with_rule command (names_rule name)
 
 abbrev pub command_by : Form → App
-command_by form = with_rest form.rest (command_of form.word form.names form.options)
+command_by form = with_rest form.rest (with_options form.options (with_names false form.optional
+    (with_names true form.names (bare_command form.word))))
 
 -- the values among what clap found
 abbrev pub values_among : List Row → Values

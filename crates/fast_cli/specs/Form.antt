@@ -7,6 +7,7 @@ abbrev pub form_of : FormInCode → Form
 form_of f = record {
   word = f.word.now;
   names = map (λ name. name.now) f.names.now;
+  optional = map (λ name. name.now) f.optional.now;
   rest = option_map (λ name. name.now) f.rest;
   options = map (λ option. option.now) f.options.now;
 }

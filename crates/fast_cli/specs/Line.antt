@@ -2,7 +2,8 @@
 use Rattle.std.specs.Prelude.{List, [], ◌∷◌, Option, Some, None, IsSome, codes, find}
 use Rattle.std.specs.Str.{bytes_eq}
 use Rattle.fast_cli.specs.Words.{◌>>=◌, Form, Text, Values, values_in}
-use Rattle.fast_cli.specs.Values.{given_number_at, name_at, names_at, number_at, options_at}
+use Rattle.fast_cli.specs.Values.{given_number_at, name_at, name_if_given, names_at, number_at}
+use Rattle.fast_cli.specs.Values.{options_at}
 use Rattle.fast_cli.specs.declared.line.Line.{Line}
 use Rattle.fast_cli.specs.declared.line.Line.TheVariants.{Back, Func, Inorder, Run, Sched, Soak}
 use Rattle.fast_cli.specs.declared.line.Line.TheVariants.{Sweep}
@@ -26,6 +27,7 @@ abbrev pub func_form : Form
 func_form = record {
   word = codes "func";
   names = codes "IMAGE" ∷ [];
+  optional = [];
   rest = None;
   options = limits;
 }
@@ -44,6 +46,7 @@ abbrev pub run_form : Form
 run_form = record {
   word = codes "run";
   names = codes "IMAGE" ∷ codes "MACHINE" ∷ [];
+  optional = [];
   rest = None;
   options = codes "threads" ∷ codes "ring" ∷ limits;
 }
@@ -59,18 +62,15 @@ run_at values = do
 abbrev pub run_command : Command
 run_command = record { form = run_form; read = run_at }
 
--- a command that plays a plan on a machine
-abbrev pub plan_form : Text → Form
-plan_form word = record {
-  word = word;
+-- `sched IMAGE MACHINE PLAN`
+abbrev pub sched_form : Form
+sched_form = record {
+  word = codes "sched";
   names = codes "IMAGE" ∷ codes "MACHINE" ∷ codes "PLAN" ∷ [];
+  optional = [];
   rest = None;
   options = codes "ring" ∷ limits;
 }
-
--- `sched IMAGE MACHINE PLAN`
-abbrev pub sched_form : Form
-sched_form = plan_form (codes "sched")
 
 unfoldable pub sched_at : Values → Option Line
 sched_at values = do
@@ -88,6 +88,7 @@ abbrev pub soak_form : Form
 soak_form = record {
   word = codes "soak";
   names = codes "SEED" ∷ [];
+  optional = [];
   rest = None;
   options = [];
 }
@@ -105,6 +106,7 @@ abbrev pub back_form : Form
 back_form = record {
   word = codes "back";
   names = codes "IMAGE" ∷ codes "SCRIPT" ∷ [];
+  optional = [];
   rest = None;
   options = codes "history" ∷ limits;
 }
@@ -120,15 +122,21 @@ back_at values = do
 abbrev pub back_command : Command
 back_command = record { form = back_form; read = back_at }
 
--- `inorder IMAGE MACHINE PLAN`
+-- `inorder IMAGE MACHINE`, with a plan or without one
 abbrev pub inorder_form : Form
-inorder_form = plan_form (codes "inorder")
+inorder_form = record {
+  word = codes "inorder";
+  names = codes "IMAGE" ∷ codes "MACHINE" ∷ [];
+  optional = codes "PLAN" ∷ [];
+  rest = None;
+  options = codes "ring" ∷ limits;
+}
 
 unfoldable pub inorder_at : Values → Option Line
 inorder_at values = do
   image ← name_at (codes "IMAGE") values
   machine ← name_at (codes "MACHINE") values
-  plan ← name_at (codes "PLAN") values
+  plan ← name_if_given (codes "PLAN") values
   options ← options_at values
   Some (Inorder image machine plan options)
 
@@ -140,6 +148,7 @@ abbrev pub sweep_form : Form
 sweep_form = record {
   word = codes "sweep";
   names = codes "IMAGE" ∷ [];
+  optional = [];
   rest = Some (codes "MACHINES");
   options = codes "ring" ∷ limits;
 }

@@ -49,9 +49,9 @@ abbrev pub name_or_none : Option Text → Option (Option Text)
 name_or_none None = Some None
 name_or_none (Some text) = option_map (λ name. Some name) (name_in text)
 
--- the name of the console's input, if there is one
-unfoldable pub input_at : Values → Option (Option Text)
-input_at values = name_or_none (first_at (codes "input") values)
+-- the name that may be there
+unfoldable pub name_if_given : Text → Values → Option (Option Text)
+name_if_given id values = name_or_none (first_at id values)
 
 -- the options of a line that gives none
 unfoldable pub default_options : Options
@@ -63,5 +63,5 @@ options_at values = do
   ring ← number_at (codes "ring") 1 65536 default_options.ring values
   cycles ← number_at (codes "cycles") 1 1099511627776 default_options.cycles values
   output ← number_at (codes "output") 0 16777216 default_options.output values
-  input ← input_at values
+  input ← name_if_given (codes "input") values
   Some (record { ring = ring; cycles = cycles; output = output; input = input })

@@ -21,11 +21,12 @@ Some value >>= next = next value
 
 -- ---- what a command takes
 
--- the command's word; its names in their order; a name that stands for all names behind those, of
--- which one must be there; and its options, each of which has a value
+-- the command's word; its names in their order; names that may stand behind those; a name that stands
+-- for all names behind these, of which one must be there; and its options, each of which has a value
 pub record Form : Type 0 where
   pub word : Text
   pub names : List Text
+  pub optional : List Text
   pub rest : Option Text
   pub options : List Text
 
@@ -144,7 +145,7 @@ abbrev pub rest_names : Option Text → List Text
 rest_names None = []
 rest_names (Some name) = name ∷ []
 
--- each name has a value
+-- each name that must be there has a value
 abbrev pub has_names : Form → Values → Bool
 has_names form values =
     list_all (λ name. is_some (values name)) (form.names ++ rest_names form.rest)
@@ -153,7 +154,7 @@ has_names form values =
 unfoldable pub values_in : Form → List Text → Option Values
 values_in form words = do
   values ← values_from form (record {
-    names = form.names;
+    names = form.names ++ form.optional;
     waiting = None;
     only_names = false;
     values = no_values;

@@ -1,11 +1,10 @@
 //! The commands as `clap` builds and parses them.
-ghost use Rattle.std.specs.Prelude.{◌≡◌, ◌≢◌, ◌↔◌, IfOk, [], map, true, Some, None, Err};
+ghost use Rattle.std.specs.Prelude.{◌≡◌, ◌≢◌, ◌↔◌, IfOk, map, true, Some, None, Err};
 ghost use Rattle.clap.specs.Values.{kind_of};
 ghost use Rattle.clap.specs.Words.{app_of, is_simple_and_free, with_rule};
 ghost use Rattle.fast_cli.specs.Words.{AreText, values_in};
-ghost use Rattle.fast_cli.specs.Command.{ReadsAs, command_by, command_of, name_rule, names_rule};
-ghost use Rattle.fast_cli.specs.Command.{option_rule, parsed};
-ghost use Rattle.fast_cli.specs.Command.{values_of};
+ghost use Rattle.fast_cli.specs.Command.{ReadsAs, bare_command, command_by, name_rule, names_rule};
+ghost use Rattle.fast_cli.specs.Command.{option_rule, parsed, values_of, with_names, with_options};
 ghost use Rattle.fast_cli.specs.Form.{form_of};
 
 use crate::form::Form;
@@ -16,7 +15,7 @@ use std::alloc::{AllocError, Global};
 
 // A command with no names and options yet.
 fn bare_command<'a>(alloc: Global, word: &'a str) -> Command<'a>
-    ensures { app_of result ≡ command_of word.entry.now [] [] }
+    ensures { app_of result ≡ bare_command word.entry.now }
 {
     Command::new(alloc, word)
         .no_binary_name(true)
@@ -24,16 +23,49 @@ fn bare_command<'a>(alloc: Global, word: &'a str) -> Command<'a>
         .disable_version_flag(true)
 }
 
+// The command with names, each of which must be there, or may be.
+fn with_names<'a>(
+    alloc: Global,
+    command: Command<'a>,
+    names: &'a [&'a str],
+    needed: bool,
+) -> Result<Command<'a>, AllocError>
+    ensures { IfOk result (λ c. app_of c
+        ≡ with_names needed (map (λ name. name.now) names.entry.now) (app_of command.entry)) }
+{
+    let mut longer = command;
+    for name in names {
+        longer = with_name(alloc, longer, name, needed)?;
+    }
+    Ok(longer)
+}
+
 fn with_name<'a>(
     alloc: Global,
     command: Command<'a>,
     name: &'a str,
+    needed: bool,
 ) -> Result<Command<'a>, AllocError>
     ensures { IfOk result (λ c. app_of c
-        ≡ with_rule (app_of command.entry) (name_rule name.entry.now)) }
+        ≡ with_rule (app_of command.entry) (name_rule needed name.entry.now)) }
 {
-    let arg = Arg::new(alloc, name).required(true);
+    let arg = Arg::new(alloc, name).required(needed);
     command.arg(arg)
+}
+
+fn with_options<'a>(
+    alloc: Global,
+    command: Command<'a>,
+    options: &'a [&'a str],
+) -> Result<Command<'a>, AllocError>
+    ensures { IfOk result (λ c. app_of c
+        ≡ with_options (map (λ option. option.now) options.entry.now) (app_of command.entry)) }
+{
+    let mut longer = command;
+    for option in options {
+        longer = with_option(alloc, longer, option)?;
+    }
+    Ok(longer)
 }
 
 fn with_option<'a>(
@@ -48,7 +80,8 @@ fn with_option<'a>(
     command.arg(arg)
 }
 
-fn with_names<'a>(
+// The command with a name for all names behind its others.
+fn with_rest<'a>(
     alloc: Global,
     command: Command<'a>,
     name: &'a str,
@@ -62,27 +95,15 @@ fn with_names<'a>(
     command.arg(arg)
 }
 
-// The command with its names but for the rest, and with its options.
-fn with_places<'a>(alloc: Global, form: &Form<'a>) -> Result<Command<'a>, AllocError>
-    ensures { IfOk result (λ c. app_of c
-        ≡ command_of (form_of form.now).word (form_of form.now).names (form_of form.now).options) }
-{
-    let mut command = bare_command(alloc, form.word);
-    for name in form.names {
-        command = with_name(alloc, command, name)?;
-    }
-    for option in form.options {
-        command = with_option(alloc, command, option)?;
-    }
-    Ok(command)
-}
-
 fn make_command<'a>(alloc: Global, form: &Form<'a>) -> Result<Command<'a>, AllocError>
     ensures { IfOk result (λ c. app_of c ≡ command_by (form_of form.now)) }
 {
-    let command = with_places(alloc, form)?;
+    let command = bare_command(alloc, form.word);
+    let command = with_names(alloc, command, form.names, true)?;
+    let command = with_names(alloc, command, form.optional, false)?;
+    let command = with_options(alloc, command, form.options)?;
     match form.rest {
-        Some(name) => with_names(alloc, command, name),
+        Some(name) => with_rest(alloc, command, name),
         None => Ok(command),
     }
 }

@@ -18,7 +18,9 @@ pub fn commands_with_names_alone()
     ensures back { line (words_of (codes "back a s"))
         ≡ Some (Back (codes "a") (codes "s") 65536 defaults) }
     ensures inorder { line (words_of (codes "inorder a m p"))
-        ≡ Some (Inorder (codes "a") (codes "m") (codes "p") defaults) }
+        ≡ Some (Inorder (codes "a") (codes "m") (Some (codes "p")) defaults) }
+    ensures inorder_without_a_plan { line (words_of (codes "inorder a m"))
+        ≡ Some (Inorder (codes "a") (codes "m") None defaults) }
     ensures sweep_one { line (words_of (codes "sweep a m"))
         ≡ Some (Sweep (codes "a") (codes "m" ∷ []) defaults) }
     ensures sweep_three { line (words_of (codes "sweep a m n m"))
@@ -45,7 +47,7 @@ pub fn each_option()
     ensures back { line (words_of (codes "back a s --history 1 --cycles 2"))
         ≡ Some (Back (codes "a") (codes "s") 1 (record defaults { cycles = 2 })) }
     ensures inorder { line (words_of (codes "inorder a m p --ring 1"))
-        ≡ Some (Inorder (codes "a") (codes "m") (codes "p") (record defaults { ring = 1 })) }
+        ≡ Some (Inorder (codes "a") (codes "m") (Some (codes "p")) (record defaults { ring = 1 })) }
     ensures sweep { line (words_of (codes "sweep a m --ring 1"))
         ≡ Some (Sweep (codes "a") (codes "m" ∷ []) (record defaults { ring = 1 })) }
     ensures func_has_no_ring { line (words_of (codes "func a --ring 1")) ≡ None }
@@ -182,6 +184,9 @@ pub fn words_without_a_line()
     ensures command_alone { line (words_of (codes "run")) ≡ None }
     ensures too_few_names { line (words_of (codes "run a")) ≡ None }
     ensures too_many_names { line (words_of (codes "run a m p")) ≡ None }
+    ensures a_plan_too_many { line (words_of (codes "inorder a m p q")) ≡ None }
+    ensures no_plan { line (words_of (codes "sched a m")) ≡ None }
+    ensures empty_plan { line (words_of (codes "inorder a m ")) ≡ None }
     ensures no_machine { line (words_of (codes "sweep a")) ≡ None }
     ensures empty_command { line (words_of (codes " run a m")) ≡ None }
     ensures empty_name { line (words_of (codes "run  m")) ≡ None }

@@ -5,6 +5,8 @@ pub(crate) struct Form<'a> {
     pub word: &'a str,
     /// Its names, in their order.
     pub names: &'a [&'a str],
+    /// Names that may stand behind those.
+    pub optional: &'a [&'a str],
     /// A name for all names behind those, of which one must be there.
     pub rest: Option<&'a str>,
     /// Its options, each with a value.

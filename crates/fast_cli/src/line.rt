@@ -40,11 +40,11 @@ pub enum Line {
         history: u32,
         options: Options,
     },
-    /// Plays a plan on the in-order machine, and goes on to its end.
+    /// Plays a plan, or none, on the in-order machine, and goes on to its end.
     Inorder {
         image: Text,
         machine: Text,
-        plan: Text,
+        plan: Option<Text>,
         options: Options,
     },
     /// Runs the image on each of 1 to 64 machines.

@@ -7,9 +7,9 @@ ghost use Rattle.fast_cli.specs.Ranges.{IsInRange};
 ghost use Rattle.fast_cli.specs.Table.{command_in};
 
 use crate::line::{Line, UsageFault};
-use crate::own::{own_name, own_names, own_options};
+use crate::own::{own_name, own_name_if_given, own_names, own_options};
 use crate::table::CommandName;
-use crate::values::{given_number_at, name_at, names_at, number_at, options_at};
+use crate::values::{given_number_at, name_at, name_if_given, names_at, number_at, options_at};
 use clap::ArgMatches;
 use std::alloc::Global;
 
@@ -129,12 +129,12 @@ fn inorder_at(alloc: Global, matches: &ArgMatches<'_>) -> Result<Line, UsageFaul
 {
     let image = name_at(matches, "IMAGE").ok_or(UsageFault::Words)?;
     let machine = name_at(matches, "MACHINE").ok_or(UsageFault::Words)?;
-    let plan = name_at(matches, "PLAN").ok_or(UsageFault::Words)?;
+    let plan = name_if_given(matches, "PLAN").ok_or(UsageFault::Words)?;
     let options = options_at(matches).ok_or(UsageFault::Words)?;
     Ok(Line::Inorder {
         image: own_name(alloc, image)?,
         machine: own_name(alloc, machine)?,
-        plan: own_name(alloc, plan)?,
+        plan: own_name_if_given(alloc, plan)?,
         options: own_options(alloc, &options)?,
     })
 }

@@ -24,10 +24,13 @@ pub(crate) fn own_names(alloc: Global, names: &[&str]) -> Result<Texts, AllocErr
     Ok(Texts::new(list))
 }
 
-fn own_input(alloc: Global, input: Option<&str>) -> Result<Option<Text>, AllocError>
-    ensures { IfOk result (λ own. own ≡ option_map (λ name. name.now) input.entry) }
+pub(crate) fn own_name_if_given(
+    alloc: Global,
+    name: Option<&str>,
+) -> Result<Option<Text>, AllocError>
+    ensures { IfOk result (λ own. own ≡ option_map (λ text. text.now) name.entry) }
 {
-    match input {
+    match name {
         Some(name) => Ok(Some(own_name(alloc, name)?)),
         None => Ok(None),
     }
@@ -36,7 +39,7 @@ fn own_input(alloc: Global, input: Option<&str>) -> Result<Option<Text>, AllocEr
 pub(crate) fn own_options(alloc: Global, given: &GivenOptions<'_>) -> Result<Options, AllocError>
     ensures { IfOk result (λ own. own ≡ options_in given.now) }
 {
-    let input = own_input(alloc, given.input)?;
+    let input = own_name_if_given(alloc, given.input)?;
     Ok(Options {
         ring: given.ring,
         cycles: given.cycles,

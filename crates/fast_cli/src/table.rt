@@ -1,7 +1,7 @@
 //! The table of commands: their words, and what stands behind each.
-ghost use Rattle.std.specs.Prelude.{◌≡◌, None, map, option_map};
+ghost use Rattle.std.specs.Prelude.{◌≡◌, [], None, map, option_map};
 ghost use Rattle.fast_cli.specs.Form.{form_of};
-ghost use Rattle.fast_cli.specs.Line.{named_command, plan_form};
+ghost use Rattle.fast_cli.specs.Line.{named_command};
 ghost use Rattle.fast_cli.specs.Table.{command_in};
 
 use crate::form::Form;
@@ -45,14 +45,25 @@ pub(crate) fn form_for(name: CommandName) -> Form<'static>
             &["IMAGE", "MACHINE"],
             &["threads", "ring", "cycles", "input", "output"],
         ),
-        CommandName::Sched => plan_form("sched"),
+        CommandName::Sched => form(
+            "sched",
+            &["IMAGE", "MACHINE", "PLAN"],
+            &["ring", "cycles", "input", "output"],
+        ),
         CommandName::Soak => form("soak", &["SEED"], &[]),
         CommandName::Back => form(
             "back",
             &["IMAGE", "SCRIPT"],
             &["history", "cycles", "input", "output"],
         ),
-        CommandName::Inorder => plan_form("inorder"),
+        CommandName::Inorder => Form {
+            optional: &["PLAN"],
+            ..form(
+                "inorder",
+                &["IMAGE", "MACHINE"],
+                &["ring", "cycles", "input", "output"],
+            )
+        },
         CommandName::Sweep => Form {
             rest: Some("MACHINES"),
             ..form("sweep", &["IMAGE"], &["ring", "cycles", "input", "output"])
@@ -69,6 +80,7 @@ fn form(
     ensures form { form_of result ≡ record {
       word = word.now;
       names = map (λ name. name.now) names.now;
+      optional = [];
       rest = None;
       options = map (λ option. option.now) options.now;
     } }
@@ -76,18 +88,8 @@ fn form(
     Form {
         word,
         names,
+        optional: &[],
         rest: None,
         options,
     }
-}
-
-/// A command that plays a plan on a machine.
-fn plan_form(word: &'static str) -> Form<'static>
-    ensures form { form_of result ≡ plan_form word.now }
-{
-    form(
-        word,
-        &["IMAGE", "MACHINE", "PLAN"],
-        &["ring", "cycles", "input", "output"],
-    )
 }

@@ -5,8 +5,8 @@ ghost use Rattle.fast_cli.specs.Command.{values_of};
 ghost use Rattle.fast_cli.specs.Given.{options_in};
 ghost use Rattle.fast_cli.specs.Number.{is_between};
 ghost use Rattle.fast_cli.specs.Ranges.{HasRanges, IsFrom};
-ghost use Rattle.fast_cli.specs.Values.{default_options, first_at, given_number_at, input_at};
-ghost use Rattle.fast_cli.specs.Values.{is_name, name_at, name_in, names_at, number_at, options_at};
+ghost use Rattle.fast_cli.specs.Values.{default_options, first_at, given_number_at, is_name};
+ghost use Rattle.fast_cli.specs.Values.{name_at, name_if_given, name_in, names_at, number_at, options_at};
 
 use crate::line::Options;
 use crate::number::number_in;
@@ -104,13 +104,13 @@ pub(crate) fn number_at(
     }
 }
 
-/// The name of the console's input, if there is one.
-#[tactic(auto, unfolding(crate::specs::Values::input_at))]
-fn input_at<'a>(matches: &ArgMatches<'a>) -> Option<Option<&'a str>>
-    ensures { option_map (λ input. option_map (λ s. s.now) input) result
-        ≡ input_at (values_of matches.now) }
+/// The name that may be there.
+#[tactic(auto, unfolding(crate::specs::Values::name_if_given))]
+pub(crate) fn name_if_given<'a>(matches: &ArgMatches<'a>, id: &str) -> Option<Option<&'a str>>
+    ensures { option_map (λ name. option_map (λ s. s.now) name) result
+        ≡ name_if_given id.now (values_of matches.now) }
 {
-    match value_at(matches, "input") {
+    match value_at(matches, id) {
         Some(text) => Some(Some(name_in(text)?)),
         None => Some(None),
     }
@@ -149,7 +149,7 @@ pub(crate) fn options_at<'a>(matches: &ArgMatches<'a>) -> Option<GivenOptions<'a
     let ring = number_at(matches, "ring", 1, 65_536, u64::from(defaults.ring))?;
     let cycles = number_at(matches, "cycles", 1, 1_099_511_627_776, defaults.cycles)?;
     let output = number_at(matches, "output", 0, 16_777_216, u64::from(defaults.output))?;
-    let input = input_at(matches)?;
+    let input = name_if_given(matches, "input")?;
     Some(GivenOptions {
         ring: ring as u32,
         cycles,

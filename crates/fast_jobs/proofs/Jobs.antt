@@ -2,23 +2,24 @@
 use Rattle.std.proofs.Common.{◌≡◌, ◌≢◌, ◌≤◌, ◌+◌, ℕ, true, List, [], ◌∷◌, ◌++◌, length, map, Option, Some, None, Result, Ok, Err, ap, sym, ◌∙◌, subst, arith}
 use Rattle.std.proofs.lemmas.List.{length-map}
 use Rattle.mono_model.specs.Setup.{input_limit}
+use Rattle.report_text.specs.declared.status.Role.TheVariants as role
 use Rattle.report_text.specs.declared.status.Status.{Status}
 use Rattle.report_text.specs.declared.status.Status.TheVariants.{Memory}
 use Rattle.fast_cli.specs.declared.line.Line.{Line}
 use Rattle.fast_cli.specs.declared.line.Line.TheVariants as line
 use Rattle.fast_cli.specs.declared.line.Options.{Options}
 use Rattle.fast_jobs.specs.declared.files.NamedFile.{NamedFile}
-use Rattle.fast_jobs.specs.Files.{input_of, input_under}
+use Rattle.fast_jobs.specs.Files.{file_if_named, input_of}
 use Rattle.fast_jobs.specs.Gives.{Gives}
 use Rattle.fast_jobs.specs.declared.job.Job.TheVariants.{Sweep}
 use Rattle.fast_jobs.specs.declared.job.SingleJob.{SingleJob}
 use Rattle.fast_jobs.specs.declared.job.SingleJob.TheVariants.{Run}
 use Rattle.fast_jobs.specs.declared.sweep_files.SweepFiles.{SweepFiles}
-use Rattle.fast_jobs.specs.Job.{back_job, bytes_at, func_job, inorder_job, is_still, job_of, run_job, sched_job, single_job, soak_setup}
+use Rattle.fast_jobs.specs.Job.{back_job, bytes_at, func_job, inorder_job, inorder_run_job, is_still, job_of, run_job, sched_job, single_job, soak_setup}
 use Rattle.fast_jobs.specs.Reading.{AreWithin}
 
 -- what the console reads, behind the other files, is within its limit
-none-within : (name : Option (List ℕ)) (contents : List (List ℕ)) → AreWithin (input_under name) contents → length (bytes_at contents 0) ≤ input_limit
+none-within : (name : Option (List ℕ)) (contents : List (List ℕ)) → AreWithin (file_if_named role.Input name) contents → length (bytes_at contents 0) ≤ input_limit
 none-within None [] within = omega arith
 none-within None (bytes ∷ contents) within = absurd within
 none-within (Some name) [] within = absurd within
@@ -53,5 +54,6 @@ still-single (line.Run image machine threads options) sets contents files still 
 still-single (line.Sched image machine plan options) sets contents files still same = never-sweep (sched_job options contents) files same
 still-single (line.Soak seed) sets contents files still same = never-sweep (Ok (Run (soak_setup seed))) files same
 still-single (line.Back image script history options) sets contents files still same = never-sweep (back_job history options contents) files same
-still-single (line.Inorder image machine plan options) sets contents files still same = never-sweep (inorder_job options contents) files same
+still-single (line.Inorder image machine (Some plan) options) sets contents files still same = never-sweep (inorder_job options contents) files same
+still-single (line.Inorder image machine None options) sets contents files still same = never-sweep (inorder_run_job options contents) files same
 still-single (line.Sweep image machines options) sets contents files still same = cc

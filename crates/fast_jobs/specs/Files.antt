@@ -12,13 +12,14 @@ use Rattle.fast_jobs.specs.declared.files.NamedFile.{NamedFile}
 abbrev pub file : Role → List ℕ → NamedFile
 file role name = record { role = role; name = name }
 
--- what the console reads, if the options name it
-abbrev pub input_under : Option (List ℕ) → List NamedFile
-input_under None = []
-input_under (Some name) = file role.Input name ∷ []
+-- the file of a role, if there is a name
+abbrev pub file_if_named : Role → Option (List ℕ) → List NamedFile
+file_if_named role None = []
+file_if_named role (Some name) = file role name ∷ []
 
+-- what the console reads, if the options name it
 abbrev pub input_of : Options → List NamedFile
-input_of options = input_under options.input
+input_of options = file_if_named role.Input options.input
 
 -- the files that are read for a line, in their order
 abbrev pub files_of : Line → List NamedFile
@@ -30,8 +31,8 @@ files_of (Sched image machine plan options) =
 files_of (Soak seed) = []
 files_of (Back image script history options) =
     file role.Image image ∷ file role.Script script ∷ input_of options
-files_of (Inorder image machine plan options) =
-    file role.Image image ∷ file role.Machine machine ∷ file role.Plan plan ∷ input_of options
+files_of (Inorder image machine plan options) = file role.Image image ∷ file role.Machine machine
+    ∷ file_if_named role.Plan plan ++ input_of options
 files_of (Sweep image machines options) =
     file role.Image image ∷ map (file role.Machine) machines ++ input_of options
 

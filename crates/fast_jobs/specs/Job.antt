@@ -1,6 +1,6 @@
 -- What a line and the bytes of its files ask for: a job, or the first refusal.
 use Rattle.std.specs.Prelude.{◌≡◌, ◌≤◌, ℕ, true, false, Bool, List, [], length}
-use Rattle.std.specs.Prelude.{Result, Ok, ◌==◌}
+use Rattle.std.specs.Prelude.{Some, None, Result, Ok, ◌==◌}
 use Rattle.mono_model.specs.declared.params.Params.{Params}
 use Rattle.mono_model.specs.declared.setup.Setup.{Setup}
 use Rattle.mono_model.specs.Setup.{input_limit, is_setup, ram_range}
@@ -66,6 +66,13 @@ inorder_job options contents = do
   planned ← planned_run options contents
   Ok (Inorder (inorder_setup planned.setup) planned.plan)
 
+-- the same with the empty plan
+unfoldable pub inorder_run_job : Options → List (List ℕ) → Result SingleJob Status
+inorder_run_job options contents = do
+  loaded ← timed_image (bytes_at contents 1) (bytes_at contents 0)
+  Ok (Inorder (inorder_setup (setup_for loaded.params options loaded.image
+      (bytes_at contents 2))) [])
+
 -- a script over the run of the plain machine is tested behind the image
 unfoldable pub back_job : ℕ → Options → List (List ℕ) → Result SingleJob Status
 back_job history options contents = do
@@ -92,8 +99,10 @@ job_of (line.Sched image machine plan options) sets contents = single_job (sched
 job_of (line.Soak seed) sets contents = single_job (Ok (Run (soak_setup seed)))
 job_of (line.Back image script history options) sets contents =
     single_job (back_job history options contents)
-job_of (line.Inorder image machine plan options) sets contents =
+job_of (line.Inorder image machine (Some plan) options) sets contents =
     single_job (inorder_job options contents)
+job_of (line.Inorder image machine None options) sets contents =
+    single_job (inorder_run_job options contents)
 job_of (line.Sweep image machines options) sets contents = do
   files ← swept machines options sets contents
   Ok (Sweep files)

@@ -26,6 +26,12 @@ pub fn files_of(alloc: Global, line: &Line) -> Result<Vec<NamedFile>, NoMemory>
             machine,
             options,
             ..
+        }
+        | Line::Inorder {
+            image,
+            machine,
+            plan: None,
+            options,
         } => files_of_run(alloc, image, &[(Role::Machine, machine)], options),
         Line::Sched {
             image,
@@ -36,7 +42,7 @@ pub fn files_of(alloc: Global, line: &Line) -> Result<Vec<NamedFile>, NoMemory>
         | Line::Inorder {
             image,
             machine,
-            plan,
+            plan: Some(plan),
             options,
         } => files_of_plan(alloc, image, machine, plan, options),
         Line::Back {

@@ -5,7 +5,7 @@ ghost use Rattle.fast_jobs.specs.Files.{files_of};
 ghost use Rattle.fast_jobs.specs.Gives.{Gives};
 ghost use Rattle.fast_jobs.specs.declared.job.SingleJob.{SingleJob as AnyRun};
 ghost use Rattle.inorder_model.specs.Standing.{IsInorder};
-ghost use Rattle.fast_jobs.specs.Job.{back_job, bytes_at, func_job, inorder_job};
+ghost use Rattle.fast_jobs.specs.Job.{back_job, bytes_at, func_job, inorder_job, inorder_run_job};
 ghost use Rattle.fast_jobs.specs.Job.{inorder_setup, job_of, planned_run, run_job, sched_job};
 ghost use Rattle.fast_jobs.specs.Job.{CanBegin, CanStart, sets_for, soak_setup};
 ghost use Rattle.fast_jobs.specs.Reading.{AreWithin};
@@ -68,7 +68,16 @@ pub fn job_of(alloc: Global, line: &Line, sets: usize, contents: Vec<Bytes>) -> 
             options,
             ..
         } => back_job(alloc, *history, options, contents)?,
-        Line::Inorder { options, .. } => inorder_job(alloc, options, contents)?,
+        Line::Inorder {
+            plan: Some(_),
+            options,
+            ..
+        } => inorder_job(alloc, options, contents)?,
+        Line::Inorder {
+            plan: None,
+            options,
+            ..
+        } => inorder_run_job(alloc, options, contents)?,
         Line::Sweep {
             machines,
             options,
@@ -155,6 +164,26 @@ fn inorder_job(alloc: Global, options: &Options, contents: Vec<Bytes>) -> Result
 {
     let planned = planned_run(alloc, options, contents)?;
     Ok(SingleJob::Inorder(inorder_setup(planned.setup), planned.plan))
+}
+
+/// The run of an image on the in-order machine, with the empty plan; the files are image, machine
+/// file and input.
+#[tactic(auto, unfolding(crate::specs::Job::inorder_run_job))]
+fn inorder_run_job(
+    alloc: Global,
+    options: &Options,
+    contents: Vec<Bytes>,
+) -> Result<SingleJob, Refusal>
+    requires ranges { HasRanges options.now }
+    requires input { length (bytes_at contents.items 2) ≤ input_limit }
+    ensures job { Gives (inorder_run_job options.now contents.items) result }
+    ensures can { IfOk result (λ job. CanStart job) }
+{
+    let files = contents.as_slice();
+    let loaded = timed_image(alloc, bytes_at(files, 1), bytes_at(files, 0))?;
+    let input = take_at(alloc, contents, 2);
+    let setup = setup_for(loaded.params, options, loaded.image, input);
+    Ok(SingleJob::Inorder(inorder_setup(setup), Plan::empty(alloc)))
 }
 
 /// The setup with a window for the four stages behind Fetch of the in-order machine.

@@ -1,4 +1,4 @@
-ghost use Rattle.std.specs.Prelude.{◌≡◌, IfOk, IfErr};
+ghost use Rattle.std.specs.Prelude.{◌≡◌, [], IfOk, IfErr};
 ghost use Rattle.fast_jobs.specs.Gives.{Gives};
 ghost use Rattle.fast_jobs.specs.Job.{plan_in};
 ghost use Rattle.fast_jobs.specs.Plan.{IsAdded, IsBadAt, event_of, is_blank};
@@ -34,6 +34,15 @@ impl Plan {
             add(&mut events, place as u64, *byte)?;
         }
         Ok(Plan { events })
+    }
+
+    /// The plan without events.
+    pub fn empty(alloc: Global) -> Plan
+        ensures none { result ≡ [] }
+    {
+        Plan {
+            events: Vec::new(alloc),
+        }
     }
 
     /// The events.

@@ -67,7 +67,7 @@ fn files_of(alloc: Global) -> Result<MemoryFiles, Fail> {
 
 /// Lines and their refusals, in the order in which these are tested. `reference/out/reference`
 /// with a line's words writes them too.
-const REFUSED: [(&str, u8, &str); 39] = [
+const REFUSED: [(&str, u8, &str); 41] = [
     ("func none", 13, "fast: missing: image\n"),
     ("func none --input none", 13, "fast: missing: image\n"),
     ("func pass --input none", 13, "fast: missing: input\n"),
@@ -119,6 +119,12 @@ const REFUSED: [(&str, u8, &str); 39] = [
     ("back pass script", 21, "fast: bad script: 4\n"),
     ("back pass script --input bad", 21, "fast: bad script: 4\n"),
     ("inorder pass empty bad", 18, "fast: bad plan: 2\n"),
+    (
+        "inorder short zero",
+        12,
+        "fast: machine: range core.window 0\n",
+    ),
+    ("inorder short empty", 11, "fast: image: short\n"),
 ];
 
 fn refused() -> &'static [(&'static str, u8, &'static str)] {

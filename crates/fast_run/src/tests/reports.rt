@@ -612,7 +612,7 @@ const REPORTS: [(&str, u8, &str); 66] = [
 ];
 
 /// The same of the in-order machine.
-const IN_ORDER: [(&str, u8, &str); 4] = [
+const IN_ORDER: [(&str, u8, &str); 5] = [
     (
         "inorder pass plain nothing",
         0,
@@ -632,6 +632,15 @@ const IN_ORDER: [(&str, u8, &str); 4] = [
     ),
     (
         "inorder loop plain ahead --ring 16",
+        0,
+        concat!(
+            "status: pass; cycles: 38; instructions: 25; fetched: 37; squashed: 9; ",
+            "branches: 10; mispredicted: 9; pc: 8000001c; ",
+            "x4=00000000 x5=00000000 x6=00100000 x7=00005555",
+        ),
+    ),
+    (
+        "inorder loop plain --ring 16",
         0,
         concat!(
             "status: pass; cycles: 38; instructions: 25; fetched: 37; squashed: 9; ",

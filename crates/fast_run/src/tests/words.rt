@@ -9,7 +9,7 @@ const USAGE: &str = concat!(
     "back IMAGE SCRIPT, inorder IMAGE MACHINE PLAN, sweep IMAGE MACHINES\n",
 );
 
-const REFUSED: [&str; 36] = [
+const REFUSED: [&str; 38] = [
     "",
     "--help",
     "walk a",
@@ -19,6 +19,8 @@ const REFUSED: [&str; 36] = [
     "func a b",
     "run a",
     "run a m p",
+    "sched a m",
+    "inorder a m p q",
     "run --help",
     "run  m",
     "run a m --ring 0",
@@ -49,7 +51,7 @@ const REFUSED: [&str; 36] = [
 ];
 
 /// Lines by the file that they lack.
-const LINES: [(&str, &str); 17] = [
+const LINES: [(&str, &str); 18] = [
     ("run n m", "fast: missing: image\n"),
     ("run a n", "fast: missing: machine\n"),
     ("run --ring=8 a n", "fast: missing: machine\n"),
@@ -70,6 +72,7 @@ const LINES: [(&str, &str); 17] = [
     ("back a s --history 2", "fast: missing: script\n"),
     ("back a m --input i", "fast: missing: input\n"),
     ("inorder a m p", "fast: missing: plan\n"),
+    ("inorder a m --input i", "fast: missing: input\n"),
 ];
 
 fn refused() -> &'static [&'static str] {
