@@ -32,6 +32,10 @@ REFUSED = {
     "func a --threads=2": 'func has no option "--threads"; "./fast help func" says more',
     "func a --ring 1 --ring 2": 'func has no option "--ring"; "./fast help func" says more',
     "run a b --ring 1 --ring=2": '"--ring" stands twice; "./fast help run" says more',
+    "run a b --pipeline lane": (
+        '--pipeline takes window or inorder; "./fast help run" says more'
+    ),
+    "run a b --pipeline inorder c": '"c" is a word too many; "./fast help run" says more',
     "run a b --threads 3": '--threads takes 1 to 2; "./fast help run" says more',
     "run a b --cycles 0": '--cycles takes 1 to 1099511627776; "./fast help run" says more',
     "func a --cycles x": '"x" is no number, and --cycles wants one; "./fast help func" says more',

@@ -13,7 +13,7 @@ function read_help(    file, line, words, at, are_options) {
     }
 }
 
-# What an option takes: a name, or a number of a range.
+# What an option takes: a name, a number of a range, or one of two words.
 function read_option(words) {
     takes[words[1]] = words[2]
     gsub(/,/, "", words[3])
@@ -73,6 +73,8 @@ function option_fault(option, value,    own, it, both) {
     if (option in given) return "\"" option "\" stands twice"
     given[option] = 1
     if (value == "") return "\"" option "\" has no " (takes[option] == "N" ? "number" : "name")
+    if (takes[option] == "P" && value != least[option] && value != most[option])
+        return option " takes " least[option] " or " most[option]
     if (takes[option] != "N") return ""
     if (!is_number(value)) return "\"" value "\" is no number, and " option " wants one"
     if (value + 0 < least[option] + 0 || value + 0 > most[option] + 0)

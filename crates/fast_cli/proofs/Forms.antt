@@ -146,9 +146,9 @@ run_rules : AreRulesOf run_form (rules_of run_form)
 run_rules = record {
   long = λ name. long_options name run_form.options [] refl;
   short = λ x. refl;
-  known = (refl, (refl, (refl, (refl, (refl, tt)))));
+  known = (refl, (refl, (refl, (refl, (refl, (refl, tt))))));
   places = (true, refl, refl, (true, refl, refl, refl));
-  defaults = (refl, (refl, (refl, (refl, (refl, (refl, (refl, tt)))))));
+  defaults = (refl, (refl, (refl, (refl, (refl, (refl, (refl, (refl, tt))))))));
   needs = λ rows. needs_two (is_given (codes "IMAGE") rows) (is_given (codes "MACHINE") rows);
 }
 
@@ -196,9 +196,9 @@ sweep_rules : AreRulesOf sweep_form (rules_of sweep_form)
 sweep_rules = record {
   long = λ name. long_options name sweep_form.options (rest_arg 2 (codes "MACHINES") ∷ []) refl;
   short = λ x. refl;
-  known = (refl, (refl, (refl, (refl, tt))));
+  known = (refl, (refl, (refl, (refl, (refl, tt)))));
   places = (true, refl, refl, (refl, refl));
-  defaults = (refl, (refl, (refl, (refl, (refl, (refl, tt))))));
+  defaults = (refl, (refl, (refl, (refl, (refl, (refl, (refl, tt)))))));
   needs = λ rows. needs_two (is_given (codes "IMAGE") rows) (is_given (codes "MACHINES") rows);
 }
 

@@ -3,7 +3,7 @@ use Rattle.std.specs.Prelude.{List, [], ◌∷◌, Option, Some, None, IsSome, c
 use Rattle.std.specs.Str.{bytes_eq}
 use Rattle.fast_cli.specs.Words.{◌>>=◌, Form, Text, Values, values_in}
 use Rattle.fast_cli.specs.Values.{given_number_at, name_at, name_if_given, names_at, number_at}
-use Rattle.fast_cli.specs.Values.{options_at}
+use Rattle.fast_cli.specs.Values.{options_at, pipeline_at}
 use Rattle.fast_cli.specs.declared.line.Line.{Line}
 use Rattle.fast_cli.specs.declared.line.Line.TheVariants.{Back, Func, Inorder, Run, Sched, Soak}
 use Rattle.fast_cli.specs.declared.line.Line.TheVariants.{Sweep}
@@ -48,16 +48,17 @@ run_form = record {
   names = codes "IMAGE" ∷ codes "MACHINE" ∷ [];
   optional = [];
   rest = None;
-  options = codes "threads" ∷ codes "ring" ∷ limits;
+  options = codes "pipeline" ∷ codes "threads" ∷ codes "ring" ∷ limits;
 }
 
 unfoldable pub run_at : Values → Option Line
 run_at values = do
   image ← name_at (codes "IMAGE") values
   machine ← name_at (codes "MACHINE") values
+  pipeline ← pipeline_at values
   threads ← number_at (codes "threads") 1 2 2 values
   options ← options_at values
-  Some (Run image machine threads options)
+  Some (Run image machine pipeline threads options)
 
 abbrev pub run_command : Command
 run_command = record { form = run_form; read = run_at }
@@ -150,15 +151,16 @@ sweep_form = record {
   names = codes "IMAGE" ∷ [];
   optional = [];
   rest = Some (codes "MACHINES");
-  options = codes "ring" ∷ limits;
+  options = codes "pipeline" ∷ codes "ring" ∷ limits;
 }
 
 unfoldable pub sweep_at : Values → Option Line
 sweep_at values = do
   image ← name_at (codes "IMAGE") values
   machines ← names_at (codes "MACHINES") values
+  pipeline ← pipeline_at values
   options ← options_at values
-  Some (Sweep image machines options)
+  Some (Sweep image machines pipeline options)
 
 abbrev pub sweep_command : Command
 sweep_command = record { form = sweep_form; read = sweep_at }

@@ -15,9 +15,9 @@ pub record HasRanges (options : Options) : Type 0 where
 
 abbrev pub IsInRange : Line → Type 0
 IsInRange (Func image options) = HasRanges options
-IsInRange (Run image machine threads options) = IsFrom 1 2 threads × HasRanges options
+IsInRange (Run image machine pipeline threads options) = IsFrom 1 2 threads × HasRanges options
 IsInRange (Sched image machine plan options) = HasRanges options
 IsInRange (Soak seed) = seed ≤ 18446744073709551615
 IsInRange (Back image script history options) = IsFrom 1 1048576 history × HasRanges options
 IsInRange (Inorder image machine plan options) = HasRanges options
-IsInRange (Sweep image machines options) = IsFrom 1 64 (length machines) × HasRanges options
+IsInRange (Sweep image machines pipeline options) = IsFrom 1 64 (length machines) × HasRanges options

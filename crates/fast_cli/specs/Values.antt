@@ -1,12 +1,14 @@
 -- What a line takes from the values that its words give: names, numbers in their ranges, and
 -- defaults.
 use Rattle.std.specs.Prelude.{ℕ, Bool, List, Option, Some, None, ◌&&◌, ◌==◌, codes, if◌then◌else◌}
-use Rattle.std.specs.Prelude.{length, not}
-use Rattle.std.specs.Prelude.{option_map, slice_get}
+use Rattle.std.specs.Prelude.{[], ◌∷◌, length, not, find, option_map, slice_get}
 use Rattle.std.specs.List.{list_all}
+use Rattle.std.specs.Str.{bytes_eq}
 use Rattle.fast_cli.specs.Number.{is_between, number_in}
 use Rattle.fast_cli.specs.Words.{◌>>=◌, Text, Values}
 use Rattle.fast_cli.specs.declared.line.Options.{Options}
+use Rattle.fast_cli.specs.declared.line.Pipeline.{Pipeline}
+use Rattle.fast_cli.specs.declared.line.Pipeline.TheVariants.{Window, Inorder}
 
 -- the value that stands first under a name or an option
 abbrev pub first_at : Text → Values → Option Text
@@ -52,6 +54,21 @@ name_or_none (Some text) = option_map (λ name. Some name) (name_in text)
 -- the name that may be there
 unfoldable pub name_if_given : Text → Values → Option (Option Text)
 name_if_given id values = name_or_none (first_at id values)
+
+-- the pipelines by their words
+abbrev pub pipelines : List (Text × Pipeline)
+pipelines = (codes "window", Window) ∷ (codes "inorder", Inorder) ∷ []
+
+abbrev pub pipeline_in : Text → Option Pipeline
+pipeline_in text = option_map (λ row. row.1) (find (λ row. bytes_eq text row.0) pipelines)
+
+abbrev pub pipeline_or_default : Option Text → Option Pipeline
+pipeline_or_default None = Some Window
+pipeline_or_default (Some text) = pipeline_in text
+
+-- which machine plays the run
+unfoldable pub pipeline_at : Values → Option Pipeline
+pipeline_at values = pipeline_or_default (first_at (codes "pipeline") values)
 
 -- the options of a line that gives none
 unfoldable pub default_options : Options

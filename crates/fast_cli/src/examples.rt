@@ -4,6 +4,8 @@ ghost use Rattle.std.specs.Prelude.{◌≡◌, [], ◌∷◌, ◌++◌, Some, No
 ghost use Rattle.fast_cli.specs.Line.{line};
 ghost use Rattle.fast_cli.specs.declared.line.Line.TheVariants.{Back, Func, Inorder, Run, Sched};
 ghost use Rattle.fast_cli.specs.declared.line.Line.TheVariants.{Soak, Sweep};
+ghost use Rattle.fast_cli.specs.declared.line.Pipeline.TheVariants.{Window};
+ghost use Rattle.fast_cli.specs.declared.line.Pipeline.TheVariants as pipeline;
 ghost use Rattle.fast_cli.specs.Examples.{defaults, words_of};
 
 /// Each command with its names alone, and so with each default.
@@ -11,7 +13,7 @@ ghost use Rattle.fast_cli.specs.Examples.{defaults, words_of};
 pub fn commands_with_names_alone()
     ensures func { line (words_of (codes "func a")) ≡ Some (Func (codes "a") defaults) }
     ensures run { line (words_of (codes "run a m"))
-        ≡ Some (Run (codes "a") (codes "m") 2 defaults) }
+        ≡ Some (Run (codes "a") (codes "m") Window 2 defaults) }
     ensures sched { line (words_of (codes "sched a m p"))
         ≡ Some (Sched (codes "a") (codes "m") (codes "p") defaults) }
     ensures soak { line (words_of (codes "soak 7")) ≡ Some (Soak 7) }
@@ -22,9 +24,9 @@ pub fn commands_with_names_alone()
     ensures inorder_without_a_plan { line (words_of (codes "inorder a m"))
         ≡ Some (Inorder (codes "a") (codes "m") None defaults) }
     ensures sweep_one { line (words_of (codes "sweep a m"))
-        ≡ Some (Sweep (codes "a") (codes "m" ∷ []) defaults) }
+        ≡ Some (Sweep (codes "a") (codes "m" ∷ []) Window defaults) }
     ensures sweep_three { line (words_of (codes "sweep a m n m"))
-        ≡ Some (Sweep (codes "a") (codes "m" ∷ codes "n" ∷ codes "m" ∷ []) defaults) }
+        ≡ Some (Sweep (codes "a") (codes "m" ∷ codes "n" ∷ codes "m" ∷ []) Window defaults) }
     ensures named_help { line (words_of (codes "func help")) ≡ Some (Func (codes "help") defaults) }
 {}
 
@@ -38,10 +40,14 @@ pub fn each_option()
           output = 3;
         })) }
     ensures run { line (words_of (codes "run a m --ring 1 --cycles 2 --input i --output 3"))
-        ≡ Some (Run (codes "a") (codes "m") 2
+        ≡ Some (Run (codes "a") (codes "m") Window 2
         (record { ring = 1; cycles = 2; input = Some (codes "i"); output = 3 })) }
     ensures run_threads { line (words_of (codes "run a m --threads 1 --ring 1"))
-        ≡ Some (Run (codes "a") (codes "m") 1 (record defaults { ring = 1 })) }
+        ≡ Some (Run (codes "a") (codes "m") Window 1 (record defaults { ring = 1 })) }
+    ensures run_in_order { line (words_of (codes "run a m --pipeline inorder"))
+        ≡ Some (Run (codes "a") (codes "m") pipeline.Inorder 2 defaults) }
+    ensures run_with_a_window { line (words_of (codes "run a m --pipeline=window"))
+        ≡ Some (Run (codes "a") (codes "m") Window 2 defaults) }
     ensures sched { line (words_of (codes "sched a m p --ring 1"))
         ≡ Some (Sched (codes "a") (codes "m") (codes "p") (record defaults { ring = 1 })) }
     ensures back { line (words_of (codes "back a s --history 1 --cycles 2"))
@@ -49,7 +55,15 @@ pub fn each_option()
     ensures inorder { line (words_of (codes "inorder a m p --ring 1"))
         ≡ Some (Inorder (codes "a") (codes "m") (Some (codes "p")) (record defaults { ring = 1 })) }
     ensures sweep { line (words_of (codes "sweep a m --ring 1"))
-        ≡ Some (Sweep (codes "a") (codes "m" ∷ []) (record defaults { ring = 1 })) }
+        ≡ Some (Sweep (codes "a") (codes "m" ∷ []) Window (record defaults { ring = 1 })) }
+    ensures sweep_in_order { line (words_of (codes "sweep a m --pipeline inorder"))
+        ≡ Some (Sweep (codes "a") (codes "m" ∷ []) pipeline.Inorder defaults) }
+    ensures unknown_pipeline { line (words_of (codes "run a m --pipeline lane")) ≡ None }
+    ensures pipeline_in_capitals { line (words_of (codes "run a m --pipeline INORDER")) ≡ None }
+    ensures empty_pipeline { line (words_of (codes "run a m --pipeline=")) ≡ None }
+    ensures func_has_no_pipeline { line (words_of (codes "func a --pipeline inorder")) ≡ None }
+    ensures inorder_has_no_pipeline { line (words_of (codes "inorder a m --pipeline inorder"))
+        ≡ None }
     ensures func_has_no_ring { line (words_of (codes "func a --ring 1")) ≡ None }
     ensures back_has_no_ring { line (words_of (codes "back a s --ring 1")) ≡ None }
     ensures soak_has_no_ring { line (words_of (codes "soak 7 --ring 1")) ≡ None }
@@ -68,18 +82,18 @@ pub fn each_option()
 #[tactic(auto, unfolding(crate::proofs::OnWords::line_on_words))]
 pub fn options_anywhere()
     ensures before { line (words_of (codes "run --ring 8 a m"))
-        ≡ Some (Run (codes "a") (codes "m") 2 (record defaults { ring = 8 })) }
+        ≡ Some (Run (codes "a") (codes "m") Window 2 (record defaults { ring = 8 })) }
     ensures between { line (words_of (codes "run a --ring 8 m"))
-        ≡ Some (Run (codes "a") (codes "m") 2 (record defaults { ring = 8 })) }
+        ≡ Some (Run (codes "a") (codes "m") Window 2 (record defaults { ring = 8 })) }
     ensures after { line (words_of (codes "run a m --ring 8"))
-        ≡ Some (Run (codes "a") (codes "m") 2 (record defaults { ring = 8 })) }
+        ≡ Some (Run (codes "a") (codes "m") Window 2 (record defaults { ring = 8 })) }
     ensures attached { line (words_of (codes "run --ring=8 a m"))
-        ≡ Some (Run (codes "a") (codes "m") 2 (record defaults { ring = 8 })) }
+        ≡ Some (Run (codes "a") (codes "m") Window 2 (record defaults { ring = 8 })) }
     ensures all_places { line (words_of (codes "run --cycles 2 a --ring=8 m --output 3"))
-        ≡ Some (Run (codes "a") (codes "m") 2
+        ≡ Some (Run (codes "a") (codes "m") Window 2
         (record defaults { ring = 8; cycles = 2; output = 3 })) }
     ensures among_machines { line (words_of (codes "sweep a m --ring 8 n --cycles=2 m"))
-        ≡ Some (Sweep (codes "a") (codes "m" ∷ codes "n" ∷ codes "m" ∷ [])
+        ≡ Some (Sweep (codes "a") (codes "m" ∷ codes "n" ∷ codes "m" ∷ []) Window
         (record defaults { ring = 8; cycles = 2 })) }
     ensures before_the_command { line (words_of (codes "--ring 8 run a m")) ≡ None }
     ensures twice { line (words_of (codes "run a m --ring 8 --ring 8")) ≡ None }
@@ -92,9 +106,9 @@ pub fn options_anywhere()
 #[tactic(auto, unfolding(crate::proofs::OnWords::line_on_words))]
 pub fn numbers()
     ensures ring_least { line (words_of (codes "run a m --ring 1"))
-        ≡ Some (Run (codes "a") (codes "m") 2 (record defaults { ring = 1 })) }
+        ≡ Some (Run (codes "a") (codes "m") Window 2 (record defaults { ring = 1 })) }
     ensures ring_most { line (words_of (codes "run a m --ring 65536"))
-        ≡ Some (Run (codes "a") (codes "m") 2 (record defaults { ring = 65536 })) }
+        ≡ Some (Run (codes "a") (codes "m") Window 2 (record defaults { ring = 65536 })) }
     ensures ring_below { line (words_of (codes "run a m --ring 0")) ≡ None }
     ensures ring_above { line (words_of (codes "run a m --ring 65537")) ≡ None }
     ensures cycles_least { line (words_of (codes "func a --cycles 1"))
@@ -115,9 +129,9 @@ pub fn numbers()
     ensures history_below { line (words_of (codes "back a s --history 0")) ≡ None }
     ensures history_above { line (words_of (codes "back a s --history 1048577")) ≡ None }
     ensures threads_least { line (words_of (codes "run a m --threads 1"))
-        ≡ Some (Run (codes "a") (codes "m") 1 defaults) }
+        ≡ Some (Run (codes "a") (codes "m") Window 1 defaults) }
     ensures threads_most { line (words_of (codes "run a m --threads=2"))
-        ≡ Some (Run (codes "a") (codes "m") 2 defaults) }
+        ≡ Some (Run (codes "a") (codes "m") Window 2 defaults) }
     ensures threads_below { line (words_of (codes "run a m --threads 0")) ≡ None }
     ensures threads_above { line (words_of (codes "run a m --threads 3")) ≡ None }
     ensures seed_least { line (words_of (codes "soak 0")) ≡ Some (Soak 0) }
@@ -130,9 +144,9 @@ pub fn numbers()
 #[tactic(auto, unfolding(crate::proofs::OnWords::line_on_words))]
 pub fn numerals()
     ensures leading_zeros { line (words_of (codes "run a m --ring 008"))
-        ≡ Some (Run (codes "a") (codes "m") 2 (record defaults { ring = 8 })) }
+        ≡ Some (Run (codes "a") (codes "m") Window 2 (record defaults { ring = 8 })) }
     ensures twenty_digits { line (words_of (codes "run a m --ring 00000000000000000008"))
-        ≡ Some (Run (codes "a") (codes "m") 2 (record defaults { ring = 8 })) }
+        ≡ Some (Run (codes "a") (codes "m") Window 2 (record defaults { ring = 8 })) }
     ensures twenty_one_digits { line (words_of (codes "run a m --ring 000000000000000000008"))
         ≡ None }
     ensures plus { line (words_of (codes "run a m --ring +8")) ≡ None }
@@ -151,17 +165,17 @@ pub fn numerals()
 #[tactic(auto, unfolding(crate::proofs::OnWords::line_on_words))]
 pub fn dashes()
     ensures dashes_first { line (words_of (codes "run -- a m"))
-        ≡ Some (Run (codes "a") (codes "m") 2 defaults) }
+        ≡ Some (Run (codes "a") (codes "m") Window 2 defaults) }
     ensures dashes_between { line (words_of (codes "run a -- m"))
-        ≡ Some (Run (codes "a") (codes "m") 2 defaults) }
+        ≡ Some (Run (codes "a") (codes "m") Window 2 defaults) }
     ensures options_behind_dashes { line (words_of (codes "run -- --ring --help"))
-        ≡ Some (Run (codes "--ring") (codes "--help") 2 defaults) }
+        ≡ Some (Run (codes "--ring") (codes "--help") Window 2 defaults) }
     ensures dashes_behind_dashes { line (words_of (codes "run -- a --"))
-        ≡ Some (Run (codes "a") (codes "--") 2 defaults) }
+        ≡ Some (Run (codes "a") (codes "--") Window 2 defaults) }
     ensures option_before_dashes { line (words_of (codes "run --ring 8 -- a m"))
-        ≡ Some (Run (codes "a") (codes "m") 2 (record defaults { ring = 8 })) }
+        ≡ Some (Run (codes "a") (codes "m") Window 2 (record defaults { ring = 8 })) }
     ensures one_dash { line (words_of (codes "run - m"))
-        ≡ Some (Run (codes "-") (codes "m") 2 defaults) }
+        ≡ Some (Run (codes "-") (codes "m") Window 2 defaults) }
     ensures one_dash_as_value { line (words_of (codes "func a --input -"))
         ≡ Some (Func (codes "a") (record defaults { input = Some (codes "-") })) }
     ensures attached_dash { line (words_of (codes "func a --input=-x"))
@@ -212,6 +226,6 @@ pub fn words_without_a_line()
 #[tactic(auto, unfolding(crate::proofs::OnWords::line_on_words))]
 pub fn machines_of_a_sweep()
     ensures most { line (codes "sweep" ∷ codes "a" ∷ replicate 64 (codes "m"))
-        ≡ Some (Sweep (codes "a") (replicate 64 (codes "m")) defaults) }
+        ≡ Some (Sweep (codes "a") (replicate 64 (codes "m")) Window defaults) }
     ensures above { line (codes "sweep" ∷ codes "a" ∷ replicate 65 (codes "m")) ≡ None }
 {}

@@ -13,7 +13,7 @@ mod table;
 mod texts;
 mod values;
 
-pub use line::{Line, Options, UsageFault};
+pub use line::{Line, Options, Pipeline, UsageFault};
 pub use read::read_words;
 pub use texts::Texts;
 pub use values::default_options;

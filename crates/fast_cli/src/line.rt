@@ -15,10 +15,11 @@ pub enum Line {
         options: Options,
     },
     /// Runs the image on the machine, with 1 or 2 `threads`: with 2 each side has a thread of its
-    /// own, with 1 both are played in turn on one.
+    /// own, with 1 both are played in turn on one. The in-order machine is always played on one.
     Run {
         image: Text,
         machine: Text,
+        pipeline: Pipeline,
         threads: u32,
         options: Options,
     },
@@ -51,8 +52,18 @@ pub enum Line {
     Sweep {
         image: Text,
         machines: Texts,
+        pipeline: Pipeline,
         options: Options,
     },
+}
+
+/// Which machine plays a run.
+#[derive(Clone, Copy, Debug, PartialEq, Eq)]
+pub enum Pipeline {
+    /// The machine with a window of instructions, which issues them in any order.
+    Window,
+    /// The in-order machine of five stages.
+    Inorder,
 }
 
 /// The options of a line, each with its default where the words leave it out.

@@ -9,7 +9,9 @@ ghost use Rattle.fast_cli.specs.Table.{command_in};
 use crate::line::{Line, UsageFault};
 use crate::own::{own_name, own_name_if_given, own_names, own_options};
 use crate::table::CommandName;
-use crate::values::{given_number_at, name_at, name_if_given, names_at, number_at, options_at};
+use crate::values::{
+    given_number_at, name_at, name_if_given, names_at, number_at, options_at, pipeline_at,
+};
 use clap::ArgMatches;
 use std::alloc::Global;
 
@@ -61,11 +63,13 @@ fn run_at(alloc: Global, matches: &ArgMatches<'_>) -> Result<Line, UsageFault>
 {
     let image = name_at(matches, "IMAGE").ok_or(UsageFault::Words)?;
     let machine = name_at(matches, "MACHINE").ok_or(UsageFault::Words)?;
+    let pipeline = pipeline_at(matches).ok_or(UsageFault::Words)?;
     let threads = number_at(matches, "threads", 1, 2, 2).ok_or(UsageFault::Words)?;
     let options = options_at(matches).ok_or(UsageFault::Words)?;
     Ok(Line::Run {
         image: own_name(alloc, image)?,
         machine: own_name(alloc, machine)?,
+        pipeline,
         threads: threads as u32,
         options: own_options(alloc, &options)?,
     })
@@ -148,10 +152,12 @@ fn sweep_at(alloc: Global, matches: &ArgMatches<'_>) -> Result<Line, UsageFault>
 {
     let image = name_at(matches, "IMAGE").ok_or(UsageFault::Words)?;
     let machines = names_at(matches, "MACHINES").ok_or(UsageFault::Words)?;
+    let pipeline = pipeline_at(matches).ok_or(UsageFault::Words)?;
     let options = options_at(matches).ok_or(UsageFault::Words)?;
     Ok(Line::Sweep {
         image: own_name(alloc, image)?,
         machines: own_names(alloc, machines)?,
+        pipeline,
         options: own_options(alloc, &options)?,
     })
 }

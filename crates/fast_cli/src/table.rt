@@ -43,7 +43,7 @@ pub(crate) fn form_for(name: CommandName) -> Form<'static>
         CommandName::Run => form(
             "run",
             &["IMAGE", "MACHINE"],
-            &["threads", "ring", "cycles", "input", "output"],
+            &["pipeline", "threads", "ring", "cycles", "input", "output"],
         ),
         CommandName::Sched => form(
             "sched",
@@ -66,7 +66,11 @@ pub(crate) fn form_for(name: CommandName) -> Form<'static>
         },
         CommandName::Sweep => Form {
             rest: Some("MACHINES"),
-            ..form("sweep", &["IMAGE"], &["ring", "cycles", "input", "output"])
+            ..form(
+                "sweep",
+                &["IMAGE"],
+                &["pipeline", "ring", "cycles", "input", "output"],
+            )
         },
     }
 }

@@ -6,9 +6,10 @@ ghost use Rattle.fast_cli.specs.Given.{options_in};
 ghost use Rattle.fast_cli.specs.Number.{is_between};
 ghost use Rattle.fast_cli.specs.Ranges.{HasRanges, IsFrom};
 ghost use Rattle.fast_cli.specs.Values.{default_options, first_at, given_number_at, is_name};
-ghost use Rattle.fast_cli.specs.Values.{name_at, name_if_given, name_in, names_at, number_at, options_at};
+ghost use Rattle.fast_cli.specs.Values.{name_at, name_if_given, name_in, names_at, number_at};
+ghost use Rattle.fast_cli.specs.Values.{options_at, pipeline_at, pipeline_in};
 
-use crate::line::Options;
+use crate::line::{Options, Pipeline};
 use crate::number::number_in;
 use clap::ArgMatches;
 
@@ -113,6 +114,27 @@ pub(crate) fn name_if_given<'a>(matches: &ArgMatches<'a>, id: &str) -> Option<Op
     match value_at(matches, id) {
         Some(text) => Some(Some(name_in(text)?)),
         None => Some(None),
+    }
+}
+
+fn pipeline_in(text: &str) -> Option<Pipeline>
+    ensures { result ≡ pipeline_in text.now }
+{
+    match text {
+        "window" => Some(Pipeline::Window),
+        "inorder" => Some(Pipeline::Inorder),
+        _ => None,
+    }
+}
+
+/// Which machine plays the run.
+#[tactic(auto, unfolding(crate::specs::Values::pipeline_at))]
+pub(crate) fn pipeline_at(matches: &ArgMatches<'_>) -> Option<Pipeline>
+    ensures { result ≡ pipeline_at (values_of matches.now) }
+{
+    match value_at(matches, "pipeline") {
+        Some(text) => pipeline_in(text),
+        None => Some(Pipeline::Window),
     }
 }
 

@@ -15,7 +15,7 @@ use Rattle.fast_jobs.specs.declared.job.Job.TheVariants.{Sweep}
 use Rattle.fast_jobs.specs.declared.job.SingleJob.{SingleJob}
 use Rattle.fast_jobs.specs.declared.job.SingleJob.TheVariants.{Run}
 use Rattle.fast_jobs.specs.declared.sweep_files.SweepFiles.{SweepFiles}
-use Rattle.fast_jobs.specs.Job.{back_job, bytes_at, func_job, inorder_job, inorder_run_job, is_still, job_of, run_job, sched_job, single_job, soak_setup}
+use Rattle.fast_jobs.specs.Job.{back_job, bytes_at, func_job, inorder_job, inorder_run_job, is_still, job_of, pipeline_job, sched_job, single_job, soak_setup}
 use Rattle.fast_jobs.specs.Reading.{AreWithin}
 
 -- what the console reads, behind the other files, is within its limit
@@ -50,10 +50,10 @@ never-sweep (Err status) files same = cc
 
 pub still-single : {P : Type 0} (asked : Line) (sets : ℕ) (contents : List (List ℕ)) (files : SweepFiles) → is_still asked ≡ true → job_of asked sets contents ≡ Ok (Sweep files) → P
 still-single (line.Func image options) sets contents files still same = never-sweep (func_job options contents) files same
-still-single (line.Run image machine threads options) sets contents files still same = never-sweep (run_job options contents) files same
+still-single (line.Run image machine pipeline threads options) sets contents files still same = never-sweep (pipeline_job pipeline options contents) files same
 still-single (line.Sched image machine plan options) sets contents files still same = never-sweep (sched_job options contents) files same
 still-single (line.Soak seed) sets contents files still same = never-sweep (Ok (Run (soak_setup seed))) files same
 still-single (line.Back image script history options) sets contents files still same = never-sweep (back_job history options contents) files same
 still-single (line.Inorder image machine (Some plan) options) sets contents files still same = never-sweep (inorder_job options contents) files same
 still-single (line.Inorder image machine None options) sets contents files still same = never-sweep (inorder_run_job options contents) files same
-still-single (line.Sweep image machines options) sets contents files still same = cc
+still-single (line.Sweep image machines pipeline options) sets contents files still same = cc

@@ -1,16 +1,12 @@
 -- How the in-order machine's run ends, and what is reported of it.
-use Rattle.std.proofs.Common.{◌≡◌, ℕ, ◌≤◌, ◌++◌, true, List, refl, ap, sym, ◌∙◌, subst}
+use Rattle.std.proofs.Common.{◌≡◌, ℕ, ◌++◌, List, refl, ap, sym, ◌∙◌}
 use Rattle.mono_model.specs.declared.setup.Setup.{Setup}
 use Rattle.mono_model.specs.declared.final_state.Final.{Final}
-use Rattle.mono_model.specs.Final.{has_ended}
 use Rattle.mono_model.specs.Machine.{machine_final}
 use Rattle.mono_model.specs.Report.{closed_output, report_text}
 use Rattle.lane_model.specs.Lane.{Lane}
 use Rattle.lane_model.specs.Cycle.{lane, lane_final, lane_text}
-use Rattle.lane_model.specs.Demand.{LanePlace, lane_in, lane_place, lane_step_bound}
-use Rattle.lane_laws.specs.Runs.{IsLane, LaneHalts, is_lane_over, starts_cycle}
-use Rattle.lane_laws.proofs.Halting.{run_halts}
-use Rattle.lane_laws.proofs.Leading.{is_lane}
+use Rattle.sweep_runs.proofs.LaneLast.{IsLast}
 
 -- What is reported is the in-order machine after so many cycles.
 pub record IsLaneAt (s : Setup) (c : ℕ) (output : List ℕ) (last : Final) : Type 0 where
@@ -27,22 +23,6 @@ lane-end s c output last at = sym (ap (λ (f : Final). f.end) at.reported ∙ la
 pub lane-text : (s : Setup) (c : ℕ) (output : List ℕ) (last : Final) → IsLaneAt s c output last → lane_text s c ≡ closed_output output ++ report_text last
 unfolding lane_text
 lane-text s c output last at = λ i. closed_output (sym at.written i) ++ report_text (sym at.reported i)
-
--- The run has ended after so many cycles, and stands still up to its limit.
-pub record IsLast (s : Setup) (c : ℕ) : Type 0 where
-  pub same : lane s c ≡ lane s s.cycles
-  pub over : has_ended (lane s s.cycles).machine.end ≡ true
-
-pub last-place : (s : Setup) (p : LanePlace) → 1 ≤ s.cycles → p ≡ lane_place s (lane_step_bound s) → lane_in p.run.demand p.run.memory ≡ lane s s.cycles →
-    IsLast s p.run.demand.machine.cycle
-last-place s p some_cycle last state =
-    let halts : LaneHalts s = run_halts s some_cycle in
-    let here : IsLane s p = subst (IsLane s) (sym last) (is_lane s (lane_step_bound s) (ap starts_cycle halts.at)) in
-    let same : lane s p.run.demand.machine.cycle ≡ lane s s.cycles = sym here.state ∙ state in
-    record {
-      same = same;
-      over = ap (λ (l : Lane). has_ended l.machine.end) (sym same) ∙ here.over ∙ ap is_lane_over (ap (λ (q : LanePlace). q.run.at) last ∙ halts.at);
-    }
 
 pub lane_at-limit : (s : Setup) (c : ℕ) (output : List ℕ) (last : Final) → IsLast s c → IsLaneAt s c output last → IsLaneAt s s.cycles output last
 lane_at-limit s c output last ended at = record {

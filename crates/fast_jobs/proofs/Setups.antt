@@ -11,7 +11,7 @@ use Rattle.mono_model.specs.declared.setup.Setup.{Setup}
 use Rattle.fast_cli.specs.declared.line.Options.{Options}
 use Rattle.fast_cli.specs.Ranges.{HasRanges}
 use Rattle.inorder_model.specs.Standing.{IsInorder}
-use Rattle.fast_jobs.specs.Job.{inorder_params, inorder_setup, setup_for}
+use Rattle.fast_jobs.specs.Stages.{inorder_params, inorder_setup, setup_for}
 
 pub is_setup-setup_for : (params : Params) (options : Options) (image : Image) (input : List ℕ) → are_params params ≡ true → IsSound image (ram_range params) → HasRanges options → length input ≤ input_limit → is_setup (setup_for params options image input) ≡ true
 is_setup-setup_for params options image input in_range sound ranges short =

@@ -10,17 +10,16 @@ use Rattle.device_bus.specs.Bus.{AreSets, device_order, sets_order}
 use Rattle.mono_model.specs.declared.setup.Setup.{Setup}
 use Rattle.mono_model.specs.declared.final_state.Final.{Final}
 use Rattle.mono_model.specs.Report.{joined}
-use Rattle.mono_model.specs.Setup.{is_setup}
 use Rattle.sweep_runs.specs.declared.job.Job.{Job}
-use Rattle.sweep_runs.specs.Sweep.{last_of}
 use Rattle.report_text.specs.SweepText.{is_sweep_refusal}
 use Rattle.report_text.specs.declared.status.Status.{Status}
 use Rattle.report_text.specs.declared.status.Status.TheVariants.{Sets}
 use Rattle.fast_cli.specs.declared.line.Options.{Options}
+use Rattle.fast_cli.specs.declared.line.Pipeline.{Pipeline}
 use Rattle.fast_jobs.specs.declared.sweep_files.NamedMachine.{NamedMachine}
 use Rattle.fast_jobs.specs.declared.sweep_files.SweepFiles.{SweepFiles}
 use Rattle.fast_jobs.specs.Stages.{bytes_at}
-use Rattle.fast_jobs.specs.SweepFiles.{AreTold, HasLine, HasSets, finals_behind, limits_of, machine_setup, machine_told, named_machines, next_line, run_told, sweep_files, sweep_lines, swept, told_line, told_lines}
+use Rattle.fast_jobs.specs.SweepFiles.{AreTold, HasLine, HasSets, IsSoundOn, finals_behind, last_on, limits_of, machine_setup, machine_told, named_machines, next_line, run_told, sweep_files, sweep_lines, swept, told_line, told_lines}
 
 -- fewer sets of devices are there too
 pub sets-fewer : (more fewer : ℕ) (kinds : List DeviceKind) → fewer ≤ more → HasSets more kinds → HasSets fewer kinds
@@ -75,9 +74,9 @@ told-append files (machine ∷ machines) others (None ∷ refusals) more (last �
 -- one machine more, with a run
 pub told-run : (files : SweepFiles) (machines : List NamedMachine) (refusals : List (Option Status)) (finals : List Final) (machine : NamedMachine) (setup : Setup)
     → AreTold files machines refusals finals → machine_setup files machine.bytes ≡ Ok setup
-    → AreTold files (machines ++ machine ∷ []) (refusals ++ None ∷ []) (finals ++ last_of setup ∷ [])
+    → AreTold files (machines ++ machine ∷ []) (refusals ++ None ∷ []) (finals ++ last_on files.pipeline setup ∷ [])
 told-run files machines refusals finals machine setup told made =
-    told-append files machines (machine ∷ []) refusals (None ∷ []) finals (last_of setup ∷ []) told (ap run_told made, tt)
+    told-append files machines (machine ∷ []) refusals (None ∷ []) finals (last_on files.pipeline setup ∷ []) told (ap (run_told files.pipeline) made, tt)
 
 -- or with none
 pub told-refusal : (files : SweepFiles) (machines : List NamedMachine) (refusals : List (Option Status)) (finals : List Final) (machine : NamedMachine) (status : Status)
@@ -85,7 +84,7 @@ pub told-refusal : (files : SweepFiles) (machines : List NamedMachine) (refusals
     → AreTold files (machines ++ machine ∷ []) (refusals ++ Some status ∷ []) finals
 told-refusal files machines refusals finals machine status told refused =
     let more : AreTold files (machines ++ machine ∷ []) (refusals ++ Some status ∷ []) (finals ++ []) =
-    told-append files machines (machine ∷ []) refusals (Some status ∷ []) finals [] told (ap run_told refused, tt) in
+    told-append files machines (machine ∷ []) refusals (Some status ∷ []) finals [] told (ap (run_told files.pipeline) refused, tt) in
     subst (λ (reports : List Final). AreTold files (machines ++ machine ∷ []) (refusals ++ Some status ∷ []) reports) (append-nil finals) more
 
 -- the lines of what is told are those of the sweep
@@ -198,21 +197,21 @@ told-last files all left refusals finals none so_far =
     subst (λ rs. AreTold files all rs finals) (append-nil refusals) (subst (λ fs. AreTold files all (refusals ++ []) fs) (append-nil finals) whole)
 
 -- what a sweep is asked for
-pub swept-made : (names : List (List ℕ)) (options : Options) (sets : ℕ) (contents : List (List ℕ)) (image : List ℕ) (machines : List NamedMachine) (input : List ℕ)
+pub swept-made : (names : List (List ℕ)) (pipeline : Pipeline) (options : Options) (sets : ℕ) (contents : List (List ℕ)) (image : List ℕ) (machines : List NamedMachine) (input : List ℕ)
     → length names ≤ sets → image ≡ bytes_at contents 0 → machines ≡ named_machines names (drop 1 contents) → input ≡ bytes_at contents (length names + 1)
-    → swept names options sets contents ≡ Ok (record { image = image; machines = machines; input = input; limits = limits_of options })
+    → swept names pipeline options sets contents ≡ Ok (record { image = image; machines = machines; input = input; pipeline = pipeline; limits = limits_of options })
 unfolding swept
-swept-made names options sets contents image machines input enough first each last =
+swept-made names pipeline options sets contents image machines input enough first each last =
     let test : nat_lt sets (length names) ≡ false = grind (arith, enough) in
-    ap (λ b. if b then Err (Sets (length names)) else Ok (sweep_files names options contents)) test
-    ∙ λ i. Ok (record { image = sym first i; machines = sym each i; input = sym last i; limits = limits_of options })
+    ap (λ b. if b then Err (Sets (length names)) else Ok (sweep_files names pipeline options contents)) test
+    ∙ λ i. Ok (record { image = sym first i; machines = sym each i; input = sym last i; pipeline = pipeline; limits = limits_of options })
 
-pub swept-refused : (names : List (List ℕ)) (options : Options) (sets : ℕ) (contents : List (List ℕ)) → sets < length names
-    → swept names options sets contents ≡ Err (Sets (length names))
+pub swept-refused : (names : List (List ℕ)) (pipeline : Pipeline) (options : Options) (sets : ℕ) (contents : List (List ℕ)) → sets < length names
+    → swept names pipeline options sets contents ≡ Err (Sets (length names))
 unfolding swept
-swept-refused names options sets contents more =
+swept-refused names pipeline options sets contents more =
     let test : nat_lt sets (length names) ≡ true = grind (arith, more) in
-    ap (λ b. if b then Err (Sets (length names)) else Ok (sweep_files names options contents)) test
+    ap (λ b. if b then Err (Sets (length names)) else Ok (sweep_files names pipeline options contents)) test
 
 -- three items were taken
 pub items-three : {A : Type 0} (old one two rest : List A) (a b c : Option A) (x y z : A) → old ≡ option_to_list a ++ one → a ≡ Some x
@@ -244,9 +243,9 @@ length-named (name ∷ names) contents = ap suc (length-named names (drop 1 cont
 
 -- machines were opened, and what was had of each is in the lists
 pub record IsOpened {D : Type 0} (kind : D → DeviceKind) (files : SweepFiles) (machines : List NamedMachine) (refusals : List (Option Status)) (jobs : List (Job D)) : Type 0 where
-  pub told : AreTold files machines refusals (map (λ job. last_of job.setup) jobs)
+  pub told : AreTold files machines refusals (map (λ job. last_on files.pipeline job.setup) jobs)
   pub lines : All HasLine refusals
-  pub sound : All (λ job. is_setup job.setup ≡ true) jobs
+  pub sound : All (λ job. IsSoundOn files.pipeline job.setup) jobs
   pub order : All (λ job. map kind job.devices.items ≡ device_order) jobs
 
 all-one : {A : Type 0} (P : A → Type 0) (x : A) → P x → All P (x ∷ [])
@@ -256,18 +255,18 @@ all-one P x here (suc k) other inside = absurd (omega (arith, inside))
 -- one machine more, with a job
 pub opened-run : {D : Type 0} (kind : D → DeviceKind) (files : SweepFiles) (machines grown : List NamedMachine) (refusals more : List (Option Status)) (jobs further : List (Job D))
     (machine : NamedMachine) (job : Job D) → grown ≡ machines ++ machine ∷ [] → more ≡ refusals ++ None ∷ [] → further ≡ jobs ++ job ∷ []
-    → IsOpened kind files machines refusals jobs → machine_setup files machine.bytes ≡ Ok job.setup → is_setup job.setup ≡ true → map kind job.devices.items ≡ device_order
+    → IsOpened kind files machines refusals jobs → machine_setup files machine.bytes ≡ Ok job.setup → IsSoundOn files.pipeline job.setup → map kind job.devices.items ≡ device_order
     → IsOpened kind files grown more further
 opened-run {D} kind files machines grown refusals more jobs further machine job named none added opened made sound order =
-    let lasts : List (Job D) → List Final = map (λ j. last_of j.setup) in
-    let reports : lasts further ≡ lasts jobs ++ last_of job.setup ∷ [] = ap lasts added ∙ map-append (λ (j : Job D). last_of j.setup) jobs (job ∷ []) in
-    let told : AreTold files (machines ++ machine ∷ []) (refusals ++ None ∷ []) (lasts jobs ++ last_of job.setup ∷ []) =
+    let lasts : List (Job D) → List Final = map (λ j. last_on files.pipeline j.setup) in
+    let reports : lasts further ≡ lasts jobs ++ last_on files.pipeline job.setup ∷ [] = ap lasts added ∙ map-append (λ (j : Job D). last_on files.pipeline j.setup) jobs (job ∷ []) in
+    let told : AreTold files (machines ++ machine ∷ []) (refusals ++ None ∷ []) (lasts jobs ++ last_on files.pipeline job.setup ∷ []) =
     told-run files machines refusals (lasts jobs) machine job.setup opened.told made in
     record {
       told = subst (λ ms. AreTold files ms more (lasts further)) (sym named) (subst (λ rs. AreTold files (machines ++ machine ∷ []) rs (lasts further)) (sym none)
           (subst (λ fs. AreTold files (machines ++ machine ∷ []) (refusals ++ None ∷ []) fs) (sym reports) told));
       lines = subst (All HasLine) (sym none) (All-append HasLine refusals (None ∷ []) opened.lines (all-one HasLine None tt));
-      sound = subst (All (λ j. is_setup j.setup ≡ true)) (sym added) (All-append (λ (j : Job D). is_setup j.setup ≡ true) jobs (job ∷ []) opened.sound (all-one (λ (j : Job D). is_setup j.setup ≡ true) job sound));
+      sound = subst (All (λ j. IsSoundOn files.pipeline j.setup)) (sym added) (All-append (λ (j : Job D). IsSoundOn files.pipeline j.setup) jobs (job ∷ []) opened.sound (all-one (λ (j : Job D). IsSoundOn files.pipeline j.setup) job sound));
       order = subst (All (λ j. map kind j.devices.items ≡ device_order)) (sym added)
           (All-append (λ (j : Job D). map kind j.devices.items ≡ device_order) jobs (job ∷ []) opened.order (all-one (λ (j : Job D). map kind j.devices.items ≡ device_order) job order));
     }
@@ -278,14 +277,14 @@ pub opened-refusal : {D : Type 0} (kind : D → DeviceKind) (files : SweepFiles)
     → IsOpened kind files machines refusals jobs → machine_setup files machine.bytes ≡ Err status → is_sweep_refusal status ≡ true
     → IsOpened kind files grown more further
 opened-refusal {D} kind files machines grown refusals more jobs further machine status named one same opened refused line =
-    let lasts : List (Job D) → List Final = map (λ j. last_of j.setup) in
+    let lasts : List (Job D) → List Final = map (λ j. last_on files.pipeline j.setup) in
     let told : AreTold files (machines ++ machine ∷ []) (refusals ++ Some status ∷ []) (lasts jobs) =
     told-refusal files machines refusals (lasts jobs) machine status opened.told refused in
     record {
       told = subst (λ ms. AreTold files ms more (lasts further)) (sym named) (subst (λ rs. AreTold files (machines ++ machine ∷ []) rs (lasts further)) (sym one)
           (subst (λ js. AreTold files (machines ++ machine ∷ []) (refusals ++ Some status ∷ []) (lasts js)) (sym same) told));
       lines = subst (All HasLine) (sym one) (All-append HasLine refusals (Some status ∷ []) opened.lines (all-one HasLine (Some status) line));
-      sound = subst (All (λ j. is_setup j.setup ≡ true)) (sym same) opened.sound;
+      sound = subst (All (λ j. IsSoundOn files.pipeline j.setup)) (sym same) opened.sound;
       order = subst (All (λ j. map kind j.devices.items ≡ device_order)) (sym same) opened.order;
     }
 

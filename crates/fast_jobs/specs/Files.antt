@@ -24,7 +24,7 @@ input_of options = file_if_named role.Input options.input
 -- the files that are read for a line, in their order
 abbrev pub files_of : Line → List NamedFile
 files_of (Func image options) = file role.Image image ∷ input_of options
-files_of (Run image machine threads options) =
+files_of (Run image machine pipeline threads options) =
     file role.Image image ∷ file role.Machine machine ∷ input_of options
 files_of (Sched image machine plan options) =
     file role.Image image ∷ file role.Machine machine ∷ file role.Plan plan ∷ input_of options
@@ -33,7 +33,7 @@ files_of (Back image script history options) =
     file role.Image image ∷ file role.Script script ∷ input_of options
 files_of (Inorder image machine plan options) = file role.Image image ∷ file role.Machine machine
     ∷ file_if_named role.Plan plan ++ input_of options
-files_of (Sweep image machines options) =
+files_of (Sweep image machines pipeline options) =
     file role.Image image ∷ map (file role.Machine) machines ++ input_of options
 
 -- how many bytes a file of a role may have

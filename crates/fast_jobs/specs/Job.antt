@@ -1,7 +1,6 @@
 -- What a line and the bytes of its files ask for: a job, or the first refusal.
 use Rattle.std.specs.Prelude.{◌≡◌, ◌≤◌, ℕ, true, false, Bool, List, [], length}
 use Rattle.std.specs.Prelude.{Some, None, Result, Ok, ◌==◌}
-use Rattle.mono_model.specs.declared.params.Params.{Params}
 use Rattle.mono_model.specs.declared.setup.Setup.{Setup}
 use Rattle.mono_model.specs.Setup.{input_limit, is_setup, ram_range}
 use Rattle.mono_model.specs.Plain.{plain_params}
@@ -10,6 +9,8 @@ use Rattle.report_text.specs.declared.status.Status.{Status}
 use Rattle.fast_cli.specs.declared.line.Line.{Line}
 use Rattle.fast_cli.specs.declared.line.Line.TheVariants as line
 use Rattle.fast_cli.specs.declared.line.Options.{Options}
+use Rattle.fast_cli.specs.declared.line.Pipeline.{Pipeline}
+use Rattle.fast_cli.specs.declared.line.Pipeline.TheVariants as pipeline
 use Rattle.fast_cli.specs.Ranges.{HasRanges}
 use Rattle.fast_cli.specs.Values.{default_options}
 use Rattle.gen_image.specs.Soak.{soak_image}
@@ -22,8 +23,9 @@ use Rattle.fast_jobs.specs.declared.job.SingleJob.TheVariants.{Back, Func, Inord
 use Rattle.fast_jobs.specs.declared.job.PlannedRun.{PlannedRun}
 use Rattle.fast_jobs.specs.declared.sweep_files.SweepFiles.{SweepFiles}
 use Rattle.fast_jobs.specs.Gives.{◌>>=◌}
-pub use Rattle.fast_jobs.specs.Stages.{setup_for, bytes_at}
+pub use Rattle.fast_jobs.specs.Stages.{setup_for, inorder_setup, bytes_at}
 unfoldable pub use Rattle.fast_jobs.specs.Stages.{image_in, timed_image, plan_in, script_in}
+unfoldable pub use Rattle.fast_jobs.specs.Stages.{inorder_params}
 use Rattle.fast_jobs.specs.SweepFiles.{swept}
 
 -- the plain machine runs an image without a machine file
@@ -37,6 +39,18 @@ unfoldable pub run_job : Options → List (List ℕ) → Result SingleJob Status
 run_job options contents = do
   loaded ← timed_image (bytes_at contents 1) (bytes_at contents 0)
   Ok (Run (setup_for loaded.params options loaded.image (bytes_at contents 2)))
+
+-- the run on the in-order machine, with the empty plan
+unfoldable pub inorder_run_job : Options → List (List ℕ) → Result SingleJob Status
+inorder_run_job options contents = do
+  loaded ← timed_image (bytes_at contents 1) (bytes_at contents 0)
+  Ok (Inorder (inorder_setup (setup_for loaded.params options loaded.image
+      (bytes_at contents 2))) [])
+
+-- the run on a pipeline
+abbrev pub pipeline_job : Pipeline → Options → List (List ℕ) → Result SingleJob Status
+pipeline_job pipeline.Window options contents = run_job options contents
+pipeline_job pipeline.Inorder options contents = inorder_run_job options contents
 
 -- the run on a machine that a plan is for: the plan is tested behind the image
 unfoldable pub planned_run : Options → List (List ℕ) → Result PlannedRun Status
@@ -53,25 +67,11 @@ sched_job options contents = do
   planned ← planned_run options contents
   Ok (Sched planned.setup planned.plan)
 
--- The in-order machine has one instruction at most in each of its four stages behind Fetch, whatever
--- a machine file says of the window.
-unfoldable pub inorder_params : Params → Params
-inorder_params params = record params { core_window = 4 }
-
-abbrev pub inorder_setup : Setup → Setup
-inorder_setup s = record s { params = inorder_params s.params }
-
+-- the same on the in-order machine
 unfoldable pub inorder_job : Options → List (List ℕ) → Result SingleJob Status
 inorder_job options contents = do
   planned ← planned_run options contents
   Ok (Inorder (inorder_setup planned.setup) planned.plan)
-
--- the same with the empty plan
-unfoldable pub inorder_run_job : Options → List (List ℕ) → Result SingleJob Status
-inorder_run_job options contents = do
-  loaded ← timed_image (bytes_at contents 1) (bytes_at contents 0)
-  Ok (Inorder (inorder_setup (setup_for loaded.params options loaded.image
-      (bytes_at contents 2))) [])
 
 -- a script over the run of the plain machine is tested behind the image
 unfoldable pub back_job : ℕ → Options → List (List ℕ) → Result SingleJob Status
@@ -94,7 +94,8 @@ single_job wanted = do
 -- the job of a line with the bytes of its files and this many sets of devices, or the first refusal
 abbrev pub job_of : Line → ℕ → List (List ℕ) → Result Job Status
 job_of (line.Func image options) sets contents = single_job (func_job options contents)
-job_of (line.Run image machine threads options) sets contents = single_job (run_job options contents)
+job_of (line.Run image machine pipeline threads options) sets contents =
+    single_job (pipeline_job pipeline options contents)
 job_of (line.Sched image machine plan options) sets contents = single_job (sched_job options contents)
 job_of (line.Soak seed) sets contents = single_job (Ok (Run (soak_setup seed)))
 job_of (line.Back image script history options) sets contents =
@@ -103,19 +104,20 @@ job_of (line.Inorder image machine (Some plan) options) sets contents =
     single_job (inorder_job options contents)
 job_of (line.Inorder image machine None options) sets contents =
     single_job (inorder_run_job options contents)
-job_of (line.Sweep image machines options) sets contents = do
-  files ← swept machines options sets contents
+job_of (line.Sweep image machines pipeline options) sets contents = do
+  files ← swept machines pipeline options sets contents
   Ok (Sweep files)
 
 -- the line is played on one thread, and the call that plays it returns
 abbrev pub is_still : Line → Bool
 is_still (line.Func image options) = true
-is_still (line.Run image machine threads options) = threads == 1
+is_still (line.Run image machine pipeline.Window threads options) = threads == 1
+is_still (line.Run image machine pipeline.Inorder threads options) = true
 is_still (line.Sched image machine plan options) = true
 is_still (line.Soak seed) = false
 is_still (line.Back image script history options) = true
 is_still (line.Inorder image machine plan options) = true
-is_still (line.Sweep image machines options) = false
+is_still (line.Sweep image machines pipeline options) = false
 
 -- a sweep can open each of its machines: its limits are in their ranges, and the console can hold
 -- its input

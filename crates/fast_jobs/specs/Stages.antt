@@ -53,6 +53,14 @@ setup_for params options image input = record {
   ring = options.ring;
 }
 
+-- The in-order machine has one instruction at most in each of its four stages behind Fetch, whatever
+-- a machine file says of the window.
+unfoldable pub inorder_params : Params → Params
+inorder_params params = record params { core_window = 4 }
+
+abbrev pub inorder_setup : Setup → Setup
+inorder_setup s = record s { params = inorder_params s.params }
+
 -- the bytes of the file at a place of the list; none where the line names no such file
 abbrev pub bytes_at : List (List ℕ) → ℕ → List ℕ
 bytes_at contents place = slice_index_or contents place []

@@ -5,16 +5,20 @@ use Rattle.device_bus.specs.declared.kind.DeviceKind.{DeviceKind}
 use Rattle.device_bus.specs.Bus.{sets_order}
 use Rattle.mono_model.specs.declared.setup.Setup.{Setup}
 use Rattle.mono_model.specs.declared.final_state.Final.{Final}
+use Rattle.mono_model.specs.Setup.{is_setup}
 use Rattle.mono_model.specs.Report.{joined}
 use Rattle.report_text.specs.declared.status.Status.{Status}
 use Rattle.report_text.specs.declared.status.Status.TheVariants.{Sets}
 use Rattle.report_text.specs.SweepText.{is_sweep_refusal, sweep_text, sweep_refusal_text}
-use Rattle.sweep_runs.specs.Sweep.{last_of}
+use Rattle.inorder_model.specs.Standing.{IsInorder}
+use Rattle.sweep_runs.specs.Sweep.{lane_last_of, last_of}
 use Rattle.fast_cli.specs.declared.line.Options.{Options}
+use Rattle.fast_cli.specs.declared.line.Pipeline.{Pipeline}
+use Rattle.fast_cli.specs.declared.line.Pipeline.TheVariants.{Inorder, Window}
 use Rattle.fast_jobs.specs.declared.sweep_files.NamedMachine.{NamedMachine}
 use Rattle.fast_jobs.specs.declared.sweep_files.SweepFiles.{SweepFiles}
 use Rattle.fast_jobs.specs.Gives.{◌>>=◌}
-use Rattle.fast_jobs.specs.Stages.{bytes_at, setup_for, timed_image}
+use Rattle.fast_jobs.specs.Stages.{bytes_at, inorder_setup, setup_for, timed_image}
 
 -- each name with the bytes of its machine file
 abbrev pub named_machines : List (List ℕ) → List (List ℕ) → List NamedMachine
@@ -27,34 +31,50 @@ abbrev pub limits_of : Options → Options
 limits_of options = record options { input = None }
 
 -- the files are the image, each machine file, and what the console reads
-abbrev pub sweep_files : List (List ℕ) → Options → List (List ℕ) → SweepFiles
-sweep_files names options contents = record {
+abbrev pub sweep_files : List (List ℕ) → Pipeline → Options → List (List ℕ) → SweepFiles
+sweep_files names pipeline options contents = record {
   image = bytes_at contents 0;
   machines = named_machines names (drop 1 contents);
   input = bytes_at contents (length names + 1);
+  pipeline = pipeline;
   limits = limits_of options;
 }
 
 -- each machine needs devices of its own
-unfoldable pub swept : List (List ℕ) → Options → ℕ → List (List ℕ) → Result SweepFiles Status
-swept names options sets contents =
+unfoldable pub swept : List (List ℕ) → Pipeline → Options → ℕ → List (List ℕ) → Result SweepFiles Status
+swept names pipeline options sets contents =
     if nat_lt sets (length names)
     then Err (Sets (length names))
-    else Ok (sweep_files names options contents)
+    else Ok (sweep_files names pipeline options contents)
+
+-- the setup on a pipeline
+abbrev pub setup_on : Pipeline → Setup → Setup
+setup_on Window setup = setup
+setup_on Inorder setup = inorder_setup setup
+
+-- a pipeline can be begun with the setup
+abbrev pub IsSoundOn : Pipeline → Setup → Type 0
+IsSoundOn Window setup = is_setup setup ≡ true
+IsSoundOn Inorder setup = IsInorder setup
+
+-- what is reported of the run on a pipeline
+abbrev pub last_on : Pipeline → Setup → Final
+last_on Window setup = last_of setup
+last_on Inorder setup = lane_last_of setup
 
 -- the setup of the run on a machine, or what refuses it
 unfoldable pub machine_setup : SweepFiles → List ℕ → Result Setup Status
 machine_setup files machine = do
   loaded ← timed_image machine files.image
-  Ok (setup_for loaded.params files.limits loaded.image files.input)
+  Ok (setup_on files.pipeline (setup_for loaded.params files.limits loaded.image files.input))
 
 -- what is reported of the run, where there is one
-abbrev pub run_told : Result Setup Status → Result Final Status
-run_told (Ok setup) = Ok (last_of setup)
-run_told (Err status) = Err status
+abbrev pub run_told : Pipeline → Result Setup Status → Result Final Status
+run_told pipeline (Ok setup) = Ok (last_on pipeline setup)
+run_told pipeline (Err status) = Err status
 
 abbrev pub machine_told : SweepFiles → NamedMachine → Result Final Status
-machine_told files machine = run_told (machine_setup files machine.bytes)
+machine_told files machine = run_told files.pipeline (machine_setup files machine.bytes)
 
 -- the line of a machine
 abbrev pub told_line : NamedMachine → Result Final Status → List ℕ

@@ -4,9 +4,8 @@ ghost use Rattle.fast_cli.specs.Ranges.{HasRanges, IsInRange};
 ghost use Rattle.fast_jobs.specs.Files.{files_of};
 ghost use Rattle.fast_jobs.specs.Gives.{Gives};
 ghost use Rattle.fast_jobs.specs.declared.job.SingleJob.{SingleJob as AnyRun};
-ghost use Rattle.inorder_model.specs.Standing.{IsInorder};
 ghost use Rattle.fast_jobs.specs.Job.{back_job, bytes_at, func_job, inorder_job, inorder_run_job};
-ghost use Rattle.fast_jobs.specs.Job.{inorder_setup, job_of, planned_run, run_job, sched_job};
+ghost use Rattle.fast_jobs.specs.Job.{job_of, pipeline_job, planned_run, run_job, sched_job};
 ghost use Rattle.fast_jobs.specs.Job.{CanBegin, CanStart, sets_for, soak_setup};
 ghost use Rattle.fast_jobs.specs.Reading.{AreWithin};
 
@@ -14,11 +13,11 @@ use crate::image::read_image;
 use crate::plan::Plan;
 use crate::refusal::Refusal;
 use crate::script::read_script;
-use crate::setup::setup_for;
+use crate::setup::{inorder_setup, setup_for};
 use crate::sweep_files::{SweepFiles, sweep_files};
 use crate::timed_image::timed_image;
 use back_debug::Script;
-use fast_cli::{Line, Options, default_options};
+use fast_cli::{Line, Options, Pipeline, default_options};
 use fsim_base::Bytes;
 use gen_image::{soak_image, soak_params};
 use mono_model::{Params, Setup};
@@ -60,7 +59,11 @@ pub fn job_of(alloc: Global, line: &Line, sets: usize, contents: Vec<Bytes>) -> 
 {
     let job = match line {
         Line::Func { options, .. } => func_job(alloc, options, contents)?,
-        Line::Run { options, .. } => run_job(alloc, options, contents)?,
+        Line::Run {
+            pipeline,
+            options,
+            ..
+        } => pipeline_job(alloc, *pipeline, options, contents)?,
         Line::Sched { options, .. } => sched_job(alloc, options, contents)?,
         Line::Soak { seed } => soak_job(alloc, *seed)?,
         Line::Back {
@@ -80,9 +83,13 @@ pub fn job_of(alloc: Global, line: &Line, sets: usize, contents: Vec<Bytes>) -> 
         } => inorder_run_job(alloc, options, contents)?,
         Line::Sweep {
             machines,
+            pipeline,
             options,
             ..
-        } => return Ok(Job::Sweep(sweep_files(alloc, machines, options, sets, contents)?)),
+        } => {
+            let files = sweep_files(alloc, machines, *pipeline, options, sets, contents)?;
+            return Ok(Job::Sweep(files));
+        }
     };
     Ok(Job::Single(job))
 }
@@ -99,6 +106,24 @@ fn func_job(alloc: Global, options: &Options, contents: Vec<Bytes>) -> Result<Si
     let image = read_image(alloc, bytes_at(contents.as_slice(), 0), params.ram_range())?;
     let input = take_at(alloc, contents, 1);
     Ok(SingleJob::Func(setup_for(params, options, image, input)))
+}
+
+/// The run of an image on a pipeline; the files are image, machine file and input.
+fn pipeline_job(
+    alloc: Global,
+    pipeline: Pipeline,
+    options: &Options,
+    contents: Vec<Bytes>,
+) -> Result<SingleJob, Refusal>
+    requires ranges { HasRanges options.now }
+    requires input { length (bytes_at contents.items 2) ≤ input_limit }
+    ensures job { Gives (pipeline_job pipeline options.now contents.items) result }
+    ensures can { IfOk result (λ job. CanStart job) }
+{
+    match pipeline {
+        Pipeline::Window => run_job(alloc, options, contents),
+        Pipeline::Inorder => inorder_run_job(alloc, options, contents),
+    }
 }
 
 /// The run of an image on a machine; the files are image, machine file and input.
@@ -184,17 +209,6 @@ fn inorder_run_job(
     let input = take_at(alloc, contents, 2);
     let setup = setup_for(loaded.params, options, loaded.image, input);
     Ok(SingleJob::Inorder(inorder_setup(setup), Plan::empty(alloc)))
-}
-
-/// The setup with a window for the four stages behind Fetch of the in-order machine.
-fn inorder_setup(setup: Setup) -> Setup
-    requires sound { is_setup setup ≡ true }
-    ensures setup { result ≡ inorder_setup setup }
-    ensures sound { IsInorder result }
-{
-    let mut setup = setup;
-    setup.params.core_window = 4;
-    setup
 }
 
 /// A debugger's script for the sequential run of an image on the plain machine; the files are

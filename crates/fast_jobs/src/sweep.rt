@@ -1,23 +1,22 @@
 //! Runs an image on each of many machines, and writes a line of each.
-ghost use Rattle.std.specs.Prelude.{◌≡◌, ℕ, ◌+◌, ◌*◌, ◌≤◌, ◌/◌, ◌++◌, true, map, length};
+ghost use Rattle.std.specs.Prelude.{◌≡◌, ℕ, ◌+◌, ◌*◌, ◌≤◌, ◌/◌, ◌++◌, map, length};
 ghost use Rattle.std.specs.Prelude.{All, vec_len, IfOk, OnOk};
 ghost use Rattle.std.specs.Vec.Iter.{into_iter_items, into_iter_len};
 ghost use Rattle.fsim_ports.specs.Sink.{Puts};
 ghost use Rattle.device_bus.specs.Bus.{AreSets, device_order};
-ghost use Rattle.mono_model.specs.Setup.{is_setup};
-ghost use Rattle.sweep_runs.specs.Sweep.{last_of};
 ghost use Rattle.fast_jobs.specs.declared.job.Job.{Job as AnyJob};
 ghost use Rattle.fast_jobs.specs.Ending.{Ends};
 ghost use Rattle.fast_jobs.specs.Call.{writing_of};
 ghost use Rattle.fast_jobs.specs.Job.{CanSweep};
-ghost use Rattle.fast_jobs.specs.SweepFiles.{AreTold, HasLine, HasSets, finals_behind, next_line};
-ghost use Rattle.fast_jobs.specs.SweepFiles.{told_lines};
+ghost use Rattle.fast_jobs.specs.SweepFiles.{AreTold, HasLine, HasSets, IsSoundOn, finals_behind};
+ghost use Rattle.fast_jobs.specs.SweepFiles.{last_on, next_line, told_lines};
 
 use crate::grow::{append, push};
 use crate::refusal::{Refusal, tell_want_of_memory};
 use crate::sweep_files::{NamedMachine, SweepFiles};
 use crate::sweep_setup::setup_of;
 use device_bus::Device;
+use fast_cli::Pipeline;
 use fsim_base::NoMemory;
 use fsim_ports::Sink;
 use mono_model::Final;
@@ -25,7 +24,7 @@ use report_text::{Status, WriteFault, sweep_line, sweep_refusal};
 use std::alloc::Global;
 use std::thread::Threads;
 use std::vec::IntoIter;
-use sweep_runs::{Job, MOST_JOBS, sweep};
+use sweep_runs::{Job, MOST_JOBS, sweep, sweep_in_order};
 
 /// What a sweep has of machines, in their order: of each why it has no run, if so, and what is
 /// reported of those that have one.
@@ -97,7 +96,7 @@ fn tell_all<R: Threads + Sync, D: Device + Send>(
     while !machines.is_empty() {
         let (next, rest) = machines.split_at(machines.len().min(MOST_JOBS));
         let batch = open_batch(alloc, files, next, &mut devices)?;
-        run_batch(rt, alloc, batch, &mut told)?;
+        run_batch(rt, alloc, files.pipeline, batch, &mut told)?;
         machines = rest;
     }
     Ok(told)
@@ -107,21 +106,41 @@ fn tell_all<R: Threads + Sync, D: Device + Send>(
 fn run_batch<R: Threads + Sync, D: Device + Send>(
     rt: &R,
     alloc: Global,
+    pipeline: Pipeline,
     batch: Batch<D>,
     told: &mut Told,
 ) -> Result<(), NoMemory>
     requires few { vec_len batch.jobs ≤ MOST_JOBS }
-    requires sound { All (λ job. is_setup job.setup ≡ true) batch.jobs.items }
+    requires sound { All (λ job. IsSoundOn pipeline job.setup) batch.jobs.items }
     requires order { All (λ job. map D.kind job.devices.items ≡ device_order) batch.jobs.items }
     ensures refusals { OnOk result
         (told.new.refusals.items ≡ told.old.refusals.items ++ batch.refusals.items) }
     ensures finals { OnOk result (told.new.finals.items
-        ≡ told.old.finals.items ++ map (λ job. last_of job.setup) batch.jobs.items) }
+        ≡ told.old.finals.items ++ map (λ job. last_on pipeline job.setup) batch.jobs.items) }
 {
     let Batch { mut refusals, jobs } = batch;
-    let mut finals = sweep(rt, alloc, jobs)?;
+    let mut finals = play_jobs(rt, alloc, pipeline, jobs)?;
     append(&mut told.refusals, &mut refusals)?;
     append(&mut told.finals, &mut finals)
+}
+
+/// Does the runs of jobs on a pipeline.
+fn play_jobs<R: Threads + Sync, D: Device + Send>(
+    rt: &R,
+    alloc: Global,
+    pipeline: Pipeline,
+    jobs: Vec<Job<D>>,
+) -> Result<Vec<Final>, NoMemory>
+    requires few { vec_len jobs ≤ MOST_JOBS }
+    requires sound { All (λ job. IsSoundOn pipeline job.setup) jobs.items }
+    requires order { All (λ job. map D.kind job.devices.items ≡ device_order) jobs.items }
+    ensures finals { IfOk result (λ finals. finals.items
+        ≡ map (λ job. last_on pipeline job.setup) jobs.items) }
+{
+    match pipeline {
+        Pipeline::Window => sweep(rt, alloc, jobs),
+        Pipeline::Inorder => sweep_in_order(rt, alloc, jobs),
+    }
 }
 
 /// Opens machines, each that can run with the next set of devices.
@@ -141,12 +160,12 @@ fn open_batch<D: Device>(
         (into_iter_len devices.old ≤ into_iter_len devices.new + 3 * length machines.now) }
     ensures few { IfOk result (λ batch. vec_len batch.jobs ≤ length machines.now) }
     ensures sound { IfOk result (λ batch.
-        All (λ job. is_setup job.setup ≡ true) batch.jobs.items) }
+        All (λ job. IsSoundOn files.now.pipeline job.setup) batch.jobs.items) }
     ensures order { IfOk result (λ batch.
         All (λ job. map D.kind job.devices.items ≡ device_order) batch.jobs.items) }
     ensures lines { IfOk result (λ batch. All HasLine batch.refusals.items) }
     ensures told { IfOk result (λ batch. AreTold files.now machines.now batch.refusals.items
-        (map (λ job. last_of job.setup) batch.jobs.items)) }
+        (map (λ job. last_on files.now.pipeline job.setup) batch.jobs.items)) }
 {
     let mut batch = Batch {
         refusals: Vec::new(alloc),

@@ -10,7 +10,7 @@ ghost use Rattle.fast_jobs.specs.SweepFiles.{limits_of, named_machines, swept};
 use crate::files::copy_of;
 use crate::grow::push;
 use crate::refusal::Refusal;
-use fast_cli::{Options, Texts};
+use fast_cli::{Options, Pipeline, Texts};
 use fsim_base::{Bytes, NoMemory, Text};
 use report_text::Status;
 use std::alloc::Global;
@@ -48,13 +48,15 @@ impl Machines {
     }
 }
 
-/// The bytes of an image, of machine files and of what the console reads, and the limits of the
-/// runs. Each run is opened from them when its turn comes.
+/// The bytes of an image, of machine files and of what the console reads, and the pipeline and the
+/// limits of the runs. Each run is opened from them when its turn comes.
 #[derive(Debug, Drop)]
 pub struct SweepFiles {
     pub image: Bytes,
     pub machines: Machines,
     pub input: Bytes,
+    /// Which machine plays the runs.
+    pub pipeline: Pipeline,
     /// They name no file.
     pub limits: Options,
 }
@@ -64,13 +66,14 @@ pub struct SweepFiles {
 pub fn sweep_files(
     alloc: Global,
     names: &Texts,
+    pipeline: Pipeline,
     options: &Options,
     sets: usize,
     contents: Vec<Bytes>,
 ) -> Result<SweepFiles, Refusal>
     requires ranges { HasRanges options.now }
     requires input { length (bytes_at contents.items (length names.now + 1)) ≤ input_limit }
-    ensures files { Gives (swept names.now options.now sets contents.items) result }
+    ensures files { Gives (swept names.now pipeline options.now sets contents.items) result }
     ensures sound { IfOk result (λ files. CanSweep files) }
     ensures room { IfOk result (λ files. length files.machines ≤ sets) }
 {
@@ -86,6 +89,7 @@ pub fn sweep_files(
         image,
         machines: Machines { list },
         input,
+        pipeline,
         limits: limits_of(options),
     })
 }

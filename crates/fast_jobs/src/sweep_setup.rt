@@ -1,14 +1,13 @@
 //! The setup of a machine of a sweep.
 ghost use Rattle.std.specs.Prelude.{◌≡◌, ◌≢◌, true, IfOk, IfErr};
-ghost use Rattle.mono_model.specs.Setup.{is_setup};
 ghost use Rattle.report_text.specs.declared.status.Status.TheVariants.{Memory};
 ghost use Rattle.report_text.specs.SweepText.{is_sweep_refusal};
 ghost use Rattle.fast_jobs.specs.Gives.{Gives};
 ghost use Rattle.fast_jobs.specs.Job.{CanSweep};
-ghost use Rattle.fast_jobs.specs.SweepFiles.{machine_setup};
+ghost use Rattle.fast_jobs.specs.SweepFiles.{IsSoundOn, machine_setup};
 
 use crate::refusal::Refusal;
-use crate::setup::setup_for;
+use crate::setup::{setup_for, setup_on};
 use crate::sweep_files::SweepFiles;
 use crate::timed_image::timed_image;
 use fsim_base::{Bytes, NoMemory};
@@ -20,12 +19,13 @@ use std::alloc::Global;
 pub fn setup_of(alloc: Global, files: &SweepFiles, machine: &[u8]) -> Result<Setup, Refusal>
     requires can { CanSweep files.now }
     ensures setup { Gives (machine_setup files.now machine.now) result }
-    ensures sound { IfOk result (λ setup. is_setup setup ≡ true) }
+    ensures sound { IfOk result (λ setup. IsSoundOn files.now.pipeline setup) }
     ensures line { IfErr result (λ status. status ≢ Memory → is_sweep_refusal status ≡ true) }
 {
     let loaded = timed_image(alloc, machine, files.image.as_slice())?;
     let input = copy_of(alloc, &files.input)?;
-    Ok(setup_for(loaded.params, &files.limits, loaded.image, input))
+    let setup = setup_for(loaded.params, &files.limits, loaded.image, input);
+    Ok(setup_on(files.pipeline, setup))
 }
 
 /// The same bytes once more.

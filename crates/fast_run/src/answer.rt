@@ -8,7 +8,7 @@ ghost use Rattle.fast_run.specs.Answer.{IsAnswer};
 ghost use Rattle.fast_run.specs.Settled.{IsComplete, IsSettled};
 
 use device_bus::{Device, SET_SIZE};
-use fast_cli::{Line, UsageFault, read_words};
+use fast_cli::{Line, Pipeline, UsageFault, read_words};
 use fast_jobs::{Job, Refusal, first_set, open, run, run_in_threads, tell_want_of_memory};
 use fsim_ports::{Files, Gate, Sink};
 use report_text::Status;
@@ -86,7 +86,15 @@ fn is_still(line: &Line) -> bool
 {
     match line {
         Line::Func { .. } | Line::Sched { .. } | Line::Back { .. } | Line::Inorder { .. } => true,
-        Line::Run { threads, .. } => *threads == 1,
+        Line::Run {
+            pipeline: Pipeline::Window,
+            threads,
+            ..
+        } => *threads == 1,
+        Line::Run {
+            pipeline: Pipeline::Inorder,
+            ..
+        } => true,
         Line::Soak { .. } | Line::Sweep { .. } => false,
     }
 }

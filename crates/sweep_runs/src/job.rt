@@ -1,10 +1,12 @@
 ghost use Rattle.std.specs.Prelude.{◌≡◌, true, map, IfOk};
 ghost use Rattle.device_bus.specs.Bus.{device_order};
 ghost use Rattle.mono_model.specs.Setup.{is_setup};
-ghost use Rattle.sweep_runs.specs.Sweep.{last_of};
+ghost use Rattle.inorder_model.specs.Standing.{IsInorder};
+ghost use Rattle.sweep_runs.specs.Sweep.{lane_last_of, last_of};
 
 use device_bus::Device;
 use fsim_base::NoMemory;
+use inorder_model::InorderCore;
 use mono_model::{Final, Setup};
 use split_core::SplitCore;
 use std::alloc::Global;
@@ -26,6 +28,18 @@ pub fn play<D: Device>(alloc: Global, job: Job<D>) -> Result<Final, NoMemory>
 {
     let Job { setup, devices } = job;
     let mut core = SplitCore::new(alloc, &setup, devices)?;
+    core.to_end();
+    Ok(core.committed())
+}
+
+/// The same on the in-order machine.
+pub fn play_in_order<D: Device>(alloc: Global, job: Job<D>) -> Result<Final, NoMemory>
+    requires sound { IsInorder job.setup }
+    requires order { map D.kind job.devices.items ≡ device_order }
+    ensures last { IfOk result (λ last. last ≡ lane_last_of job.setup) }
+{
+    let Job { setup, devices } = job;
+    let mut core = InorderCore::new(alloc, &setup, devices)?;
     core.to_end();
     Ok(core.committed())
 }

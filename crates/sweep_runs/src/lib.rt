@@ -5,4 +5,4 @@ mod job;
 mod runs;
 
 pub use job::Job;
-pub use runs::{MOST_JOBS, sweep};
+pub use runs::{MOST_JOBS, sweep, sweep_in_order};

@@ -1,9 +1,10 @@
 ghost use Rattle.std.specs.Prelude.{◌≡◌, ◌≤◌, true, map, All, IfOk, Ok, vec_len};
 ghost use Rattle.device_bus.specs.Bus.{device_order};
 ghost use Rattle.mono_model.specs.Setup.{is_setup};
-ghost use Rattle.sweep_runs.specs.Sweep.{last_of};
+ghost use Rattle.inorder_model.specs.Standing.{IsInorder};
+ghost use Rattle.sweep_runs.specs.Sweep.{lane_last_of, last_of};
 
-use crate::job::{Job, play};
+use crate::job::{Job, play, play_in_order};
 use device_bus::Device;
 use fsim_base::NoMemory;
 use mono_model::Final;
@@ -32,6 +33,29 @@ pub fn sweep<R: Threads + Sync, D: Device + Send>(
         requires order { map D.kind job.devices.items ≡ device_order }
         ensures last { IfOk result (λ last. last ≡ last_of job.setup) }
     { play(alloc, job) };
+    match map_vec(rt, jobs, &play_job) {
+        Ok(played) => all_found(alloc, played.as_slice()),
+        Err(AllocError) => Err(NoMemory),
+    }
+}
+
+/// The same on the in-order machine.
+pub fn sweep_in_order<R: Threads + Sync, D: Device + Send>(
+    rt: &R,
+    alloc: Global,
+    jobs: Vec<Job<D>>,
+) -> Result<Vec<Final>, NoMemory>
+    requires few { vec_len jobs ≤ MOST_JOBS }
+    requires sound { All (λ job. IsInorder job.setup) jobs.items }
+    requires order { All (λ job. map D.kind job.devices.items ≡ device_order) jobs.items }
+    ensures finals { IfOk result (λ finals. finals.items
+        ≡ map (λ job. lane_last_of job.setup) jobs.items) }
+{
+    let play_job = |job: Job<D>| -> Result<Final, NoMemory>
+        requires sound { IsInorder job.setup }
+        requires order { map D.kind job.devices.items ≡ device_order }
+        ensures last { IfOk result (λ last. last ≡ lane_last_of job.setup) }
+    { play_in_order(alloc, job) };
     match map_vec(rt, jobs, &play_job) {
         Ok(played) => all_found(alloc, played.as_slice()),
         Err(AllocError) => Err(NoMemory),

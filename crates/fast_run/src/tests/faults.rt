@@ -67,7 +67,7 @@ fn files_of(alloc: Global) -> Result<MemoryFiles, Fail> {
 
 /// Lines and their refusals, in the order in which these are tested. `reference/out/reference`
 /// with a line's words writes them too.
-const REFUSED: [(&str, u8, &str); 41] = [
+const REFUSED: [(&str, u8, &str); 42] = [
     ("func none", 13, "fast: missing: image\n"),
     ("func none --input none", 13, "fast: missing: image\n"),
     ("func pass --input none", 13, "fast: missing: input\n"),
@@ -125,6 +125,11 @@ const REFUSED: [(&str, u8, &str); 41] = [
         "fast: machine: range core.window 0\n",
     ),
     ("inorder short empty", 11, "fast: image: short\n"),
+    (
+        "run short zero --pipeline inorder",
+        12,
+        "fast: machine: range core.window 0\n",
+    ),
 ];
 
 fn refused() -> &'static [(&'static str, u8, &'static str)] {

@@ -612,7 +612,7 @@ const REPORTS: [(&str, u8, &str); 66] = [
 ];
 
 /// The same of the in-order machine.
-const IN_ORDER: [(&str, u8, &str); 5] = [
+const IN_ORDER: [(&str, u8, &str); 7] = [
     (
         "inorder pass plain nothing",
         0,
@@ -646,6 +646,23 @@ const IN_ORDER: [(&str, u8, &str); 5] = [
             "status: pass; cycles: 38; instructions: 25; fetched: 37; squashed: 9; ",
             "branches: 10; mispredicted: 9; pc: 8000001c; ",
             "x4=00000000 x5=00000000 x6=00100000 x7=00005555",
+        ),
+    ),
+    (
+        "run loop plain --pipeline inorder",
+        0,
+        concat!(
+            "status: pass; cycles: 38; instructions: 25; fetched: 37; squashed: 9; ",
+            "branches: 10; mispredicted: 9; pc: 8000001c; ",
+            "x4=00000000 x5=00000000 x6=00100000 x7=00005555",
+        ),
+    ),
+    (
+        "run pass plain --pipeline inorder --threads 1",
+        0,
+        concat!(
+            "status: pass; cycles: 8; instructions: 4; fetched: 7; pc: 80000010; ",
+            "x4=00000000 x5=00100000 x6=00005555 x7=00000000",
         ),
     ),
     // What computes is three cycles in Execute. The first load, which misses, is twelve in Memory,

@@ -7,7 +7,7 @@ use fsim_ports::{MemorySink, QuietGate};
 use std::test::Fail;
 
 /// Lines, and what is written of the machines that they name.
-const SWEEPS: [(&str, &str); 6] = [
+const SWEEPS: [(&str, &str); 7] = [
     (
         "sweep pass plain eight bad",
         "plain: pass cycles 13 instructions 4 mispredicted 0 icache 0 dcache 0\n\
@@ -27,6 +27,11 @@ const SWEEPS: [(&str, &str); 6] = [
     (
         "sweep short plain bad",
         "plain: image: short\nbad: machine: range core.window 0\n",
+    ),
+    (
+        "sweep evict lane bad --pipeline inorder",
+        "lane: pass cycles 36 instructions 8 mispredicted 1 icache 0 dcache 1\n\
+         bad: machine: range core.window 0\n",
     ),
     // The ninth machine comes once the first eight are done.
     (

@@ -9,7 +9,7 @@ const USAGE: &str = concat!(
     "back IMAGE SCRIPT, inorder IMAGE MACHINE PLAN, sweep IMAGE MACHINES\n",
 );
 
-const REFUSED: [&str; 38] = [
+const REFUSED: [&str; 40] = [
     "",
     "--help",
     "walk a",
@@ -33,6 +33,8 @@ const REFUSED: [&str; 38] = [
     "run a m --threads 0",
     "run a m --threads 3",
     "run a m --threads 1 --threads=1",
+    "run a m --pipeline lane",
+    "func a --pipeline inorder",
     "sched a m p --threads 1",
     "soak 7 --threads 1",
     "soak 7 --cycles 5",
@@ -51,7 +53,7 @@ const REFUSED: [&str; 38] = [
 ];
 
 /// Lines by the file that they lack.
-const LINES: [(&str, &str); 18] = [
+const LINES: [(&str, &str); 19] = [
     ("run n m", "fast: missing: image\n"),
     ("run a n", "fast: missing: machine\n"),
     ("run --ring=8 a n", "fast: missing: machine\n"),
@@ -64,6 +66,7 @@ const LINES: [(&str, &str); 18] = [
     ("run -- --ring -h", "fast: missing: image\n"),
     ("run - -", "fast: missing: image\n"),
     ("run a n --threads=2", "fast: missing: machine\n"),
+    ("run a n --pipeline=inorder", "fast: missing: machine\n"),
     ("func a --input -", "fast: missing: input\n"),
     ("func a --input=-x", "fast: missing: input\n"),
     ("sched a n p", "fast: missing: machine\n"),

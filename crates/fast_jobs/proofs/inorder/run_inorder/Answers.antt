@@ -13,7 +13,8 @@ use Rattle.fast_jobs.specs.declared.job.SingleJob.TheVariants.{Inorder}
 use Rattle.fast_jobs.specs.Outcome.{status_for}
 use Rattle.fast_jobs.proofs.Outcomes.{running-end}
 use Rattle.fast_jobs.proofs.Ending.{not_running}
-use Rattle.fast_jobs.proofs.LaneEnding.{IsLast, IsLaneAt, lane-end, lane-text, lane_at-limit, last-place}
+use Rattle.sweep_runs.proofs.LaneLast.{IsLast, last-place}
+use Rattle.fast_jobs.proofs.LaneEnding.{IsLaneAt, lane-end, lane-text, lane_at-limit}
 use Rattle.fast_jobs.proofs.inorder.run_inorder.Goals as goal
 
 pub returns-clause-ends : goal.returns-clause-ends

@@ -1,8 +1,7 @@
 use Rattle.std.proofs.Common.{◌≡◌, ◌≤◌, ◌+◌, ◌*◌, length, map, All, sym, subst, arith}
 use Rattle.std.proofs.lemmas.List.Elements.{All-append}
 use Rattle.std.specs.Vec.Iter.{into_iter_items, into_iter_len}
-use Rattle.sweep_runs.specs.Sweep.{last_of}
-use Rattle.fast_jobs.specs.SweepFiles.{HasLine}
+use Rattle.fast_jobs.specs.SweepFiles.{HasLine, last_on}
 use Rattle.fast_jobs.proofs.Sweeps.{sets-fewer, told-batch, told-last}
 use Rattle.fast_jobs.proofs.sweep.tell_all.Goals as goal
 
@@ -21,7 +20,7 @@ loop-machines-preserved g c =
     let there : 3 * length before ≤ into_iter_len c.loop-machines.devices = inv.count in
     record {
       told = told-batch files files.machines before next rest old.refusals.items new.refusals.items batch.refusals.items
-          old.finals.items new.finals.items (map (λ job. last_of job.setup) batch.jobs.items)
+          old.finals.items new.finals.items (map (λ job. last_on files.pipeline job.setup) batch.jobs.items)
           c.split_at.ensures.by_index.0 c.in_ok-run_batch.ensures.refusals c.in_ok-run_batch.ensures.finals c.in_ok-batch.ensures.told inv.told;
       lines = subst (All HasLine) (sym c.in_ok-run_batch.ensures.refusals) (All-append HasLine old.refusals.items batch.refusals.items inv.lines c.in_ok-batch.ensures.lines);
       sets = c.in_ok-batch.ensures.sets (length rest)

@@ -12,7 +12,7 @@ returns-then-sets-names-clause-files c = λ other.
     let names = c.args.names.now in
     let many : length c.as_slice-names.result.now ≡ length names = ap length c.as_slice-names.ensures.same in
     let more : c.args.sets < length names = omega (arith, many, c.if-sets-names.true) in
-    swept-refused names c.args.options.now c.args.sets c.args.contents.items more
+    swept-refused names c.args.pipeline c.args.options.now c.args.sets c.args.contents.items more
     ∙ ap (λ (k : ℕ). Err (Sets k)) (sym many) ∙ ap Err (sym c.new.ensures.same)
 
 pub returns-clause-files : goal.returns-clause-files
@@ -31,8 +31,8 @@ returns-clause-files c =
     let left : into_iter_items c.named_machines.new.contents ≡ drop (length names) (drop 1 contents) = c.in_ok-list.ensures.left ∙ (λ i. drop (many i) (behind i)) in
     let last : input ≡ bytes_at contents (length names + 1) = c.next_file-input.ensures.bytes ∙ ap (λ (cs : List (List ℕ)). bytes_at cs 0) left
     ∙ at-drop (length names) (drop 1 contents) ∙ at-behind contents (length names) in
-    swept-made names options c.args.sets contents image machines input enough first each last
-    ∙ ap (λ (limits : Options). Ok (record { image = image; machines = machines; input = input; limits = limits })) (sym c.limits_of.ensures.limits)
+    swept-made names c.args.pipeline options c.args.sets contents image machines input enough first each last
+    ∙ ap (λ (limits : Options). Ok (record { image = image; machines = machines; input = input; pipeline = c.args.pipeline; limits = limits })) (sym c.limits_of.ensures.limits)
 
 pub returns-clause-room : goal.returns-clause-room
 returns-clause-room c =

@@ -1,7 +1,7 @@
 use Rattle.std.proofs.Common.{refl}
-use Rattle.fast_jobs.specs.Job.{inorder_params}
+use Rattle.fast_jobs.specs.Stages.{inorder_params}
 use Rattle.fast_jobs.proofs.Setups.{IsInorder-inorder_setup}
-use Rattle.fast_jobs.proofs.job.inorder_setup.Goals as goal
+use Rattle.fast_jobs.proofs.setup.inorder_setup.Goals as goal
 
 pub returns-clause-setup : goal.returns-clause-setup
 unfolding inorder_params
