@@ -136,9 +136,9 @@ func_rules : AreRulesOf func_form (rules_of func_form)
 func_rules = record {
   long = λ name. long_options name func_form.options [] refl;
   short = λ x. refl;
-  known = (refl, (refl, (refl, tt)));
+  known = (refl, (refl, (refl, (refl, tt))));
   places = (true, refl, refl, refl);
-  defaults = (refl, (refl, (refl, (refl, tt))));
+  defaults = (refl, (refl, (refl, (refl, (refl, tt)))));
   needs = λ rows. needs_one (is_given (codes "IMAGE") rows);
 }
 
@@ -186,9 +186,9 @@ back_rules : AreRulesOf back_form (rules_of back_form)
 back_rules = record {
   long = λ name. long_options name back_form.options [] refl;
   short = λ x. refl;
-  known = (refl, (refl, (refl, (refl, tt))));
+  known = (refl, (refl, (refl, (refl, (refl, tt)))));
   places = (true, refl, refl, (true, refl, refl, refl));
-  defaults = (refl, (refl, (refl, (refl, (refl, (refl, tt))))));
+  defaults = (refl, (refl, (refl, (refl, (refl, (refl, (refl, tt)))))));
   needs = λ rows. needs_two (is_given (codes "IMAGE") rows) (is_given (codes "SCRIPT") rows);
 }
 

@@ -29,14 +29,15 @@ func_form = record {
   names = codes "IMAGE" ∷ [];
   optional = [];
   rest = None;
-  options = limits;
+  options = codes "machine" ∷ limits;
 }
 
 unfoldable pub func_at : Values → Option Line
 func_at values = do
   image ← name_at (codes "IMAGE") values
+  machine ← name_if_given (codes "machine") values
   options ← options_at values
-  Some (Func image options)
+  Some (Func image machine options)
 
 abbrev pub func_command : Command
 func_command = record { form = func_form; read = func_at }
@@ -109,16 +110,17 @@ back_form = record {
   names = codes "IMAGE" ∷ codes "SCRIPT" ∷ [];
   optional = [];
   rest = None;
-  options = codes "history" ∷ limits;
+  options = codes "machine" ∷ codes "history" ∷ limits;
 }
 
 unfoldable pub back_at : Values → Option Line
 back_at values = do
   image ← name_at (codes "IMAGE") values
   script ← name_at (codes "SCRIPT") values
+  machine ← name_if_given (codes "machine") values
   history ← number_at (codes "history") 1 1048576 65536 values
   options ← options_at values
-  Some (Back image script history options)
+  Some (Back image script machine history options)
 
 abbrev pub back_command : Command
 back_command = record { form = back_form; read = back_at }

@@ -14,10 +14,10 @@ pub record HasRanges (options : Options) : Type 0 where
   pub output : options.output ≤ 16777216
 
 abbrev pub IsInRange : Line → Type 0
-IsInRange (Func image options) = HasRanges options
+IsInRange (Func image machine options) = HasRanges options
 IsInRange (Run image machine pipeline threads options) = IsFrom 1 2 threads × HasRanges options
 IsInRange (Sched image machine plan options) = HasRanges options
 IsInRange (Soak seed) = seed ≤ 18446744073709551615
-IsInRange (Back image script history options) = IsFrom 1 1048576 history × HasRanges options
+IsInRange (Back image script machine history options) = IsFrom 1 1048576 history × HasRanges options
 IsInRange (Inorder image machine plan options) = HasRanges options
 IsInRange (Sweep image machines pipeline options) = IsFrom 1 64 (length machines) × HasRanges options

@@ -11,14 +11,14 @@ ghost use Rattle.fast_cli.specs.Examples.{defaults, words_of};
 /// Each command with its names alone, and so with each default.
 #[tactic(auto, unfolding(crate::proofs::OnWords::line_on_words))]
 pub fn commands_with_names_alone()
-    ensures func { line (words_of (codes "func a")) ≡ Some (Func (codes "a") defaults) }
+    ensures func { line (words_of (codes "func a")) ≡ Some (Func (codes "a") None defaults) }
     ensures run { line (words_of (codes "run a m"))
         ≡ Some (Run (codes "a") (codes "m") Window 2 defaults) }
     ensures sched { line (words_of (codes "sched a m p"))
         ≡ Some (Sched (codes "a") (codes "m") (codes "p") defaults) }
     ensures soak { line (words_of (codes "soak 7")) ≡ Some (Soak 7) }
     ensures back { line (words_of (codes "back a s"))
-        ≡ Some (Back (codes "a") (codes "s") 65536 defaults) }
+        ≡ Some (Back (codes "a") (codes "s") None 65536 defaults) }
     ensures inorder { line (words_of (codes "inorder a m p"))
         ≡ Some (Inorder (codes "a") (codes "m") (Some (codes "p")) defaults) }
     ensures inorder_without_a_plan { line (words_of (codes "inorder a m"))
@@ -27,14 +27,14 @@ pub fn commands_with_names_alone()
         ≡ Some (Sweep (codes "a") (codes "m" ∷ []) Window defaults) }
     ensures sweep_three { line (words_of (codes "sweep a m n m"))
         ≡ Some (Sweep (codes "a") (codes "m" ∷ codes "n" ∷ codes "m" ∷ []) Window defaults) }
-    ensures named_help { line (words_of (codes "func help")) ≡ Some (Func (codes "help") defaults) }
+    ensures named_help { line (words_of (codes "func help")) ≡ Some (Func (codes "help") None defaults) }
 {}
 
 /// Each option, and which commands have it.
 #[tactic(auto, unfolding(crate::proofs::OnWords::line_on_words))]
 pub fn each_option()
     ensures func { line (words_of (codes "func a --cycles 2 --input i --output 3"))
-        ≡ Some (Func (codes "a") (record defaults {
+        ≡ Some (Func (codes "a") None (record defaults {
           cycles = 2;
           input = Some (codes "i");
           output = 3;
@@ -51,7 +51,7 @@ pub fn each_option()
     ensures sched { line (words_of (codes "sched a m p --ring 1"))
         ≡ Some (Sched (codes "a") (codes "m") (codes "p") (record defaults { ring = 1 })) }
     ensures back { line (words_of (codes "back a s --history 1 --cycles 2"))
-        ≡ Some (Back (codes "a") (codes "s") 1 (record defaults { cycles = 2 })) }
+        ≡ Some (Back (codes "a") (codes "s") None 1 (record defaults { cycles = 2 })) }
     ensures inorder { line (words_of (codes "inorder a m p --ring 1"))
         ≡ Some (Inorder (codes "a") (codes "m") (Some (codes "p")) (record defaults { ring = 1 })) }
     ensures sweep { line (words_of (codes "sweep a m --ring 1"))
@@ -64,6 +64,11 @@ pub fn each_option()
     ensures func_has_no_pipeline { line (words_of (codes "func a --pipeline inorder")) ≡ None }
     ensures inorder_has_no_pipeline { line (words_of (codes "inorder a m --pipeline inorder"))
         ≡ None }
+    ensures func_machine { line (words_of (codes "func a --machine m"))
+        ≡ Some (Func (codes "a") (Some (codes "m")) defaults) }
+    ensures back_machine { line (words_of (codes "back a s --machine=m --history 1"))
+        ≡ Some (Back (codes "a") (codes "s") (Some (codes "m")) 1 defaults) }
+    ensures run_has_no_machine_option { line (words_of (codes "run a m --machine m")) ≡ None }
     ensures func_has_no_ring { line (words_of (codes "func a --ring 1")) ≡ None }
     ensures back_has_no_ring { line (words_of (codes "back a s --ring 1")) ≡ None }
     ensures soak_has_no_ring { line (words_of (codes "soak 7 --ring 1")) ≡ None }
@@ -112,20 +117,20 @@ pub fn numbers()
     ensures ring_below { line (words_of (codes "run a m --ring 0")) ≡ None }
     ensures ring_above { line (words_of (codes "run a m --ring 65537")) ≡ None }
     ensures cycles_least { line (words_of (codes "func a --cycles 1"))
-        ≡ Some (Func (codes "a") (record defaults { cycles = 1 })) }
+        ≡ Some (Func (codes "a") None (record defaults { cycles = 1 })) }
     ensures cycles_most { line (words_of (codes "func a --cycles 1099511627776"))
-        ≡ Some (Func (codes "a") (record defaults { cycles = 1099511627776 })) }
+        ≡ Some (Func (codes "a") None (record defaults { cycles = 1099511627776 })) }
     ensures cycles_below { line (words_of (codes "func a --cycles 0")) ≡ None }
     ensures cycles_above { line (words_of (codes "func a --cycles 1099511627777")) ≡ None }
     ensures output_least { line (words_of (codes "func a --output 0"))
-        ≡ Some (Func (codes "a") (record defaults { output = 0 })) }
+        ≡ Some (Func (codes "a") None (record defaults { output = 0 })) }
     ensures output_most { line (words_of (codes "func a --output 16777216"))
-        ≡ Some (Func (codes "a") (record defaults { output = 16777216 })) }
+        ≡ Some (Func (codes "a") None (record defaults { output = 16777216 })) }
     ensures output_above { line (words_of (codes "func a --output 16777217")) ≡ None }
     ensures history_least { line (words_of (codes "back a s --history 1"))
-        ≡ Some (Back (codes "a") (codes "s") 1 defaults) }
+        ≡ Some (Back (codes "a") (codes "s") None 1 defaults) }
     ensures history_most { line (words_of (codes "back a s --history 1048576"))
-        ≡ Some (Back (codes "a") (codes "s") 1048576 defaults) }
+        ≡ Some (Back (codes "a") (codes "s") None 1048576 defaults) }
     ensures history_below { line (words_of (codes "back a s --history 0")) ≡ None }
     ensures history_above { line (words_of (codes "back a s --history 1048577")) ≡ None }
     ensures threads_least { line (words_of (codes "run a m --threads 1"))
@@ -177,13 +182,13 @@ pub fn dashes()
     ensures one_dash { line (words_of (codes "run - m"))
         ≡ Some (Run (codes "-") (codes "m") Window 2 defaults) }
     ensures one_dash_as_value { line (words_of (codes "func a --input -"))
-        ≡ Some (Func (codes "a") (record defaults { input = Some (codes "-") })) }
+        ≡ Some (Func (codes "a") None (record defaults { input = Some (codes "-") })) }
     ensures attached_dash { line (words_of (codes "func a --input=-x"))
-        ≡ Some (Func (codes "a") (record defaults { input = Some (codes "-x") })) }
+        ≡ Some (Func (codes "a") None (record defaults { input = Some (codes "-x") })) }
     ensures attached_dashes { line (words_of (codes "func a --input=--"))
-        ≡ Some (Func (codes "a") (record defaults { input = Some (codes "--") })) }
+        ≡ Some (Func (codes "a") None (record defaults { input = Some (codes "--") })) }
     ensures attached_equals { line (words_of (codes "func a --input=x=y"))
-        ≡ Some (Func (codes "a") (record defaults { input = Some (codes "x=y") })) }
+        ≡ Some (Func (codes "a") None (record defaults { input = Some (codes "x=y") })) }
     ensures dash_in_next_word { line (words_of (codes "func a --input -x")) ≡ None }
     ensures dashes_in_next_word { line (words_of (codes "func a --cycles --")) ≡ None }
     ensures option_in_next_word { line (words_of (codes "func a --input --cycles=2")) ≡ None }
@@ -207,6 +212,7 @@ pub fn words_without_a_line()
     ensures empty_last_name { line (words_of (codes "run a ")) ≡ None }
     ensures empty_machine { line (words_of (codes "sweep a m  n")) ≡ None }
     ensures empty_input { line (words_of (codes "func a --input ")) ≡ None }
+    ensures empty_machine_file { line (words_of (codes "func a --machine=")) ≡ None }
     ensures empty_attached_input { line (words_of (codes "func a --input=")) ≡ None }
     ensures help_alone { line (words_of (codes "--help")) ≡ None }
     ensures help { line (words_of (codes "run --help")) ≡ None }

@@ -9,9 +9,10 @@ use thiserror::Error;
 /// gives.
 #[derive(Debug, Drop)]
 pub enum Line {
-    /// Executes the image sequentially.
+    /// Executes the image sequentially; the machine file, if there is one, places RAM.
     Func {
         image: Text,
+        machine: Option<Text>,
         options: Options,
     },
     /// Runs the image on the machine, with 1 or 2 `threads`: with 2 each side has a thread of its
@@ -35,9 +36,11 @@ pub enum Line {
         seed: u64,
     },
     /// Plays a debugger's script; at most `history` steps can be taken back, from 1 to 1,048,576.
+    /// The machine file, if there is one, places RAM.
     Back {
         image: Text,
         script: Text,
+        machine: Option<Text>,
         history: u32,
         options: Options,
     },

@@ -47,9 +47,11 @@ fn func_at(alloc: Global, matches: &ArgMatches<'_>) -> Result<Line, UsageFault>
     ensures memory { result ≡ Err UsageFault.Memory → IsSome (func_at (values_of matches.now)) }
 {
     let image = name_at(matches, "IMAGE").ok_or(UsageFault::Words)?;
+    let machine = name_if_given(matches, "machine").ok_or(UsageFault::Words)?;
     let options = options_at(matches).ok_or(UsageFault::Words)?;
     Ok(Line::Func {
         image: own_name(alloc, image)?,
+        machine: own_name_if_given(alloc, machine)?,
         options: own_options(alloc, &options)?,
     })
 }
@@ -114,11 +116,13 @@ fn back_at(alloc: Global, matches: &ArgMatches<'_>) -> Result<Line, UsageFault>
 {
     let image = name_at(matches, "IMAGE").ok_or(UsageFault::Words)?;
     let script = name_at(matches, "SCRIPT").ok_or(UsageFault::Words)?;
+    let machine = name_if_given(matches, "machine").ok_or(UsageFault::Words)?;
     let history = number_at(matches, "history", 1, 1_048_576, 65_536).ok_or(UsageFault::Words)?;
     let options = options_at(matches).ok_or(UsageFault::Words)?;
     Ok(Line::Back {
         image: own_name(alloc, image)?,
         script: own_name(alloc, script)?,
+        machine: own_name_if_given(alloc, machine)?,
         history: history as u32,
         options: own_options(alloc, &options)?,
     })

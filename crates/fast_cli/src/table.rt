@@ -39,7 +39,11 @@ pub(crate) fn form_for(name: CommandName) -> Form<'static>
     ensures form { form_of result ≡ (command_in name).form }
 {
     match name {
-        CommandName::Func => form("func", &["IMAGE"], &["cycles", "input", "output"]),
+        CommandName::Func => form(
+            "func",
+            &["IMAGE"],
+            &["machine", "cycles", "input", "output"],
+        ),
         CommandName::Run => form(
             "run",
             &["IMAGE", "MACHINE"],
@@ -54,7 +58,7 @@ pub(crate) fn form_for(name: CommandName) -> Form<'static>
         CommandName::Back => form(
             "back",
             &["IMAGE", "SCRIPT"],
-            &["history", "cycles", "input", "output"],
+            &["machine", "history", "cycles", "input", "output"],
         ),
         CommandName::Inorder => Form {
             optional: &["PLAN"],

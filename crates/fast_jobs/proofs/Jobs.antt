@@ -1,6 +1,8 @@
 -- What the console reads of a job's files, and what is left where a stage was refused.
-use Rattle.std.proofs.Common.{◌≡◌, ◌≢◌, ◌≤◌, ◌+◌, ℕ, true, List, [], ◌∷◌, ◌++◌, length, map, Option, Some, None, Result, Ok, Err, ap, sym, ◌∙◌, subst, arith}
+use Rattle.std.proofs.Common.{◌≡◌, ◌≢◌, ◌≤◌, ◌<◌, ◌+◌, ℕ, suc, true, List, [], ◌∷◌, ◌++◌, length, map, take, flat_map, get_or, append_assoc, append-nil, Option, Some, None, Result, Ok, Err, ap, sym, ◌∙◌, subst, arith}
+use Rattle.std.proofs.Math.Seq.{take-suc}
 use Rattle.std.proofs.lemmas.List.{length-map}
+use Rattle.std.proofs.lemmas.Grind.{flat_map-append}
 use Rattle.mono_model.specs.Setup.{input_limit}
 use Rattle.report_text.specs.declared.status.Role.TheVariants as role
 use Rattle.report_text.specs.declared.status.Status.{Status}
@@ -9,13 +11,13 @@ use Rattle.fast_cli.specs.declared.line.Line.{Line}
 use Rattle.fast_cli.specs.declared.line.Line.TheVariants as line
 use Rattle.fast_cli.specs.declared.line.Options.{Options}
 use Rattle.fast_jobs.specs.declared.files.NamedFile.{NamedFile}
-use Rattle.fast_jobs.specs.Files.{file_if_named, input_of}
+use Rattle.fast_jobs.specs.Files.{file, file_if_named, input_of}
 use Rattle.fast_jobs.specs.Gives.{Gives}
 use Rattle.fast_jobs.specs.declared.job.Job.TheVariants.{Sweep}
 use Rattle.fast_jobs.specs.declared.job.SingleJob.{SingleJob}
 use Rattle.fast_jobs.specs.declared.job.SingleJob.TheVariants.{Run}
 use Rattle.fast_jobs.specs.declared.sweep_files.SweepFiles.{SweepFiles}
-use Rattle.fast_jobs.specs.Job.{back_job, bytes_at, func_job, inorder_job, inorder_run_job, is_still, job_of, pipeline_job, sched_job, single_job, soak_setup}
+use Rattle.fast_jobs.specs.Job.{back_job, behind_machine, bytes_at, func_job, inorder_job, inorder_run_job, is_still, job_of, pipeline_job, sched_job, single_job, soak_setup}
 use Rattle.fast_jobs.specs.Reading.{AreWithin}
 
 -- what the console reads, behind the other files, is within its limit
@@ -31,12 +33,34 @@ input-behind [] options contents within = none-within options.input contents wit
 input-behind (file ∷ files) options [] within = absurd within
 input-behind (file ∷ files) options (bytes ∷ contents) within = input-behind files options contents within.1
 
+-- the same behind an image, a machine file, if there is one, and others
+pub input-behind_machine : (image : NamedFile) (machine : Option (List ℕ)) (more : List NamedFile) (options : Options) (contents : List (List ℕ))
+    → AreWithin (image ∷ file_if_named role.Machine machine ++ (more ++ input_of options)) contents
+    → length (bytes_at contents (behind_machine machine + length more)) ≤ input_limit
+input-behind_machine image None more options contents within =
+    let place : length (image ∷ more) ≡ 1 + length more = omega arith in
+    subst (λ (n : ℕ). length (bytes_at contents n) ≤ input_limit) place (input-behind (image ∷ more) options contents within)
+input-behind_machine image (Some name) more options contents within =
+    let place : length (image ∷ file role.Machine name ∷ more) ≡ 2 + length more = omega arith in
+    subst (λ (n : ℕ). length (bytes_at contents n) ≤ input_limit) place (input-behind (image ∷ file role.Machine name ∷ more) options contents within)
+
 -- the same behind an image and so many machine files
 pub input-behind_machines : (image : NamedFile) (machines : List (List ℕ)) (named : List ℕ → NamedFile) (options : Options) (contents : List (List ℕ))
     → AreWithin (image ∷ map named machines ++ input_of options) contents → length (bytes_at contents (length machines + 1)) ≤ input_limit
 input-behind_machines image machines named options contents within =
     let many : length (image ∷ map named machines) ≡ length machines + 1 = omega (arith, length-map machines named) in
     subst (λ (n : ℕ). length (bytes_at contents n) ≤ input_limit) many (input-behind (image ∷ map named machines) options contents within)
+
+-- the files of one more row
+pub named-next : {A : Type 0} (rows : A → List NamedFile) (all : List A) (i : ℕ) (row : A) (before files after : List NamedFile) → i < length all → row ≡ get_or all i row
+    → after ≡ files ++ rows row → files ≡ before ++ flat_map rows (take i all) → after ≡ before ++ flat_map rows (take (i + 1) all)
+named-next rows all i row before files after within at added so_far =
+    let up : i + 1 ≡ suc i = omega arith in
+    let grows : take (i + 1) all ≡ take i all ++ row ∷ [] =
+    ap (λ (n : ℕ). take n all) up ∙ take-suc all i row within ∙ ap (λ r. take i all ++ r ∷ []) (sym at) in
+    let more : flat_map rows (take (i + 1) all) ≡ flat_map rows (take i all) ++ rows row =
+    ap (flat_map rows) grows ∙ flat_map-append rows (take i all) (row ∷ []) ∙ ap (λ fs. flat_map rows (take i all) ++ fs) (append-nil (rows row)) in
+    added ∙ ap (λ fs. fs ++ rows row) so_far ∙ append_assoc before (flat_map rows (take i all)) (rows row) ∙ ap (λ fs. before ++ fs) (sym more)
 
 -- what is left where a stage was refused
 pub gives-through : {B : Type 0} (wanted result : Result B Status) (status : Status) → (y : Status) × (result ≡ Err y) × (y ≡ status) → (status ≢ Memory → wanted ≡ Err status) →
@@ -49,11 +73,11 @@ never-sweep (Ok job) files same = cc
 never-sweep (Err status) files same = cc
 
 pub still-single : {P : Type 0} (asked : Line) (sets : ℕ) (contents : List (List ℕ)) (files : SweepFiles) → is_still asked ≡ true → job_of asked sets contents ≡ Ok (Sweep files) → P
-still-single (line.Func image options) sets contents files still same = never-sweep (func_job options contents) files same
+still-single (line.Func image machine options) sets contents files still same = never-sweep (func_job machine options contents) files same
 still-single (line.Run image machine pipeline threads options) sets contents files still same = never-sweep (pipeline_job pipeline options contents) files same
 still-single (line.Sched image machine plan options) sets contents files still same = never-sweep (sched_job options contents) files same
 still-single (line.Soak seed) sets contents files still same = never-sweep (Ok (Run (soak_setup seed))) files same
-still-single (line.Back image script history options) sets contents files still same = never-sweep (back_job history options contents) files same
+still-single (line.Back image script machine history options) sets contents files still same = never-sweep (back_job history machine options contents) files same
 still-single (line.Inorder image machine (Some plan) options) sets contents files still same = never-sweep (inorder_job options contents) files same
 still-single (line.Inorder image machine None options) sets contents files still same = never-sweep (inorder_run_job options contents) files same
 still-single (line.Sweep image machines pipeline options) sets contents files still same = cc

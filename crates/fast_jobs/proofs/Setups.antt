@@ -1,6 +1,7 @@
 -- A run may have the setup of an image that was read.
 use Rattle.std.proofs.Common.{◌≡◌, ℕ, ◌≤◌, ◌&&◌, nat_le, Bool, List, length, true, refl, ap, ◌∙◌, arith}
 use Rattle.std.proofs.lemmas.Bool.{and_parts}
+use lib.Count.{ones}
 use Rattle.mono_model.specs.declared.params.Params.{Params}
 use Rattle.elf_image.specs.declared.image.Image.{Image}
 use Rattle.elf_image.specs.Sound.{IsSound, is_sound}
@@ -8,10 +9,11 @@ use Rattle.mono_model.proofs.Sound.{is_setup-from}
 use Rattle.mono_model.specs.Ranges.{is_between, is_ram}
 use Rattle.mono_model.specs.Setup.{is_setup, is_version, are_core, are_units, is_predictor, are_caches, are_params, ram_range, cycle_limit, input_limit, output_limit, ring_limit}
 use Rattle.mono_model.specs.declared.setup.Setup.{Setup}
+use Rattle.mono_model.specs.Plain.{plain_params}
 use Rattle.fast_cli.specs.declared.line.Options.{Options}
 use Rattle.fast_cli.specs.Ranges.{HasRanges}
 use Rattle.inorder_model.specs.Standing.{IsInorder}
-use Rattle.fast_jobs.specs.Stages.{inorder_params, inorder_setup, setup_for}
+use Rattle.fast_jobs.specs.Stages.{inorder_params, inorder_setup, placed_params, setup_for}
 
 pub is_setup-setup_for : (params : Params) (options : Options) (image : Image) (input : List ℕ) → are_params params ≡ true → IsSound image (ram_range params) → HasRanges options → length input ≤ input_limit → is_setup (setup_for params options image input) ≡ true
 is_setup-setup_for params options image input in_range sound ranges short =
@@ -60,3 +62,25 @@ IsInorder-inorder_setup s sound =
           (first_other (image && params) (image && next) input (second_other image params next (params-inorder s.params))))) sound;
       window = omega arith;
     }
+
+-- The plain machine's parameters are in their ranges with the RAM of a machine file.
+ram-placed : (p : Params) → are_params p ≡ true → is_ram p.ram_base p.ram_size ≡ true
+unfolding are_params
+ram-placed p sound =
+    let version : Bool = is_version p in
+    let ram : Bool = is_ram p.ram_base p.ram_size in
+    let core : Bool = are_core p in
+    let units : Bool = are_units p in
+    let predictor : Bool = is_predictor p in
+    let (four, caches) = and_parts (version && ram && core && units && predictor) (are_caches p) sound in
+    let (three, predicts) = and_parts (version && ram && core && units) predictor four in
+    let (two, has_units) = and_parts (version && ram && core) units three in
+    let (one, has_core) = and_parts (version && ram) core two in
+    let (is_first, is_placed) = and_parts version ram one in
+    is_placed
+
+pub placed_in_range : (p : Params) → are_params p ≡ true → are_params (placed_params p) ≡ true
+unfolding ones are_params placed_params
+placed_in_range p sound =
+    let test : Bool → Bool = λ ram. is_version plain_params && ram && are_core plain_params && are_units plain_params && is_predictor plain_params && are_caches plain_params in
+    ap test (ram-placed p sound)

@@ -23,14 +23,15 @@ input_of options = file_if_named role.Input options.input
 
 -- the files that are read for a line, in their order
 abbrev pub files_of : Line → List NamedFile
-files_of (Func image options) = file role.Image image ∷ input_of options
+files_of (Func image machine options) =
+    file role.Image image ∷ file_if_named role.Machine machine ++ input_of options
 files_of (Run image machine pipeline threads options) =
     file role.Image image ∷ file role.Machine machine ∷ input_of options
 files_of (Sched image machine plan options) =
     file role.Image image ∷ file role.Machine machine ∷ file role.Plan plan ∷ input_of options
 files_of (Soak seed) = []
-files_of (Back image script history options) =
-    file role.Image image ∷ file role.Script script ∷ input_of options
+files_of (Back image script machine history options) = file role.Image image
+    ∷ file_if_named role.Machine machine ++ file role.Script script ∷ input_of options
 files_of (Inorder image machine plan options) = file role.Image image ∷ file role.Machine machine
     ∷ file_if_named role.Plan plan ++ input_of options
 files_of (Sweep image machines pipeline options) =

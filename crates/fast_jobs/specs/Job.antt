@@ -1,9 +1,9 @@
 -- What a line and the bytes of its files ask for: a job, or the first refusal.
-use Rattle.std.specs.Prelude.{◌≡◌, ◌≤◌, ℕ, true, false, Bool, List, [], length}
+use Rattle.std.specs.Prelude.{◌≡◌, ◌≤◌, ◌+◌, ℕ, true, false, Bool, List, [], length, Option}
+use Rattle.std.specs.Prelude.{option_map}
 use Rattle.std.specs.Prelude.{Some, None, Result, Ok, ◌==◌}
 use Rattle.mono_model.specs.declared.setup.Setup.{Setup}
-use Rattle.mono_model.specs.Setup.{input_limit, is_setup, ram_range}
-use Rattle.mono_model.specs.Plain.{plain_params}
+use Rattle.mono_model.specs.Setup.{input_limit, is_setup}
 use Rattle.machine_file.specs.File.{params_of}
 use Rattle.report_text.specs.declared.status.Status.{Status}
 use Rattle.fast_cli.specs.declared.line.Line.{Line}
@@ -24,15 +24,26 @@ use Rattle.fast_jobs.specs.declared.job.PlannedRun.{PlannedRun}
 use Rattle.fast_jobs.specs.declared.sweep_files.SweepFiles.{SweepFiles}
 use Rattle.fast_jobs.specs.Gives.{◌>>=◌}
 pub use Rattle.fast_jobs.specs.Stages.{setup_for, inorder_setup, bytes_at}
-unfoldable pub use Rattle.fast_jobs.specs.Stages.{image_in, timed_image, plan_in, script_in}
+unfoldable pub use Rattle.fast_jobs.specs.Stages.{image_in, timed_image, placed_image}
+unfoldable pub use Rattle.fast_jobs.specs.Stages.{plan_in, script_in}
 unfoldable pub use Rattle.fast_jobs.specs.Stages.{inorder_params}
 use Rattle.fast_jobs.specs.SweepFiles.{swept}
 
--- the plain machine runs an image without a machine file
-unfoldable pub func_job : Options → List (List ℕ) → Result SingleJob Status
-func_job options contents = do
-  image ← image_in (ram_range plain_params) (bytes_at contents 0)
-  Ok (Func (setup_for plain_params options image (bytes_at contents 1)))
+-- the bytes of the machine file, which stands behind the image, if the line names one
+abbrev pub machine_at : Option (List ℕ) → List (List ℕ) → Option (List ℕ)
+machine_at machine contents = option_map (λ name. bytes_at contents 1) machine
+
+-- the place of the file behind it
+abbrev pub behind_machine : Option (List ℕ) → ℕ
+behind_machine None = 1
+behind_machine (Some name) = 2
+
+-- the run without a pipeline
+unfoldable pub func_job : Option (List ℕ) → Options → List (List ℕ) → Result SingleJob Status
+func_job machine options contents = do
+  loaded ← placed_image (machine_at machine contents) (bytes_at contents 0)
+  Ok (Func (setup_for loaded.params options loaded.image
+      (bytes_at contents (behind_machine machine))))
 
 -- the run on the machine of a machine file
 unfoldable pub run_job : Options → List (List ℕ) → Result SingleJob Status
@@ -73,12 +84,13 @@ inorder_job options contents = do
   planned ← planned_run options contents
   Ok (Inorder (inorder_setup planned.setup) planned.plan)
 
--- a script over the run of the plain machine is tested behind the image
-unfoldable pub back_job : ℕ → Options → List (List ℕ) → Result SingleJob Status
-back_job history options contents = do
-  image ← image_in (ram_range plain_params) (bytes_at contents 0)
-  commands ← script_in (bytes_at contents 1)
-  Ok (Back (setup_for plain_params options image (bytes_at contents 2)) history commands)
+-- a script over the run without a pipeline is tested behind the image
+unfoldable pub back_job : ℕ → Option (List ℕ) → Options → List (List ℕ) → Result SingleJob Status
+back_job history machine options contents = do
+  loaded ← placed_image (machine_at machine contents) (bytes_at contents 0)
+  commands ← script_in (bytes_at contents (behind_machine machine))
+  Ok (Back (setup_for loaded.params options loaded.image
+      (bytes_at contents (behind_machine machine + 1))) history commands)
 
 -- the soak program of a seed, with 16,384 blocks, on its machine
 unfoldable pub soak_setup : ℕ → Setup
@@ -93,13 +105,14 @@ single_job wanted = do
 
 -- the job of a line with the bytes of its files and this many sets of devices, or the first refusal
 abbrev pub job_of : Line → ℕ → List (List ℕ) → Result Job Status
-job_of (line.Func image options) sets contents = single_job (func_job options contents)
+job_of (line.Func image machine options) sets contents =
+    single_job (func_job machine options contents)
 job_of (line.Run image machine pipeline threads options) sets contents =
     single_job (pipeline_job pipeline options contents)
 job_of (line.Sched image machine plan options) sets contents = single_job (sched_job options contents)
 job_of (line.Soak seed) sets contents = single_job (Ok (Run (soak_setup seed)))
-job_of (line.Back image script history options) sets contents =
-    single_job (back_job history options contents)
+job_of (line.Back image script machine history options) sets contents =
+    single_job (back_job history machine options contents)
 job_of (line.Inorder image machine (Some plan) options) sets contents =
     single_job (inorder_job options contents)
 job_of (line.Inorder image machine None options) sets contents =
@@ -110,12 +123,12 @@ job_of (line.Sweep image machines pipeline options) sets contents = do
 
 -- the line is played on one thread, and the call that plays it returns
 abbrev pub is_still : Line → Bool
-is_still (line.Func image options) = true
+is_still (line.Func image machine options) = true
 is_still (line.Run image machine pipeline.Window threads options) = threads == 1
 is_still (line.Run image machine pipeline.Inorder threads options) = true
 is_still (line.Sched image machine plan options) = true
 is_still (line.Soak seed) = false
-is_still (line.Back image script history options) = true
+is_still (line.Back image script machine history options) = true
 is_still (line.Inorder image machine plan options) = true
 is_still (line.Sweep image machines pipeline options) = false
 

@@ -1,10 +1,12 @@
 -- What the bytes of files give, or what refuses them, and the setup that they make.
-use Rattle.std.specs.Prelude.{ℕ, List, [], slice_index_or, option_map, Result, Ok}
+use Rattle.std.specs.Prelude.{ℕ, List, [], slice_index_or, Option, Some, None, option_map}
+use Rattle.std.specs.Prelude.{Result, Ok}
 use Rattle.fsim_base.specs.declared.access.RamRange.{RamRange}
 use Rattle.elf_image.specs.declared.image.Image.{Image as LoadedImage}
 use Rattle.elf_image.specs.Image.{image_fault, image_of}
 use Rattle.mono_model.specs.declared.params.Params.{Params}
 use Rattle.mono_model.specs.declared.setup.Setup.{Setup}
+use Rattle.mono_model.specs.Plain.{plain_params}
 use Rattle.mono_model.specs.Setup.{ram_range}
 use Rattle.machine_file.specs.File.{machine_fault, params_of}
 use Rattle.split_core.specs.declared.event.Event.{Event}
@@ -33,6 +35,23 @@ timed_image machine bytes = do
   params ← machine_in machine
   image ← image_in (ram_range params) bytes
   Ok (record { params = params; image = image })
+
+-- a run without a pipeline has the RAM of a machine, and nothing else of it
+unfoldable pub placed_params : Params → Params
+placed_params params = record plain_params {
+  ram_base = params.ram_base;
+  ram_size = params.ram_size;
+}
+
+-- an image without a pipeline: for the plain machine, or for the RAM of a machine file, if there is
+-- one
+unfoldable pub placed_image : Option (List ℕ) → List ℕ → Result Loaded Status
+placed_image None bytes = do
+  image ← image_in (ram_range plain_params) bytes
+  Ok (record { params = plain_params; image = image })
+placed_image (Some machine) bytes = do
+  loaded ← timed_image machine bytes
+  Ok (record { params = placed_params loaded.params; image = loaded.image })
 
 -- the events of a plan
 unfoldable pub plan_in : List ℕ → Result (List Event) Status

@@ -1,6 +1,6 @@
-ghost use Rattle.std.specs.Prelude.{◌≡◌, ◌++◌, ◌∷◌, [], map, IfOk, OnOk};
+ghost use Rattle.std.specs.Prelude.{◌≡◌, ◌++◌, ◌∷◌, [], flat_map, map, option_copied, IfOk, OnOk};
 ghost use Rattle.report_text.specs.declared.status.Role.TheVariants as role;
-ghost use Rattle.fast_jobs.specs.Files.{file, files_of, input_of};
+ghost use Rattle.fast_jobs.specs.Files.{file, file_if_named, files_of, input_of};
 
 use crate::grow;
 use fast_cli::{Line, Options};
@@ -20,77 +20,85 @@ pub fn files_of(alloc: Global, line: &Line) -> Result<Vec<NamedFile>, NoMemory>
     ensures files { IfOk result (λ files. files.items ≡ files_of line.now) }
 {
     match line {
-        Line::Func { image, options } => files_of_run(alloc, image, &[], options),
+        Line::Func {
+            image,
+            machine,
+            options,
+        } => files_of_run(alloc, image, &[(Role::Machine, machine.as_ref())], options),
         Line::Run {
             image,
             machine,
             options,
             ..
-        }
-        | Line::Inorder {
-            image,
-            machine,
-            plan: None,
-            options,
-        } => files_of_run(alloc, image, &[(Role::Machine, machine)], options),
+        } => files_of_run(alloc, image, &[(Role::Machine, Some(machine))], options),
         Line::Sched {
             image,
             machine,
             plan,
             options,
-        }
-        | Line::Inorder {
+        } => files_of_plan(alloc, image, machine, Some(plan), options),
+        Line::Inorder {
             image,
             machine,
-            plan: Some(plan),
+            plan,
             options,
-        } => files_of_plan(alloc, image, machine, plan, options),
+        } => files_of_plan(alloc, image, machine, plan.as_ref(), options),
         Line::Back {
             image,
             script,
+            machine,
             options,
             ..
-        } => files_of_run(alloc, image, &[(Role::Script, script)], options),
+        } => {
+            let rows = [
+                (Role::Machine, machine.as_ref()),
+                (Role::Script, Some(script)),
+            ];
+            files_of_run(alloc, image, &rows, options)
+        }
         Line::Sweep {
             image,
             machines,
             options,
+            ..
         } => files_of_sweep(alloc, image, machines.as_slice(), options),
         Line::Soak { .. } => Ok(Vec::new(alloc)),
     }
 }
 
-/// The files of a run: an image, those of the rows, and what the console reads.
+/// The files of a run: an image, those of the rows that have a name, and what the console reads.
 fn files_of_run(
     alloc: Global,
     image: &Text,
-    rows: &[(Role, &Text)],
+    rows: &[(Role, Option<&Text>)],
     options: &Options,
 ) -> Result<Vec<NamedFile>, NoMemory>
     ensures files { IfOk result (λ files. files.items ≡ file role.Image image.now
-        ∷ map (λ row. file row.0 row.1.now) rows.now ++ input_of options.now) }
+        ∷ flat_map (λ row. file_if_named row.0 (option_copied row.1)) rows.now
+        ++ input_of options.now) }
 {
     let mut files = Vec::new(alloc);
     push(alloc, Role::Image, image, &mut files)?;
     for row in rows {
-        push(alloc, row.0, row.1, &mut files)?;
+        push_if_named(alloc, row.0, row.1, &mut files)?;
     }
-    push_input(alloc, options, &mut files)?;
+    push_if_named(alloc, Role::Input, options.input.as_ref(), &mut files)?;
     Ok(files)
 }
 
-/// The files of a run on a machine that a plan is for.
+/// The files of a run on a machine that a plan may be for.
 fn files_of_plan(
     alloc: Global,
     image: &Text,
     machine: &Text,
-    plan: &Text,
+    plan: Option<&Text>,
     options: &Options,
 ) -> Result<Vec<NamedFile>, NoMemory>
     ensures files { IfOk result (λ files. files.items ≡ file role.Image image.now
-        ∷ file role.Machine machine.now ∷ file role.Plan plan.now ∷ input_of options.now) }
+        ∷ file role.Machine machine.now ∷ file_if_named role.Plan (option_copied plan.entry)
+        ++ input_of options.now) }
 {
-    let rows = [(Role::Machine, machine), (Role::Plan, plan)];
+    let rows = [(Role::Machine, Some(machine)), (Role::Plan, plan)];
     files_of_run(alloc, image, &rows, options)
 }
 
@@ -108,7 +116,7 @@ fn files_of_sweep(
     let mut files = Vec::new(alloc);
     push(alloc, Role::Image, image, &mut files)?;
     push_machines(alloc, machines, &mut files)?;
-    push_input(alloc, options, &mut files)?;
+    push_if_named(alloc, Role::Input, options.input.as_ref(), &mut files)?;
     Ok(files)
 }
 
@@ -145,12 +153,18 @@ fn push_machines(
     Ok(())
 }
 
-/// Adds what the console reads, if the options name it.
-fn push_input(alloc: Global, options: &Options, files: &mut Vec<NamedFile>) -> Result<(), NoMemory>
-    ensures pushed { OnOk result (files.new.items ≡ files.old.items ++ input_of options.now) }
+/// Adds the file of a role, if there is a name.
+fn push_if_named(
+    alloc: Global,
+    role: Role,
+    name: Option<&Text>,
+    files: &mut Vec<NamedFile>,
+) -> Result<(), NoMemory>
+    ensures pushed { OnOk result
+        (files.new.items ≡ files.old.items ++ file_if_named role (option_copied name.entry)) }
 {
-    match &options.input {
-        Some(name) => push(alloc, Role::Input, name, files),
+    match name {
+        Some(name) => push(alloc, role, name, files),
         None => Ok(()),
     }
 }

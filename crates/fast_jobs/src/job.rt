@@ -1,26 +1,26 @@
-ghost use Rattle.std.specs.Prelude.{◌≡◌, ◌≤◌, true, length, Ok, IfOk};
+ghost use Rattle.std.specs.Prelude.{◌≡◌, ◌≤◌, ◌+◌, true, length, option_copied, Ok, IfOk};
 ghost use Rattle.mono_model.specs.Setup.{input_limit, is_setup};
 ghost use Rattle.fast_cli.specs.Ranges.{HasRanges, IsInRange};
 ghost use Rattle.fast_jobs.specs.Files.{files_of};
 ghost use Rattle.fast_jobs.specs.Gives.{Gives};
 ghost use Rattle.fast_jobs.specs.declared.job.SingleJob.{SingleJob as AnyRun};
-ghost use Rattle.fast_jobs.specs.Job.{back_job, bytes_at, func_job, inorder_job, inorder_run_job};
-ghost use Rattle.fast_jobs.specs.Job.{job_of, pipeline_job, planned_run, run_job, sched_job};
+ghost use Rattle.fast_jobs.specs.Job.{back_job, behind_machine, bytes_at, func_job, inorder_job};
+ghost use Rattle.fast_jobs.specs.Job.{inorder_run_job, job_of, machine_at, pipeline_job};
+ghost use Rattle.fast_jobs.specs.Job.{planned_run, run_job, sched_job};
 ghost use Rattle.fast_jobs.specs.Job.{CanBegin, CanStart, sets_for, soak_setup};
 ghost use Rattle.fast_jobs.specs.Reading.{AreWithin};
 
-use crate::image::read_image;
 use crate::plan::Plan;
 use crate::refusal::Refusal;
 use crate::script::read_script;
 use crate::setup::{inorder_setup, setup_for};
 use crate::sweep_files::{SweepFiles, sweep_files};
-use crate::timed_image::timed_image;
+use crate::timed_image::{placed_image, timed_image};
 use back_debug::Script;
 use fast_cli::{Line, Options, Pipeline, default_options};
-use fsim_base::Bytes;
+use fsim_base::{Bytes, Text};
 use gen_image::{soak_image, soak_params};
-use mono_model::{Params, Setup};
+use mono_model::Setup;
 use std::alloc::Global;
 
 /// What is asked for, with all that it depends on.
@@ -58,7 +58,11 @@ pub fn job_of(alloc: Global, line: &Line, sets: usize, contents: Vec<Bytes>) -> 
     ensures room { IfOk result (λ job. sets_for job ≤ sets) }
 {
     let job = match line {
-        Line::Func { options, .. } => func_job(alloc, options, contents)?,
+        Line::Func {
+            machine,
+            options,
+            ..
+        } => func_job(alloc, machine, options, contents)?,
         Line::Run {
             pipeline,
             options,
@@ -67,10 +71,11 @@ pub fn job_of(alloc: Global, line: &Line, sets: usize, contents: Vec<Bytes>) -> 
         Line::Sched { options, .. } => sched_job(alloc, options, contents)?,
         Line::Soak { seed } => soak_job(alloc, *seed)?,
         Line::Back {
+            machine,
             history,
             options,
             ..
-        } => back_job(alloc, *history, options, contents)?,
+        } => back_job(alloc, *history, machine, options, contents)?,
         Line::Inorder {
             plan: Some(_),
             options,
@@ -94,18 +99,45 @@ pub fn job_of(alloc: Global, line: &Line, sets: usize, contents: Vec<Bytes>) -> 
     Ok(Job::Single(job))
 }
 
-/// The sequential run of an image on the plain machine; the files are image and input.
+/// The sequential run of an image; the files are image, machine file, if the line names one, and
+/// input.
 #[tactic(auto, unfolding(crate::specs::Job::func_job))]
-fn func_job(alloc: Global, options: &Options, contents: Vec<Bytes>) -> Result<SingleJob, Refusal>
+fn func_job(
+    alloc: Global,
+    machine: &Option<Text>,
+    options: &Options,
+    contents: Vec<Bytes>,
+) -> Result<SingleJob, Refusal>
     requires ranges { HasRanges options.now }
-    requires input { length (bytes_at contents.items 1) ≤ input_limit }
-    ensures job { Gives (func_job options.now contents.items) result }
+    requires input { length (bytes_at contents.items (behind_machine machine.now)) ≤ input_limit }
+    ensures job { Gives (func_job machine.now options.now contents.items) result }
     ensures can { IfOk result (λ job. CanStart job) }
 {
-    let params = Params::plain();
-    let image = read_image(alloc, bytes_at(contents.as_slice(), 0), params.ram_range())?;
-    let input = take_at(alloc, contents, 1);
-    Ok(SingleJob::Func(setup_for(params, options, image, input)))
+    let files = contents.as_slice();
+    let loaded = placed_image(alloc, machine_at(machine, files), bytes_at(files, 0))?;
+    let input = take_at(alloc, contents, behind_machine(machine));
+    Ok(SingleJob::Func(setup_for(loaded.params, options, loaded.image, input)))
+}
+
+/// The bytes of the machine file, which stands behind the image, if the line names one.
+fn machine_at<'a>(machine: &Option<Text>, files: &'a [Bytes]) -> Option<&'a [u8]>
+    ensures bytes { option_copied result ≡ machine_at machine.now files.now }
+{
+    match machine {
+        Some(_) => Some(bytes_at(files, 1)),
+        None => None,
+    }
+}
+
+/// The place of the file behind it.
+fn behind_machine(machine: &Option<Text>) -> usize
+    ensures place { result ≡ behind_machine machine.now }
+    ensures few { result ≤ 2 }
+{
+    match machine {
+        Some(_) => 2,
+        None => 1,
+    }
 }
 
 /// The run of an image on a pipeline; the files are image, machine file and input.
@@ -211,26 +243,29 @@ fn inorder_run_job(
     Ok(SingleJob::Inorder(inorder_setup(setup), Plan::empty(alloc)))
 }
 
-/// A debugger's script for the sequential run of an image on the plain machine; the files are
-/// image, script and input.
+/// A debugger's script for the sequential run of an image; the files are image, machine file, if
+/// the line names one, script and input.
 #[tactic(auto, unfolding(crate::specs::Job::back_job))]
 fn back_job(
     alloc: Global,
     history: u32,
+    machine: &Option<Text>,
     options: &Options,
     contents: Vec<Bytes>,
 ) -> Result<SingleJob, Refusal>
     requires ranges { HasRanges options.now }
-    requires input { length (bytes_at contents.items 2) ≤ input_limit }
-    ensures job { Gives (back_job history options.now contents.items) result }
+    requires input { length (bytes_at contents.items (behind_machine machine.now + 1))
+        ≤ input_limit }
+    ensures job { Gives (back_job history machine.now options.now contents.items) result }
     ensures can { IfOk result (λ job. CanStart job) }
 {
-    let params = Params::plain();
     let files = contents.as_slice();
-    let image = read_image(alloc, bytes_at(files, 0), params.ram_range())?;
-    let script = read_script(alloc, bytes_at(files, 1))?;
-    let input = take_at(alloc, contents, 2);
-    Ok(SingleJob::Back(setup_for(params, options, image, input), history, script))
+    let script_place = behind_machine(machine);
+    let loaded = placed_image(alloc, machine_at(machine, files), bytes_at(files, 0))?;
+    let script = read_script(alloc, bytes_at(files, script_place))?;
+    let input = take_at(alloc, contents, script_place + 1);
+    let setup = setup_for(loaded.params, options, loaded.image, input);
+    Ok(SingleJob::Back(setup, history, script))
 }
 
 /// How many blocks the soak program has.

@@ -67,7 +67,7 @@ fn files_of(alloc: Global) -> Result<MemoryFiles, Fail> {
 
 /// Lines and their refusals, in the order in which these are tested. `reference/out/reference`
 /// with a line's words writes them too.
-const REFUSED: [(&str, u8, &str); 42] = [
+const REFUSED: [(&str, u8, &str); 51] = [
     ("func none", 13, "fast: missing: image\n"),
     ("func none --input none", 13, "fast: missing: image\n"),
     ("func pass --input none", 13, "fast: missing: input\n"),
@@ -75,6 +75,24 @@ const REFUSED: [(&str, u8, &str); 42] = [
     ("func empty", 11, "fast: image: short\n"),
     ("func short --input empty", 11, "fast: image: short\n"),
     ("func double", 11, "fast: image: overlap 1 0\n"),
+    ("func none --machine none", 13, "fast: missing: image\n"),
+    ("func short --machine none", 13, "fast: missing: machine\n"),
+    (
+        "func short --machine zero --input none",
+        13,
+        "fast: missing: input\n",
+    ),
+    (
+        "func short --machine zero",
+        12,
+        "fast: machine: range core.window 0\n",
+    ),
+    ("func short --machine low", 11, "fast: image: short\n"),
+    (
+        "func pass --machine low",
+        11,
+        "fast: image: outside ram 0\n",
+    ),
     ("run none none", 13, "fast: missing: image\n"),
     ("run short none", 13, "fast: missing: machine\n"),
     ("run short zero --input none", 13, "fast: missing: input\n"),
@@ -118,6 +136,21 @@ const REFUSED: [(&str, u8, &str); 42] = [
     ("back pass bad", 21, "fast: bad script: 1\n"),
     ("back pass script", 21, "fast: bad script: 4\n"),
     ("back pass script --input bad", 21, "fast: bad script: 4\n"),
+    (
+        "back short none --machine none",
+        13,
+        "fast: missing: machine\n",
+    ),
+    (
+        "back short none --machine zero",
+        13,
+        "fast: missing: script\n",
+    ),
+    (
+        "back short bad --machine zero",
+        12,
+        "fast: machine: range core.window 0\n",
+    ),
     ("inorder pass empty bad", 18, "fast: bad plan: 2\n"),
     (
         "inorder short zero",

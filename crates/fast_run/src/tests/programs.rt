@@ -159,7 +159,7 @@ const UART: &str = concat!(
 );
 
 /// Machine files by their names.
-const MACHINES: [(&str, &str); 16] = [
+const MACHINES: [(&str, &str); 17] = [
     ("plain", ""),
     ("four", "core.window = 4\ncore.stations = 4\n"),
     ("eight", "core.window = 8"),
@@ -268,6 +268,8 @@ const MACHINES: [(&str, &str); 16] = [
         ),
     ),
     ("bad", "core.window = 0"),
+    // What a run without a pipeline leaves unused, and where RAM is.
+    ("low", "ram.base = 0x20000000\ncore.window = 8\n"),
     (
         "levels",
         concat!(
@@ -317,6 +319,7 @@ pub fn files_of_runs(alloc: Global) -> Result<MemoryFiles, Fail> {
     files.add("uart", uart(alloc)?.as_slice())?;
     files.add("flags", flagged(alloc)?.as_slice())?;
     files.add("long", long(alloc)?.as_slice())?;
+    files.add("moved", moved(alloc)?.as_slice())?;
     files.add("-", image_of(alloc, super::SMALLEST_PASS)?.as_slice())?;
     files.add("in", b"AB")?;
     files.add("nothing", b" \r\n")?;
@@ -345,6 +348,20 @@ fn long(alloc: Global) -> Result<Vec<u8>, Fail> {
     words.extend_from_slice(repeated(alloc, b" 00100293", 2000)?.as_slice())?;
     words.extend_from_slice(b" 00100337 000053b7 55538393 00732023")?;
     image_of(alloc, str::from_utf8(words.as_slice()).unwrap_or(""))
+}
+
+/// The smallest image that passes, at 0x20000000.
+pub fn moved(alloc: Global) -> Result<Vec<u8>, Fail> {
+    let mut front = super::FRONT;
+    // e_entry, p_vaddr and p_paddr.
+    front[27] = 0x20;
+    front[63] = 0x20;
+    front[67] = 0x20;
+    front[68] = 16;
+    front[72] = 16;
+    let mut image = front.to_vec(alloc)?;
+    put_words(&mut image, super::SMALLEST_PASS)?;
+    Ok(image)
 }
 
 /// The image of the driver.

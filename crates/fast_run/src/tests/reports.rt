@@ -36,12 +36,20 @@ const ZERO: [&str; 20] = [
 ];
 
 /// Words, the exit status, and all lines that don't stand at 0, cut by `; `.
-const REPORTS: [(&str, u8, &str); 66] = [
+const REPORTS: [(&str, u8, &str); 67] = [
     (
         "func pass",
         0,
         concat!(
             "status: pass; instructions: 4; pc: 80000010; ",
+            "x4=00000000 x5=00100000 x6=00005555 x7=00000000",
+        ),
+    ),
+    (
+        "func moved --machine low",
+        0,
+        concat!(
+            "status: pass; instructions: 4; pc: 20000010; ",
             "x4=00000000 x5=00100000 x6=00005555 x7=00000000",
         ),
     ),

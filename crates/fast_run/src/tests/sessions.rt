@@ -24,7 +24,7 @@ const LOADED: &str = concat!(
 );
 
 /// Scripts, lines that play them, and the answers.
-const SESSIONS: [(&str, &str, u8, &str); 11] = [
+const SESSIONS: [(&str, &str, u8, &str); 12] = [
     // Behind the step back the same byte of the input is loaded again.
     (
         "s 4\nb 1\ns 1\nr\n",
@@ -58,6 +58,12 @@ const SESSIONS: [(&str, &str, u8, &str); 11] = [
         "back loop script",
         5,
         "1 80000004 reached\n3 80000004 reached\n2 80000008 moved\n",
+    ),
+    (
+        "t 2000000c\ns 9\nb 1\n",
+        "back moved script --machine low",
+        5,
+        "3 2000000c reached\n4 20000010 pass\n3 2000000c moved\n",
     ),
     // The byte for which there is no room isn't sent.
     (

@@ -9,7 +9,7 @@ const USAGE: &str = concat!(
     "back IMAGE SCRIPT, inorder IMAGE MACHINE PLAN, sweep IMAGE MACHINES\n",
 );
 
-const REFUSED: [&str; 40] = [
+const REFUSED: [&str; 42] = [
     "",
     "--help",
     "walk a",
@@ -43,6 +43,8 @@ const REFUSED: [&str; 40] = [
     "sweep a",
     "func a --ring 8",
     "func a --cycles 0",
+    "func a --machine=",
+    "run a m --machine m",
     "func a --cycles 5 --cycles 5",
     "func a --output 16777217",
     "func a --input=",

@@ -1,16 +1,26 @@
-use Rattle.std.proofs.Common.{[], ◌∷◌, subst}
+use Rattle.std.proofs.Common.{◌≡◌, ◌≤◌, ◌+◌, ℕ, [], ◌∷◌, length, subst, arith}
+use Rattle.mono_model.specs.Setup.{input_limit}
 use Rattle.report_text.specs.declared.status.Role.TheVariants as role
 use Rattle.fast_cli.specs.declared.line.Line.{Line}
 use Rattle.fast_jobs.specs.Files.{file, files_of}
+use Rattle.fast_jobs.specs.Job.{behind_machine, bytes_at}
 use Rattle.fast_jobs.specs.Reading.{AreWithin}
-use Rattle.fast_jobs.proofs.Jobs.{input-behind, input-behind_machines}
+use Rattle.fast_jobs.proofs.Jobs.{input-behind_machine, input-behind_machines}
 use Rattle.fast_jobs.proofs.job.job_of.Goals as goal
+
+pub func_job-requires-clause-input : goal.func_job-requires-clause-input
+func_job-requires-clause-input c =
+    let contents = c.args.contents.items in
+    let machine = c.in-Func.machine in
+    let within = subst (λ (line : Line). AreWithin (files_of line) contents) c.in-Func.is c.requires.within in
+    let place : behind_machine machine + 0 ≡ behind_machine machine = omega arith in
+    subst (λ (n : ℕ). length (bytes_at contents n) ≤ input_limit) place (input-behind_machine (file role.Image c.in-Func.image) machine [] c.in-Func.options contents within)
 
 pub back_job-requires-clause-input : goal.back_job-requires-clause-input
 back_job-requires-clause-input c =
     let contents = c.args.contents.items in
     let within = subst (λ (line : Line). AreWithin (files_of line) contents) c.in-Back.is c.requires.within in
-    input-behind (file role.Image c.in-Back.image ∷ file role.Script c.in-Back.script ∷ []) c.in-Back.options contents within
+    input-behind_machine (file role.Image c.in-Back.image) c.in-Back.machine (file role.Script c.in-Back.script ∷ []) c.in-Back.options contents within
 
 pub sweep_files-requires-clause-input : goal.sweep_files-requires-clause-input
 sweep_files-requires-clause-input c =

@@ -1,12 +1,6 @@
-use Rattle.std.proofs.Common.{◌≡◌, map, All, IfOk, sym, subst}
-use Rattle.fast_jobs.specs.SweepFiles.{IsSoundOn, last_on}
+use Rattle.std.proofs.Common.{◌≡◌, map, IfOk, sym, subst}
+use Rattle.fast_jobs.specs.SweepFiles.{last_on}
 use Rattle.fast_jobs.proofs.sweep.play_jobs.Goals as goal
-
-pub sweep-requires-clause-sound : goal.sweep-requires-clause-sound
-sweep-requires-clause-sound g c = subst (λ pipeline. All (λ job. IsSoundOn pipeline job.setup) c.args.jobs.items) c.in-Window.is c.requires.sound
-
-pub sweep_in_order-requires-clause-sound : goal.sweep_in_order-requires-clause-sound
-sweep_in_order-requires-clause-sound g c = subst (λ pipeline. All (λ job. IsSoundOn pipeline job.setup) c.args.jobs.items) c.in-Inorder.is c.requires.sound
 
 pub returns-in-Window : goal.returns-in-Window
 returns-in-Window g c = record {
