@@ -35,6 +35,10 @@ REFUSED = {
     "run a b --pipeline lane": (
         '--pipeline takes window or inorder; "./fast help run" says more'
     ),
+    "run a --exit-code": 'run lacks MACHINE; "./fast help run" says more',
+    "run a --exit-code b c": '"c" is a word too many; "./fast help run" says more',
+    "func a --exit-code=1": '"--exit-code" takes no value; "./fast help func" says more',
+    "back a b --exit-code": 'back has no option "--exit-code"; "./fast help back" says more',
     "run a b --pipeline inorder c": '"c" is a word too many; "./fast help run" says more',
     "run a b --threads 3": '--threads takes 1 to 2; "./fast help run" says more',
     "run a b --cycles 0": '--cycles takes 1 to 1099511627776; "./fast help run" says more',

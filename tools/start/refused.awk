@@ -13,7 +13,7 @@ function read_help(    file, line, words, at, are_options) {
     }
 }
 
-# What an option takes: a name, a number of a range, or one of two words.
+# What an option takes: a name, a number of a range, one of two words, or nothing.
 function read_option(words) {
     takes[words[1]] = words[2]
     gsub(/,/, "", words[3])
@@ -23,14 +23,17 @@ function read_option(words) {
     if (words[4] == "or") most[words[1]] = words[5]
 }
 
-# The names and the options of a command: `{fast} COMMAND NAMES.. [NAME].. [--OPTION VALUE]..`.
+# The names and the options of a command: `{fast} COMMAND NAMES.. [NAME].. [--OPTION VALUE].. [--FLAG]..`.
 function read_form(line,    words, at, many) {
     many = split(line, words, " ")
     counts[command] = 0
     for (at = 3; at <= many; at++) {
         if (words[at] ~ /^[A-Z]+$/) names[command, ++counts[command]] = words[at]
         if (words[at] ~ /^\[[A-Z]+\]$/) optional[command]++
-        if (words[at] ~ /^\[--/) has[command, substr(words[at], 2)] = 1
+        if (words[at] ~ /^\[--/) {
+            if (sub(/\]$/, "", words[at])) is_flag[substr(words[at], 2)] = 1
+            has[command, substr(words[at], 2)] = 1
+        }
     }
 }
 
@@ -64,7 +67,7 @@ function ask(word, list,    it, near, least_far, far) {
 function is_number(word) { return word ~ /^[0-9]+$/ && length(word) <= 20 }
 
 # What is wrong with an option and its value, if anything.
-function option_fault(option, value,    own, it, both) {
+function option_fault(option, value, sign,    own, it, both) {
     if (!(option in takes)) {
         for (it in has) { split(it, both, SUBSEP); if (both[1] == used) own[both[2]] = 1 }
         return "\"" option "\" is no option" ask(option, own)
@@ -72,6 +75,7 @@ function option_fault(option, value,    own, it, both) {
     if (!((used, option) in has)) return used " has no option \"" option "\""
     if (option in given) return "\"" option "\" stands twice"
     given[option] = 1
+    if (option in is_flag) return sign ? "\"" option "\" takes no value" : ""
     if (value == "") return "\"" option "\" has no " (takes[option] == "N" ? "number" : "name")
     if (takes[option] == "P" && value != least[option] && value != most[option])
         return option " takes " least[option] " or " most[option]
@@ -83,16 +87,17 @@ function option_fault(option, value,    own, it, both) {
 }
 
 # Goes through the words behind the command's; gives the first fault that is plain.
-function fault_of(count,    at, word, value, sign, found, is_name) {
+function fault_of(count,    at, word, option, value, sign, found, is_name) {
     for (at = 2; at <= count; at++) {
         word = ARGV[at]
         if (word == "--" && !is_name) { is_name = 1; continue }
         if (is_name || word !~ /^-./) { held++; if (held > counts[used] + optional[used]) extra = extra ? extra : word; continue }
         sign = index(word, "=")
         value = sign ? substr(word, sign + 1) : (ARGV[at + 1] ~ /^--/ ? "" : ARGV[at + 1])
-        found = option_fault(sign ? substr(word, 1, sign - 1) : word, value)
+        option = sign ? substr(word, 1, sign - 1) : word
+        found = option_fault(option, value, sign)
         if (found) return found
-        if (!sign) at++
+        if (!sign && !(option in is_flag)) at++
     }
     if (held < counts[used]) return used " lacks " names[used, held + 1]
     if (extra && names[used, counts[used]] != "MACHINES") return "\"" extra "\" is a word too many"

@@ -22,7 +22,7 @@ show_help() {
             printf "%s", text
             for (at = 1; wanted && at <= count; at++) {
                 split(options[at], words, " ")
-                if (index(text, "[" words[1] " ")) rest = rest options[at] "\n"
+                if (index(text, "[" words[1] " ") || index(text, "[" words[1] "]")) rest = rest options[at] "\n"
             }
             if (rest) printf "\n%s", rest
             exit !text

@@ -17,7 +17,7 @@ use Rattle.fast_cli.specs.Table.{command_in}
 use Rattle.fast_cli.specs.declared.table.CommandName.{CommandName}
 use Rattle.fast_cli.specs.declared.table.CommandName.TheVariants as names
 use Rattle.fast_cli.proofs.Rows.{AreGiven, is_given-values}
-use Rattle.fast_cli.proofs.Uses.{AreRulesOf, NoDefaults, built_shape, option_arg, rest_arg}
+use Rattle.fast_cli.proofs.Uses.{AreRulesOf, NoDefaults, built_shape, flag_arg, long_arg, option_arg, rest_arg}
 use Rattle.fast_cli.proofs.Walks.{IfGiven, outcome}
 use Rattle.fast_cli.proofs.Readings.{all}
 
@@ -105,15 +105,29 @@ parsed-form form c rules words text =
 
 -- ---- each form
 
--- options come by their names, and nothing else that is long
-long_options : (name : Text) (options : List Text) (rest : List Rule) → find (λ a. not (is_some a.index) && has_long a name) rest ≡ None
-    → find (λ a. not (is_some a.index) && has_long a name) (map option_arg options ++ rest) ≡ option_map option_arg (find (λ option. bytes_eq option name) options)
-long_options name [] rest none = none
-long_options name (option ∷ options) rest none = go (bytes_eq option name) (long_options name options rest none)
+-- flags come by their names, and nothing else that is long
+long_flags : (name : Text) (flags : List Text) (rest : List Rule) → find (λ a. not (is_some a.index) && has_long a name) rest ≡ None
+    → find (λ a. not (is_some a.index) && has_long a name) (map flag_arg flags ++ rest) ≡ option_map flag_arg (find (λ flag. bytes_eq flag name) flags)
+long_flags name [] rest none = none
+long_flags name (flag ∷ flags) rest none = go (bytes_eq flag name) (long_flags name flags rest none)
   where
-    go : (b : Bool) → find (λ a. not (is_some a.index) && has_long a name) (map option_arg options ++ rest) ≡ option_map option_arg (find (λ o. bytes_eq o name) options)
-        → cond (b || false) (Some (option_arg option)) (find (λ a. not (is_some a.index) && has_long a name) (map option_arg options ++ rest))
-        ≡ option_map option_arg (cond b (Some option) (find (λ o. bytes_eq o name) options))
+    go : (b : Bool) → find (λ a. not (is_some a.index) && has_long a name) (map flag_arg flags ++ rest) ≡ option_map flag_arg (find (λ f. bytes_eq f name) flags)
+        → cond (b || false) (Some (flag_arg flag)) (find (λ a. not (is_some a.index) && has_long a name) (map flag_arg flags ++ rest))
+        ≡ option_map flag_arg (cond b (Some flag) (find (λ f. bytes_eq f name) flags))
+    go true later = refl
+    go false later = later
+
+-- and options before them
+long_options : (name : Text) (options flags : List Text) (rest : List Rule) → find (λ a. not (is_some a.index) && has_long a name) rest ≡ None
+    → find (λ a. not (is_some a.index) && has_long a name) (map option_arg options ++ (map flag_arg flags ++ rest))
+    ≡ long_arg (find (λ option. bytes_eq option name) options) (find (λ flag. bytes_eq flag name) flags)
+long_options name [] flags rest none = long_flags name flags rest none
+long_options name (option ∷ options) flags rest none = go (bytes_eq option name) (long_options name options flags rest none)
+  where
+    go : (b : Bool) → find (λ a. not (is_some a.index) && has_long a name) (map option_arg options ++ (map flag_arg flags ++ rest))
+        ≡ long_arg (find (λ o. bytes_eq o name) options) (find (λ f. bytes_eq f name) flags)
+        → cond (b || false) (Some (option_arg option)) (find (λ a. not (is_some a.index) && has_long a name) (map option_arg options ++ (map flag_arg flags ++ rest)))
+        ≡ long_arg (cond b (Some option) (find (λ o. bytes_eq o name) options)) (find (λ f. bytes_eq f name) flags)
     go true later = refl
     go false later = later
 
@@ -134,27 +148,27 @@ rules_of form = (built (command_by form)).top.rules
 
 func_rules : AreRulesOf func_form (rules_of func_form)
 func_rules = record {
-  long = λ name. long_options name func_form.options [] refl;
+  long = λ name. long_options name func_form.options func_form.flags [] refl;
   short = λ x. refl;
   known = (refl, (refl, (refl, (refl, tt))));
   places = (true, refl, refl, refl);
-  defaults = (refl, (refl, (refl, (refl, (refl, tt)))));
+  defaults = (refl, (refl, (refl, (refl, (refl, (refl, tt))))));
   needs = λ rows. needs_one (is_given (codes "IMAGE") rows);
 }
 
 run_rules : AreRulesOf run_form (rules_of run_form)
 run_rules = record {
-  long = λ name. long_options name run_form.options [] refl;
+  long = λ name. long_options name run_form.options run_form.flags [] refl;
   short = λ x. refl;
   known = (refl, (refl, (refl, (refl, (refl, (refl, tt))))));
   places = (true, refl, refl, (true, refl, refl, refl));
-  defaults = (refl, (refl, (refl, (refl, (refl, (refl, (refl, (refl, tt))))))));
+  defaults = (refl, (refl, (refl, (refl, (refl, (refl, (refl, (refl, (refl, tt)))))))));
   needs = λ rows. needs_two (is_given (codes "IMAGE") rows) (is_given (codes "MACHINE") rows);
 }
 
 sched_rules : AreRulesOf sched_form (rules_of sched_form)
 sched_rules = record {
-  long = λ name. long_options name sched_form.options [] refl;
+  long = λ name. long_options name sched_form.options sched_form.flags [] refl;
   short = λ x. refl;
   known = (refl, (refl, (refl, (refl, tt))));
   places = (true, refl, refl, (true, refl, refl, (true, refl, refl, refl)));
@@ -164,11 +178,11 @@ sched_rules = record {
 
 inorder_rules : AreRulesOf inorder_form (rules_of inorder_form)
 inorder_rules = record {
-  long = λ name. long_options name inorder_form.options [] refl;
+  long = λ name. long_options name inorder_form.options inorder_form.flags [] refl;
   short = λ x. refl;
   known = (refl, (refl, (refl, (refl, tt))));
   places = (true, refl, refl, (true, refl, refl, (false, refl, refl, refl)));
-  defaults = (refl, (refl, (refl, (refl, (refl, (refl, (refl, tt)))))));
+  defaults = (refl, (refl, (refl, (refl, (refl, (refl, (refl, (refl, tt))))))));
   needs = λ rows. needs_two (is_given (codes "IMAGE") rows) (is_given (codes "MACHINE") rows);
 }
 
@@ -184,7 +198,7 @@ soak_rules = record {
 
 back_rules : AreRulesOf back_form (rules_of back_form)
 back_rules = record {
-  long = λ name. long_options name back_form.options [] refl;
+  long = λ name. long_options name back_form.options back_form.flags [] refl;
   short = λ x. refl;
   known = (refl, (refl, (refl, (refl, (refl, tt)))));
   places = (true, refl, refl, (true, refl, refl, refl));
@@ -194,7 +208,7 @@ back_rules = record {
 
 sweep_rules : AreRulesOf sweep_form (rules_of sweep_form)
 sweep_rules = record {
-  long = λ name. long_options name sweep_form.options (rest_arg 2 (codes "MACHINES") ∷ []) refl;
+  long = λ name. long_options name sweep_form.options sweep_form.flags (rest_arg 2 (codes "MACHINES") ∷ []) refl;
   short = λ x. refl;
   known = (refl, (refl, (refl, (refl, (refl, tt)))));
   places = (true, refl, refl, (refl, refl));

@@ -4,19 +4,19 @@ use Rattle.std.specs.Prelude.{◌&&◌, ◌||◌, Option, Some, None, find, nat_
 use Rattle.std.specs.Option.{option_map_or}
 use Rattle.std.specs.List.{AllByRecursion}
 use Rattle.std.specs.Str.{IsUtf8, bytes_eq}
-use Rattle.clap.specs.Faults.{bundle_fault, flags_fault, long_fault, positional_fault, settle_fault, step_fault, stray_fault, use_fault, word_fault}
+use Rattle.clap.specs.Faults.{bundle_fault, flags_fault, long_fault, positional_fault, react_fault, settle_fault, step_fault, stray_fault, use_fault, word_fault}
 use Rattle.clap.specs.Kinds.{Kinds, or_else}
 use Rattle.clap.specs.Lexer.{usize_max}
 use Rattle.clap.specs.Simple.{Shape}
-use Rattle.clap.specs.Walk.{Held, Row, Rule, Waiting, after_flag, after_step, arg_by_id, arg_by_index, arg_by_long, arg_by_short, idle, is_pending, long_met, long_word, next, option, option_word, positional, positional_held, pushed, settled, to_positional, trailing, used, used_by_id, value, word_met}
+use Rattle.clap.specs.Walk.{Held, Row, Rule, Waiting, after_flag, after_step, arg_by_id, arg_by_index, arg_by_long, arg_by_short, done, idle, is_pending, long_met, long_word, next, option, option_word, positional, positional_held, pushed, reacted, settled, to_positional, trailing, used, used_by_id, value, word_met}
 use Rattle.clap.specs.declared.error.kind.ErrorKind.{ErrorKind}
-use Rattle.clap.specs.declared.error.kind.ErrorKind.TheVariants.{InvalidValue, UnknownArgument}
-use Rattle.fast_cli.specs.Words.{◌>>=◌, Form, Look, Place, Text, Values, after_word, as_look, as_name, as_option, as_value, look_of, values_from, with_only, with_value}
+use Rattle.clap.specs.declared.error.kind.ErrorKind.TheVariants.{InvalidValue, TooManyValues, UnknownArgument}
+use Rattle.fast_cli.specs.Words.{◌>>=◌, Form, Look, Place, Text, Values, after_word, as_flag, as_long, as_look, as_name, as_value, look_of, values_from, with_flag, with_only, with_value}
 use Rattle.fast_cli.specs.Words.{dashes, long, plain, short}
 use Rattle.fast_cli.specs.Command.{accepted, values_among}
 use Rattle.fast_cli.proofs.Rows.{AreGiven, bytes_eq_refl}
 use Rattle.fast_cli.proofs.Looks.{HasFlags, Sees, sees}
-use Rattle.fast_cli.proofs.Uses.{AreRulesOf, LastPlace, Places, built_shape, known_option, name_arg, name_given, name_use, option_arg, option_given, option_use, rest_arg, rest_given, rest_use}
+use Rattle.fast_cli.proofs.Uses.{AreRulesOf, LastPlace, Places, built_shape, flag_arg, flag_given, flag_use, known_option, long_arg, name_arg, name_given, name_use, option_arg, option_given, option_use, rest_arg, rest_given, rest_use}
 use Rattle.fast_cli.proofs.Walks.{IfGiven, after, after-given, after-or_else, bind-end, bind-some, now, now-pended, or_else-nil, outcome, outcome-met, outcome-nil, pended, settled-pended, stands, step_on}
 
 abbrev pub at_place : List Text → Option Text → Bool → Values → Place
@@ -303,58 +303,91 @@ module _ (form : Form) (c : List Rule) where
       ≡ values_from form (at_place names (Some name) false (values_among rows)) words)
       × IfGiven (outcome (shape form c) (stands (held rows (Some (name, []))) (option name) position false) words)
 
-  -- the option of a word
-  found_long : AreRulesOf form c → (name : Text) (o : Option Text) → find (λ x. bytes_eq x name) form.options ≡ o → arg_by_long c name ≡ option_map option_arg o
-  found_long rules name o found = rules.long name ∙ ap (option_map option_arg) found
+  -- the rule of a word that is an option, and of one that is none
+  found_option : AreRulesOf form c → (name chosen : Text) → find (λ x. bytes_eq x name) form.options ≡ Some chosen → arg_by_long c name ≡ Some (option_arg chosen)
+  found_option rules name chosen found = rules.long name ∙ ap (λ o. long_arg o (find (λ x. bytes_eq x name) form.flags)) found
+
+  found_flag : AreRulesOf form c → (name : Text) (flag : Option Text) → find (λ x. bytes_eq x name) form.options ≡ None → find (λ x. bytes_eq x name) form.flags ≡ flag
+      → arg_by_long c name ≡ option_map flag_arg flag
+  found_flag rules name flag none found =
+      rules.long name ∙ ap (λ o. long_arg o (find (λ x. bytes_eq x name) form.flags)) none ∙ ap (option_map flag_arg) found
 
   -- what the form makes of a long word
   long_next : (p : Place) (word : Text) (words : List Text) (name : Text) (v : Option Text) (o : Option Text) → look_of word ≡ long name v
       → find (λ x. bytes_eq x name) form.options ≡ o → p.only_names ≡ false → p.waiting ≡ None
-      → values_from form p (word ∷ words) ≡ ((o >>= (λ x. as_option x p v)) >>= (λ after. values_from form after words))
+      → values_from form p (word ∷ words) ≡ (as_long form name p v o >>= (λ after. values_from form after words))
   long_next p word words name v o look found only waits =
       values_from-next form p word words
       ∙ (λ i. after_word form word p (only i) (waits i) >>= (λ after. values_from form after words))
       ∙ ap (λ l. as_look form word p l >>= (λ after. values_from form after words)) look
-      ∙ ap (λ x. (x >>= (λ y. as_option y p v)) >>= (λ after. values_from form after words)) found
+      ∙ ap (λ x. as_long form name p v x >>= (λ after. values_from form after words)) found
 
-  attached_step : AreRulesOf form c → (word : Text) (words : List Text) (name v chosen : Text) → look_of word ≡ long name (Some v) → Sees word (long name (Some v))
-      → find (λ x. bytes_eq x name) form.options ≡ Some chosen → Ready words → Ready (word ∷ words)
-  attached_step rules word words name v chosen look sees found later names waiting position rows0 pending ready places given =
+  -- the same of a word that is no option
+  flag_next : (p : Place) (word : Text) (words : List Text) (name : Text) (v : Option Text) (flag : Option Text) → look_of word ≡ long name v
+      → find (λ x. bytes_eq x name) form.options ≡ None → find (λ x. bytes_eq x name) form.flags ≡ flag → p.only_names ≡ false → p.waiting ≡ None
+      → values_from form p (word ∷ words) ≡ ((flag >>= (λ x. as_flag x p v)) >>= (λ after. values_from form after words))
+  flag_next p word words name v flag look none found only waits =
+      long_next p word words name v None look none only waits
+      ∙ ap (λ f. (f >>= (λ x. as_flag x p v)) >>= (λ after. values_from form after words)) found
+
+  -- a word that is a use of a rule with these values
+  use_step : (word : Text) (words : List Text) (name : Text) (v : Option Text) (a : Rule) (vs : List Text) (with_use : Values → Option Values)
+      → Sees word (long name v) → arg_by_long c name ≡ Some a
+      → ((h : Held) → long_met c (Some a) v h ≡ (reacted c a vs h, done)) → ((h : Held) → long_fault c false (Some a) v h ≡ react_fault c false a vs h)
+      → ((rows : List Row) → option_map values_among (accepted (use_fault false a vs rows) (used a vs rows)) ≡ with_use (values_among rows))
+      → ((rows : List Row) → AreGiven rows → AreGiven (used a vs rows))
+      → ((names : List Text) (values : Values) → values_from form (at_place names None false values) (word ∷ words)
+      ≡ (with_use values >>= (λ after. values_from form (at_place names None false after) words)))
+      → Ready words → Ready (word ∷ words)
+  use_step word words name v a vs with_use sees found_arg meets faults_as uses gives asks later names waiting position rows0 pending ready places given =
       let h = held rows0 pending in
       let rows = (settled c h).rows in
-      let found_arg = found_long rules name (Some chosen) found in
-      let after_rows = used (option_arg chosen) (v ∷ []) rows in
-      let fault = use_fault false (option_arg chosen) (v ∷ []) rows in
+      let after_rows = used a vs rows in
+      let fault = use_fault false a vs rows in
       let rest = outcome (shape form c) (stands (held after_rows None) idle position false) words in
       let met : word_met c [] false waiting position word h ≡ (held after_rows None, next idle) =
-      long_met_is waiting position word name (Some v) h sees
-      ∙ ap (λ o. after_flag c waiting word (long_met c o (Some v) h).0 (long_met c o (Some v) h).1) found_arg in
+      long_met_is waiting position word name v h sees
+      ∙ ap (λ o. after_flag c waiting word (long_met c o v h).0 (long_met c o v h).1) found_arg
+      ∙ ap (λ m. after_flag c waiting word m.0 m.1) (meets h) in
       let faults : word_fault (shape form c) [] false waiting word h ≡ or_else (settle_fault c false h) fault =
-      long_fault_is waiting word name (Some v) h sees ∙ ap (λ o. long_fault c false o (Some v) h) found_arg in
+      long_fault_is waiting word name v h sees ∙ ap (λ o. long_fault c false o v h) found_arg ∙ faults_as h in
       let walk : outcome (shape form c) (stands h waiting position false) (word ∷ words) ≡ after (settle_fault c false h) (after fault rest) =
       outcome-met (shape form c) h (held after_rows None) waiting position false word words (next idle) met
       ∙ ap (λ t. after (or_else t []) rest) faults
       ∙ ap (λ t. after t rest) (or_else-nil (or_else (settle_fault c false h) fault))
       ∙ after-or_else (settle_fault c false h) fault rest in
-      let on = later names idle position after_rows None tt places (option_given chosen v rows given) in
+      let on = later names idle position after_rows None tt places (gives rows given) in
       let g : Values → Option Values = λ values. values_from form (at_place names None false values) (word ∷ words) in
       let k : Values → Option Values = λ values. values_from form (at_place names None false values) words in
       let one = step_on fault after_rows rest (Some (values_among after_rows)) k k on.0 refl
-      ∙ ap (λ o. o >>= k) (option_use chosen v rows) in
-      let form_next : (with_only chosen v (values_among rows) >>= k) ≡ g (values_among rows) =
-      sym (long_next (at_place names None false (values_among rows)) word words name (Some v) (Some chosen) look found refl refl
-      ∙ bind-some (with_only chosen v (values_among rows)) (λ values. at_place names None false values) (λ p. values_from form p words)) in (
+      ∙ ap (λ o. o >>= k) (uses rows) in (
         ap (option_map values_among) walk
-            ∙ step_on (settle_fault c false h) rows (after fault rest) (with_only chosen v (values_among rows)) g k one form_next,
+            ∙ step_on (settle_fault c false h) rows (after fault rest) (with_use (values_among rows)) g k one (sym (asks names (values_among rows))),
         subst IfGiven (sym walk) (after-given (settle_fault c false h) (after fault rest) (after-given fault rest on.1)),
       )
+
+  attached_step : AreRulesOf form c → (word : Text) (words : List Text) (name v chosen : Text) → look_of word ≡ long name (Some v) → Sees word (long name (Some v))
+      → find (λ x. bytes_eq x name) form.options ≡ Some chosen → Ready words → Ready (word ∷ words)
+  attached_step rules word words name v chosen look sees found =
+      use_step word words name (Some v) (option_arg chosen) (v ∷ []) (with_only chosen v) sees (found_option rules name chosen found) (λ h. refl) (λ h. refl)
+      (option_use chosen v) (option_given chosen v)
+      (λ names values. long_next (at_place names None false values) word words name (Some v) (Some chosen) look found refl refl
+      ∙ bind-some (with_only chosen v values) (λ after. at_place names None false after) (λ p. values_from form p words))
+
+  flag_step : AreRulesOf form c → (word : Text) (words : List Text) (name flag : Text) → look_of word ≡ long name None → Sees word (long name None)
+      → find (λ x. bytes_eq x name) form.options ≡ None → find (λ x. bytes_eq x name) form.flags ≡ Some flag → Ready words → Ready (word ∷ words)
+  flag_step rules word words name flag look sees none found =
+      use_step word words name None (flag_arg flag) [] (with_flag flag) sees (found_flag rules name (Some flag) none found) (λ h. refl) (λ h. refl)
+      (flag_use flag) (flag_given flag)
+      (λ names values. flag_next (at_place names None false values) word words name None (Some flag) look none found refl refl
+      ∙ bind-some (with_flag flag values) (λ after. at_place names None false after) (λ p. values_from form p words))
 
   apart_step : AreRulesOf form c → (word : Text) (words : List Text) (name chosen : Text) → look_of word ≡ long name None → Sees word (long name None)
       → find (λ x. bytes_eq x name) form.options ≡ Some chosen → Waits words → Ready (word ∷ words)
   apart_step rules word words name chosen look sees found later names waiting position rows0 pending ready places given =
       let h = held rows0 pending in
       let rows = (settled c h).rows in
-      let found_arg = found_long rules name (Some chosen) found in
+      let found_arg = found_option rules name chosen found in
       let rest = outcome (shape form c) (stands (held rows (Some (chosen, []))) (option chosen) position false) words in
       let met : word_met c [] false waiting position word h ≡ (held rows (Some (chosen, [])), next (option chosen)) =
       long_met_is waiting position word name None h sees
@@ -374,14 +407,25 @@ module _ (form : Form) (c : List Rule) where
         subst IfGiven (sym walk) (after-given (settle_fault c false h) rest on.1),
       )
 
+  -- a long word that is neither
   unknown_step : AreRulesOf form c → (word : Text) (words : List Text) (name : Text) (v : Option Text) → look_of word ≡ long name v → Sees word (long name v)
-      → find (λ x. bytes_eq x name) form.options ≡ None → Ready (word ∷ words)
-  unknown_step rules word words name v look sees found names waiting position rows pending ready places given =
+      → find (λ x. bytes_eq x name) form.options ≡ None → find (λ x. bytes_eq x name) form.flags ≡ None → Ready (word ∷ words)
+  unknown_step rules word words name v look sees none found names waiting position rows pending ready places given =
       let h = held rows pending in
       let fault : word_fault (shape form c) [] false waiting word h ≡ UnknownArgument ∷ [] =
-      long_fault_is waiting word name v h sees ∙ ap (λ o. long_fault c false o v h) (found_long rules name None found) in
+      long_fault_is waiting word name v h sees ∙ ap (λ o. long_fault c false o v h) (found_flag rules name None none found) in
       none_step false names waiting position h (word ∷ words) (fails h waiting position word words UnknownArgument [] fault)
-      (long_next (at_place names None false (values_among (settled c h).rows)) word words name v None look found refl refl)
+      (flag_next (at_place names None false (values_among (settled c h).rows)) word words name v None look none found refl refl)
+
+  -- a flag with a value
+  valued_step : AreRulesOf form c → (word : Text) (words : List Text) (name v flag : Text) → look_of word ≡ long name (Some v) → Sees word (long name (Some v))
+      → find (λ x. bytes_eq x name) form.options ≡ None → find (λ x. bytes_eq x name) form.flags ≡ Some flag → Ready (word ∷ words)
+  valued_step rules word words name v flag look sees none found names waiting position rows pending ready places given =
+      let h = held rows pending in
+      let fault : word_fault (shape form c) [] false waiting word h ≡ TooManyValues ∷ [] =
+      long_fault_is waiting word name (Some v) h sees ∙ ap (λ o. long_fault c false o (Some v) h) (found_flag rules name (Some flag) none found) in
+      none_step false names waiting position h (word ∷ words) (fails h waiting position word words TooManyValues [] fault)
+      (flag_next (at_place names None false (values_among (settled c h).rows)) word words name (Some v) (Some flag) look none found refl refl)
 
   plain_step : (word : Text) (words : List Text) → look_of word ≡ plain → Sees word plain → Ready words → Ready (word ∷ words)
   plain_step word words look sees later names waiting position rows pending ready places given =
@@ -406,12 +450,15 @@ module _ (form : Form) (c : List Rule) where
 
   long_step : AreRulesOf form c → (word : Text) (words : List Text) (name : Text) (v : Option Text) → look_of word ≡ long name v → Sees word (long name v)
       → Ready words → Waits words → Ready (word ∷ words)
-  long_step rules word words name v look sees later waits = go v (find (λ x. bytes_eq x name) form.options) refl look sees
+  long_step rules word words name v look sees later waits = go v (find (λ x. bytes_eq x name) form.options) (find (λ x. bytes_eq x name) form.flags) refl refl look sees
     where
-      go : (u : Option Text) (o : Option Text) → find (λ x. bytes_eq x name) form.options ≡ o → look_of word ≡ long name u → Sees word (long name u) → Ready (word ∷ words)
-      go u None found look sees = unknown_step rules word words name u look sees found
-      go (Some given) (Some chosen) found look sees = attached_step rules word words name given chosen look sees found later
-      go None (Some chosen) found look sees = apart_step rules word words name chosen look sees found waits
+      go : (u o f : Option Text) → find (λ x. bytes_eq x name) form.options ≡ o → find (λ x. bytes_eq x name) form.flags ≡ f → look_of word ≡ long name u → Sees word (long name u)
+          → Ready (word ∷ words)
+      go (Some given) (Some chosen) f found other look sees = attached_step rules word words name given chosen look sees found later
+      go None (Some chosen) f found other look sees = apart_step rules word words name chosen look sees found waits
+      go u None None found other look sees = unknown_step rules word words name u look sees found other
+      go (Some given) None (Some flag) found other look sees = valued_step rules word words name given flag look sees found other
+      go None None (Some flag) found other look sees = flag_step rules word words name flag look sees found other later
 
   short_step : AreRulesOf form c → (word : Text) (words : List Text) → look_of word ≡ short → Sees word short → Ready (word ∷ words)
   short_step rules word words look sees names waiting position rows pending ready places given =
@@ -485,24 +532,28 @@ module _ (form : Form) (c : List Rule) where
 
   long_lacks : AreRulesOf form c → (word n : Text) (v : Option Text) (rows : List Row) (name : Text) → arg_by_id c name ≡ Some (option_arg name) → Sees word (long n v)
       → (kind : ErrorKind) × (kinds : Kinds) × (word_fault (shape form c) [] false (option name) word (held rows (Some (name, []))) ≡ kind ∷ kinds)
-  long_lacks rules word n v rows name known sees = go (find (λ x. bytes_eq x n) form.options) refl
+  long_lacks rules word n v rows name known sees = go (find (λ x. bytes_eq x n) form.options) (find (λ x. bytes_eq x n) form.flags) refl refl
     where
       h : Held
       h = held rows (Some (name, []))
 
-      first : (o : Option Text) → find (λ x. bytes_eq x n) form.options ≡ o
-          → word_fault (shape form c) [] false (option name) word h ≡ long_fault c false (option_map option_arg o) v h
-      first o found = long_fault_is (option name) word n v h sees ∙ ap (λ a. long_fault c false a v h) (found_long rules n o found)
+      first : (a : Option Rule) → arg_by_long c n ≡ a → word_fault (shape form c) [] false (option name) word h ≡ long_fault c false a v h
+      first a found = long_fault_is (option name) word n v h sees ∙ ap (λ o. long_fault c false o v h) found
 
       option_lacks : (chosen : Text) (u : Option Text) → (kinds : Kinds) × (long_fault c false (Some (option_arg chosen)) u h ≡ InvalidValue ∷ kinds)
       option_lacks chosen None = ([], no_value rows name known)
       option_lacks chosen (Some u) =
           ([], ap (λ t. or_else t (use_fault false (option_arg chosen) (u ∷ []) (settled c h).rows)) (no_value rows name known))
 
-      go : (o : Option Text) → find (λ x. bytes_eq x n) form.options ≡ o
+      flag_lacks : (flag : Text) (u : Option Text) → (kind : ErrorKind) × (kinds : Kinds) × (long_fault c false (Some (flag_arg flag)) u h ≡ kind ∷ kinds)
+      flag_lacks flag None = (InvalidValue, [], ap (λ t. or_else t (use_fault false (flag_arg flag) [] (settled c h).rows)) (no_value rows name known))
+      flag_lacks flag (Some u) = (TooManyValues, [], refl)
+
+      go : (o f : Option Text) → find (λ x. bytes_eq x n) form.options ≡ o → find (λ x. bytes_eq x n) form.flags ≡ f
           → (kind : ErrorKind) × (kinds : Kinds) × (word_fault (shape form c) [] false (option name) word h ≡ kind ∷ kinds)
-      go None found = (UnknownArgument, [], first None found)
-      go (Some chosen) found = (InvalidValue, (option_lacks chosen v).0, first (Some chosen) found ∙ (option_lacks chosen v).1)
+      go (Some chosen) f found other = (InvalidValue, (option_lacks chosen v).0, first (Some (option_arg chosen)) (found_option rules n chosen found) ∙ (option_lacks chosen v).1)
+      go None None none found = (UnknownArgument, [], first None (found_flag rules n None none found))
+      go None (Some flag) none found = ((flag_lacks flag v).0, (flag_lacks flag v).1, first (Some (flag_arg flag)) (found_flag rules n (Some flag) none found) ∙ (flag_lacks flag v).2)
 
   waits_end : (names : List Text) (position : ℕ) (rows : List Row) (name : Text) → arg_by_id c name ≡ Some (option_arg name)
       → (option_map values_among (outcome (shape form c) (stands (held rows (Some (name, []))) (option name) position false) [])

@@ -91,6 +91,25 @@ values-with_values id how v (r ∷ rs) q = go (bytes_eq r.id id) refl (values-wi
     go true e ih = rw e (hit e (bytes_eq id q) refl)
     go false e ih = rw e (miss e ih (bytes_eq r.id q) refl)
 
+-- a row without values, where there was none of its name
+pub values-without : (id : Text) (how : Reading) (rows : List Row) → has_row id rows ≡ false → (q : Text)
+    → values_among (with_values id how CommandLine [] rows) q ≡ cond (bytes_eq id q) (Some []) (values_among rows q)
+values-without id how [] none q = go (bytes_eq id q)
+  where
+    go : (b : Bool) → option_map (λ (x : Row). x.values) (cond b (Some (record { id = id; values = []; count = None; source = Some CommandLine; reading = how })) None)
+        ≡ cond b (Some []) None
+    go true = refl
+    go false = refl
+values-without id how (r ∷ rs) none q =
+    let parts = neither (bytes_eq r.id id) (has_row id rs) none in
+    rw parts.0 (go parts.0 (values-without id how rs parts.1 q) (bytes_eq r.id q) refl)
+  where
+    go : bytes_eq r.id id ≡ false → values_among (with_values id how CommandLine [] rs) q ≡ cond (bytes_eq id q) (Some []) (values_among rs q)
+        → (t : Bool) → bytes_eq r.id q ≡ t
+        → values_among (r ∷ with_values id how CommandLine [] rs) q ≡ cond (bytes_eq id q) (Some []) (values_among (r ∷ rs) q)
+    go e ih true t = values-hit q r _ t ∙ rw (differs r.id id q e t) (sym (values-hit q r rs t))
+    go e ih false t = values-miss q r _ t ∙ ih ∙ rw (values-miss q r rs t) refl
+
 -- ---- the words themselves gave each row
 
 abbrev pub AreGiven : List Row → Type 0

@@ -11,14 +11,17 @@ use Rattle.clap.specs.Takes.{is_given}
 use Rattle.clap.specs.Walk.{Row, Rule, arg_by_id, arg_by_index, arg_by_long, arg_by_short, has_row, reading_by, used, with_values, without}
 use Rattle.clap.specs.declared.builder.value_parser.Reading.{Reading}
 use Rattle.clap.specs.declared.parser.matches.ValueSource.TheVariants.{CommandLine}
-use Rattle.fast_cli.specs.Words.{Form, Text, rest_names, with_only, with_value}
-use Rattle.fast_cli.specs.Command.{accepted, name_rule, names_rule, option_rule, values_among}
-use Rattle.fast_cli.proofs.Rows.{AreGiven, has_row-values, values-with_values, with_values-given, without-given, without-none}
+use Rattle.fast_cli.specs.Words.{Form, Text, rest_names, with_flag, with_only, with_value}
+use Rattle.fast_cli.specs.Command.{accepted, flag_rule, name_rule, names_rule, option_rule, values_among}
+use Rattle.fast_cli.proofs.Rows.{AreGiven, has_row-values, values-with_values, values-without, with_values-given, without-given, without-none}
 
 -- ---- the rules of a form
 
 abbrev pub option_arg : Text → Rule
 option_arg name = filled (option_rule name)
+
+abbrev pub flag_arg : Text → Rule
+flag_arg name = filled (flag_rule name)
 
 abbrev pub name_arg : Bool → ℕ → Text → Rule
 name_arg needed place name = record (filled (name_rule needed name)) { index = Some place }
@@ -55,9 +58,14 @@ abbrev pub NoDefaults : List Rule → Type 0
 NoDefaults [] = Unit {0}
 NoDefaults (a ∷ rest) = (a.defaults ≡ []) × NoDefaults rest
 
+-- the rule with a long name: an option's, or else a flag's
+abbrev pub long_arg : Option Text → Option Text → Option Rule
+long_arg (Some option) flag = Some (option_arg option)
+long_arg None flag = option_map flag_arg flag
+
 -- the rules are those of the form
 pub record AreRulesOf (form : Form) (c : List Rule) : Type 0 where
-  pub long : (name : Text) → arg_by_long c name ≡ option_map option_arg (find (λ option. bytes_eq option name) form.options)
+  pub long : (name : Text) → arg_by_long c name ≡ long_arg (find (λ option. bytes_eq option name) form.options) (find (λ flag. bytes_eq flag name) form.flags)
   pub short : (x : ℕ) → arg_by_short c x ≡ None
   pub known : Known c form.options
   pub places : Places c 1 (form.names ++ form.optional) form.rest
@@ -92,6 +100,18 @@ pub option_use : (name v : Text) (rows : List Row)
     → option_map values_among (accepted (use_fault false (option_arg name) (v ∷ []) rows) (used (option_arg name) (v ∷ []) rows)) ≡ with_only name v (values_among rows)
 option_use name v rows = set_use name _ v rows
 
+pub flag_use : (name : Text) (rows : List Row)
+    → option_map values_among (accepted (use_fault false (flag_arg name) [] rows) (used (flag_arg name) [] rows)) ≡ with_flag name (values_among rows)
+flag_use name rows = go (has_row name rows) refl
+  where
+    go : (b : Bool) → has_row name rows ≡ b
+        → option_map values_among (accepted (use_fault false (flag_arg name) [] rows) (used (flag_arg name) [] rows)) ≡ with_flag name (values_among rows)
+    go true e = rw (← has_row-values name rows, e) refl
+    go false e =
+        let marked : values_among (with_values name (reading_by (flag_arg name)) CommandLine [] rows) ≡ (λ q. cond (bytes_eq name q) (Some []) (values_among rows q)) =
+        λ i q. values-without name (reading_by (flag_arg name)) rows e q i in
+        rw (← has_row-values name rows, e, without-none name rows e) (ap Some marked)
+
 pub name_use : (needed : Bool) (place : ℕ) (name v : Text) (rows : List Row)
     → option_map values_among (accepted (use_fault false (name_arg needed place name) (v ∷ []) rows) (used (name_arg needed place name) (v ∷ []) rows))
     ≡ with_only name v (values_among rows)
@@ -105,6 +125,9 @@ rest_use place name v rows =
 
 pub option_given : (name v : Text) (rows : List Row) → AreGiven rows → AreGiven (used (option_arg name) (v ∷ []) rows)
 option_given name v rows given = with_values-given name _ (v ∷ []) (without name rows) (without-given name rows given)
+
+pub flag_given : (name : Text) (rows : List Row) → AreGiven rows → AreGiven (used (flag_arg name) [] rows)
+flag_given name rows given = with_values-given name _ [] (without name rows) (without-given name rows given)
 
 pub name_given : (needed : Bool) (place : ℕ) (name v : Text) (rows : List Row) → AreGiven rows → AreGiven (used (name_arg needed place name) (v ∷ []) rows)
 name_given needed place name v rows given = with_values-given name _ (v ∷ []) (without name rows) (without-given name rows given)

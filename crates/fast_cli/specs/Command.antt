@@ -5,7 +5,7 @@ use Rattle.clap.specs.Simple.{App, matches_of, new_rule, new_shape, with_rule}
 use Rattle.clap.specs.Matches.{found_of}
 use Rattle.clap.specs.Kinds.{Kinds}
 use Rattle.clap.specs.Faults.{fault_of, is_simple_and_free}
-use Rattle.clap.specs.declared.builder.action.ArgAction.TheVariants.{Append}
+use Rattle.clap.specs.declared.builder.action.ArgAction.TheVariants.{Append, Set}
 use Rattle.clap.specs.declared.parser.matches.ArgMatches.{ArgMatches}
 use Rattle.fast_cli.specs.Words.{AreText, Form, Text, Values, values_in}
 
@@ -20,6 +20,14 @@ names_rule name = record (new_rule name) { required = true; action = Some Append
 -- an option with a value, `--name VALUE` or `--name=VALUE`
 abbrev pub option_rule : Text → Rule
 option_rule name = record (new_rule name) { long = Some name }
+
+-- a flag, `--name`: a use of it has no value, and without one there is none
+abbrev pub flag_rule : Text → Rule
+flag_rule name = record (new_rule name) {
+  long = Some name;
+  action = Some Set;
+  range = Some (record { start_inclusive = 0; end_inclusive = 0 });
+}
 
 -- a command without names and options; `--help` and `--version` are none, and the first of its words
 -- isn't the program's name
@@ -44,13 +52,16 @@ with_names needed names = with_rules (map (name_rule needed) names)
 abbrev pub with_options : List Text → App → App
 with_options options = with_rules (map option_rule options)
 
+abbrev pub with_flags : List Text → App → App
+with_flags flags = with_rules (map flag_rule flags)
+
 abbrev pub with_rest : Option Text → App → App
 with_rest None command = command
 with_rest (Some name) command = with_rule command (names_rule name)
 
 abbrev pub command_by : Form → App
-command_by form = with_rest form.rest (with_options form.options (with_names false form.optional
-    (with_names true form.names (bare_command form.word))))
+command_by form = with_rest form.rest (with_flags form.flags (with_options form.options
+    (with_names false form.optional (with_names true form.names (bare_command form.word)))))
 
 -- the values among what clap found
 abbrev pub values_among : List Row → Values

@@ -10,4 +10,5 @@ form_of f = record {
   optional = map (λ name. name.now) f.optional.now;
   rest = option_map (λ name. name.now) f.rest;
   options = map (λ option. option.now) f.options.now;
+  flags = map (λ flag. flag.now) f.flags.now;
 }

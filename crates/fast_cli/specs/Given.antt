@@ -9,4 +9,5 @@ options_in given = record {
   cycles = given.cycles;
   output = given.output;
   input = option_map (λ name. name.now) given.input;
+  exit_code = given.exit_code;
 }

@@ -30,6 +30,7 @@ func_form = record {
   optional = [];
   rest = None;
   options = codes "machine" ∷ limits;
+  flags = codes "exit-code" ∷ [];
 }
 
 unfoldable pub func_at : Values → Option Line
@@ -50,6 +51,7 @@ run_form = record {
   optional = [];
   rest = None;
   options = codes "pipeline" ∷ codes "threads" ∷ codes "ring" ∷ limits;
+  flags = codes "exit-code" ∷ [];
 }
 
 unfoldable pub run_at : Values → Option Line
@@ -72,6 +74,7 @@ sched_form = record {
   optional = [];
   rest = None;
   options = codes "ring" ∷ limits;
+  flags = [];
 }
 
 unfoldable pub sched_at : Values → Option Line
@@ -93,6 +96,7 @@ soak_form = record {
   optional = [];
   rest = None;
   options = [];
+  flags = [];
 }
 
 unfoldable pub soak_at : Values → Option Line
@@ -111,6 +115,7 @@ back_form = record {
   optional = [];
   rest = None;
   options = codes "machine" ∷ codes "history" ∷ limits;
+  flags = [];
 }
 
 unfoldable pub back_at : Values → Option Line
@@ -133,6 +138,7 @@ inorder_form = record {
   optional = codes "PLAN" ∷ [];
   rest = None;
   options = codes "ring" ∷ limits;
+  flags = codes "exit-code" ∷ [];
 }
 
 unfoldable pub inorder_at : Values → Option Line
@@ -154,6 +160,7 @@ sweep_form = record {
   optional = [];
   rest = Some (codes "MACHINES");
   options = codes "pipeline" ∷ codes "ring" ∷ limits;
+  flags = [];
 }
 
 unfoldable pub sweep_at : Values → Option Line

@@ -1,7 +1,7 @@
 -- What a line takes from the values that its words give: names, numbers in their ranges, and
 -- defaults.
 use Rattle.std.specs.Prelude.{ℕ, Bool, List, Option, Some, None, ◌&&◌, ◌==◌, codes, if◌then◌else◌}
-use Rattle.std.specs.Prelude.{[], ◌∷◌, length, not, find, option_map, slice_get}
+use Rattle.std.specs.Prelude.{[], ◌∷◌, false, length, not, find, is_some, option_map, slice_get}
 use Rattle.std.specs.List.{list_all}
 use Rattle.std.specs.Str.{bytes_eq}
 use Rattle.fast_cli.specs.Number.{is_between, number_in}
@@ -55,6 +55,10 @@ name_or_none (Some text) = option_map (λ name. Some name) (name_in text)
 unfoldable pub name_if_given : Text → Values → Option (Option Text)
 name_if_given id values = name_or_none (first_at id values)
 
+-- whether the flag is there
+abbrev pub flag_at : Text → Values → Bool
+flag_at id values = is_some (values id)
+
 -- the pipelines by their words
 abbrev pub pipelines : List (Text × Pipeline)
 pipelines = (codes "window", Window) ∷ (codes "inorder", Inorder) ∷ []
@@ -72,7 +76,13 @@ pipeline_at values = pipeline_or_default (first_at (codes "pipeline") values)
 
 -- the options of a line that gives none
 unfoldable pub default_options : Options
-default_options = record { ring = 64; cycles = 10000000; output = 16777216; input = None }
+default_options = record {
+  ring = 64;
+  cycles = 10000000;
+  output = 16777216;
+  input = None;
+  exit_code = false;
+}
 
 -- the options with their ranges and defaults; one that the command doesn't know has its default
 unfoldable pub options_at : Values → Option Options
@@ -81,4 +91,10 @@ options_at values = do
   cycles ← number_at (codes "cycles") 1 1099511627776 default_options.cycles values
   output ← number_at (codes "output") 0 16777216 default_options.output values
   input ← name_if_given (codes "input") values
-  Some (record { ring = ring; cycles = cycles; output = output; input = input })
+  Some (record {
+    ring = ring;
+    cycles = cycles;
+    output = output;
+    input = input;
+    exit_code = flag_at (codes "exit-code") values;
+  })

@@ -22,17 +22,19 @@ Some value >>= next = next value
 -- ---- what a command takes
 
 -- the command's word; its names in their order; names that may stand behind those; a name that stands
--- for all names behind these, of which one must be there; and its options, each of which has a value
+-- for all names behind these, of which one must be there; its options, each of which has a value; and
+-- its flags, which have none
 pub record Form : Type 0 where
   pub word : Text
   pub names : List Text
   pub optional : List Text
   pub rest : Option Text
   pub options : List Text
+  pub flags : List Text
 
 -- ---- the values that words give
 
--- the values of each name and option
+-- the values of each name and option; a flag that is there has none
 abbrev pub Values : Type 0
 Values = Text → Option (List Text)
 
@@ -47,6 +49,12 @@ with_value id value values = λ other.
 -- the only value
 abbrev pub with_only : Text → Text → Values → Option Values
 with_only id value values = if is_some (values id) then None else Some (with_value id value values)
+
+-- the flag, which was not there
+abbrev pub with_flag : Text → Values → Option Values
+with_flag flag values =
+    if is_some (values flag) then None
+    else Some (λ other. if bytes_eq flag other then Some [] else values other)
 
 -- ---- what a word is by how it begins
 
@@ -108,13 +116,26 @@ abbrev pub as_option : Text → Place → Option Text → Option Place
 as_option option p (Some value) = with_option option value p
 as_option option p None = Some (record p { waiting = Some option })
 
+-- a flag, behind which no `=` stands
+abbrev pub as_flag : Text → Place → Option Text → Option Place
+as_flag flag p (Some value) = None
+as_flag flag p None = do
+  values ← with_flag flag p.values
+  Some (record p { values = values })
+
+-- what has this name, if it is no option: a flag
+abbrev pub as_long : Form → Text → Place → Option Text → Option Text → Option Place
+as_long form name p value (Some option) = as_option option p value
+as_long form name p value None = do
+  flag ← find (λ flag. bytes_eq flag name) form.flags
+  as_flag flag p value
+
 -- a word where no option waits
 abbrev pub as_look : Form → Text → Place → Look → Option Place
 as_look form word p plain = as_name form word p p.names
 as_look form word p dashes = Some (record p { only_names = true })
-as_look form word p (long name value) = do
-  option ← find (λ option. bytes_eq option name) form.options
-  as_option option p value
+as_look form word p (long name value) =
+    as_long form name p value (find (λ option. bytes_eq option name) form.options)
 as_look form word p short = None
 
 -- a word where one does

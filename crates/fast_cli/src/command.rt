@@ -3,8 +3,9 @@ ghost use Rattle.std.specs.Prelude.{◌≡◌, ◌≢◌, ◌↔◌, IfOk, map, 
 ghost use Rattle.clap.specs.Values.{kind_of};
 ghost use Rattle.clap.specs.Words.{app_of, is_simple_and_free, with_rule};
 ghost use Rattle.fast_cli.specs.Words.{AreText, values_in};
-ghost use Rattle.fast_cli.specs.Command.{ReadsAs, bare_command, command_by, name_rule, names_rule};
-ghost use Rattle.fast_cli.specs.Command.{option_rule, parsed, values_of, with_names, with_options};
+ghost use Rattle.fast_cli.specs.Command.{ReadsAs, bare_command, command_by, flag_rule, name_rule};
+ghost use Rattle.fast_cli.specs.Command.{names_rule, option_rule, parsed, values_of, with_flags};
+ghost use Rattle.fast_cli.specs.Command.{with_names, with_options};
 ghost use Rattle.fast_cli.specs.Form.{form_of};
 
 use crate::form::Form;
@@ -80,6 +81,37 @@ fn with_option<'a>(
     command.arg(arg)
 }
 
+fn with_flags<'a>(
+    alloc: Global,
+    command: Command<'a>,
+    flags: &'a [&'a str],
+) -> Result<Command<'a>, AllocError>
+    ensures { IfOk result (λ c. app_of c
+        ≡ with_flags (map (λ flag. flag.now) flags.entry.now) (app_of command.entry)) }
+{
+    let mut longer = command;
+    for flag in flags {
+        longer = with_flag(alloc, longer, flag)?;
+    }
+    Ok(longer)
+}
+
+// `ArgAction::SetTrue` would make a value where the flag is left out.
+fn with_flag<'a>(
+    alloc: Global,
+    command: Command<'a>,
+    name: &'a str,
+) -> Result<Command<'a>, AllocError>
+    ensures { IfOk result (λ c. app_of c
+        ≡ with_rule (app_of command.entry) (flag_rule name.entry.now)) }
+{
+    let arg = Arg::new(alloc, name)
+        .long(name)
+        .action(ArgAction::Set)
+        .num_args(0usize);
+    command.arg(arg)
+}
+
 // The command with a name for all names behind its others.
 fn with_rest<'a>(
     alloc: Global,
@@ -102,6 +134,7 @@ fn make_command<'a>(alloc: Global, form: &Form<'a>) -> Result<Command<'a>, Alloc
     let command = with_names(alloc, command, form.names, true)?;
     let command = with_names(alloc, command, form.optional, false)?;
     let command = with_options(alloc, command, form.options)?;
+    let command = with_flags(alloc, command, form.flags)?;
     match form.rest {
         Some(name) => with_rest(alloc, command, name),
         None => Ok(command),

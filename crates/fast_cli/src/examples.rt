@@ -1,6 +1,6 @@
 //! Lines at words that are written out. Each clause is computed by the checker from the definition
 //! of `line`, so it says of `read_words` what it answers at these words.
-ghost use Rattle.std.specs.Prelude.{◌≡◌, [], ◌∷◌, ◌++◌, Some, None, codes, replicate};
+ghost use Rattle.std.specs.Prelude.{◌≡◌, [], ◌∷◌, ◌++◌, Some, None, true, codes, replicate};
 ghost use Rattle.fast_cli.specs.Line.{line};
 ghost use Rattle.fast_cli.specs.declared.line.Line.TheVariants.{Back, Func, Inorder, Run, Sched};
 ghost use Rattle.fast_cli.specs.declared.line.Line.TheVariants.{Soak, Sweep};
@@ -41,7 +41,7 @@ pub fn each_option()
         })) }
     ensures run { line (words_of (codes "run a m --ring 1 --cycles 2 --input i --output 3"))
         ≡ Some (Run (codes "a") (codes "m") Window 2
-        (record { ring = 1; cycles = 2; input = Some (codes "i"); output = 3 })) }
+        (record defaults { ring = 1; cycles = 2; input = Some (codes "i"); output = 3 })) }
     ensures run_threads { line (words_of (codes "run a m --threads 1 --ring 1"))
         ≡ Some (Run (codes "a") (codes "m") Window 1 (record defaults { ring = 1 })) }
     ensures run_in_order { line (words_of (codes "run a m --pipeline inorder"))
@@ -69,6 +69,21 @@ pub fn each_option()
     ensures back_machine { line (words_of (codes "back a s --machine=m --history 1"))
         ≡ Some (Back (codes "a") (codes "s") (Some (codes "m")) 1 defaults) }
     ensures run_has_no_machine_option { line (words_of (codes "run a m --machine m")) ≡ None }
+    ensures func_exit_code { line (words_of (codes "func a --exit-code"))
+        ≡ Some (Func (codes "a") None (record defaults { exit_code = true })) }
+    ensures run_exit_code { line (words_of (codes "run --exit-code a m --ring 1"))
+        ≡ Some (Run (codes "a") (codes "m") Window 2
+        (record defaults { ring = 1; exit_code = true })) }
+    ensures inorder_exit_code { line (words_of (codes "inorder a --exit-code m"))
+        ≡ Some (Inorder (codes "a") (codes "m") None (record defaults { exit_code = true })) }
+    ensures exit_code_has_no_value { line (words_of (codes "func a --exit-code=1")) ≡ None }
+    ensures exit_code_takes_no_word { line (words_of (codes "func a --exit-code 1")) ≡ None }
+    ensures exit_code_twice { line (words_of (codes "func a --exit-code --exit-code")) ≡ None }
+    ensures exit_code_is_no_value { line (words_of (codes "func a --input --exit-code")) ≡ None }
+    ensures sched_has_no_exit_code { line (words_of (codes "sched a m p --exit-code")) ≡ None }
+    ensures soak_has_no_exit_code { line (words_of (codes "soak 7 --exit-code")) ≡ None }
+    ensures back_has_no_exit_code { line (words_of (codes "back a s --exit-code")) ≡ None }
+    ensures sweep_has_no_exit_code { line (words_of (codes "sweep a m --exit-code")) ≡ None }
     ensures func_has_no_ring { line (words_of (codes "func a --ring 1")) ≡ None }
     ensures back_has_no_ring { line (words_of (codes "back a s --ring 1")) ≡ None }
     ensures soak_has_no_ring { line (words_of (codes "soak 7 --ring 1")) ≡ None }

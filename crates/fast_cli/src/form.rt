@@ -11,4 +11,6 @@ pub(crate) struct Form<'a> {
     pub rest: Option<&'a str>,
     /// Its options, each with a value.
     pub options: &'a [&'a str],
+    /// Its flags, which have no value.
+    pub flags: &'a [&'a str],
 }

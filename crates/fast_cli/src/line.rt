@@ -80,6 +80,8 @@ pub struct Options {
     pub output: u32,
     /// The name of the file that the console reads.
     pub input: Option<Text>,
+    /// Whether the process ends with the program's code.
+    pub exit_code: bool,
 }
 
 /// Why words gave no line.

@@ -45,5 +45,6 @@ pub(crate) fn own_options(alloc: Global, given: &GivenOptions<'_>) -> Result<Opt
         cycles: given.cycles,
         output: given.output,
         input,
+        exit_code: given.exit_code,
     })
 }

@@ -39,16 +39,22 @@ pub(crate) fn form_for(name: CommandName) -> Form<'static>
     ensures form { form_of result ≡ (command_in name).form }
 {
     match name {
-        CommandName::Func => form(
-            "func",
-            &["IMAGE"],
-            &["machine", "cycles", "input", "output"],
-        ),
-        CommandName::Run => form(
-            "run",
-            &["IMAGE", "MACHINE"],
-            &["pipeline", "threads", "ring", "cycles", "input", "output"],
-        ),
+        CommandName::Func => Form {
+            flags: &["exit-code"],
+            ..form(
+                "func",
+                &["IMAGE"],
+                &["machine", "cycles", "input", "output"],
+            )
+        },
+        CommandName::Run => Form {
+            flags: &["exit-code"],
+            ..form(
+                "run",
+                &["IMAGE", "MACHINE"],
+                &["pipeline", "threads", "ring", "cycles", "input", "output"],
+            )
+        },
         CommandName::Sched => form(
             "sched",
             &["IMAGE", "MACHINE", "PLAN"],
@@ -62,6 +68,7 @@ pub(crate) fn form_for(name: CommandName) -> Form<'static>
         ),
         CommandName::Inorder => Form {
             optional: &["PLAN"],
+            flags: &["exit-code"],
             ..form(
                 "inorder",
                 &["IMAGE", "MACHINE"],
@@ -79,7 +86,7 @@ pub(crate) fn form_for(name: CommandName) -> Form<'static>
     }
 }
 
-/// A command without names behind those of its own.
+/// A command without names behind those of its own, and without flags.
 fn form(
     word: &'static str,
     names: &'static [&'static str],
@@ -91,6 +98,7 @@ fn form(
       optional = [];
       rest = None;
       options = map (λ option. option.now) options.now;
+      flags = [];
     } }
 {
     Form {
@@ -99,5 +107,6 @@ fn form(
         optional: &[],
         rest: None,
         options,
+        flags: &[],
     }
 }

@@ -5,7 +5,8 @@ ghost use Rattle.fast_cli.specs.Command.{values_of};
 ghost use Rattle.fast_cli.specs.Given.{options_in};
 ghost use Rattle.fast_cli.specs.Number.{is_between};
 ghost use Rattle.fast_cli.specs.Ranges.{HasRanges, IsFrom};
-ghost use Rattle.fast_cli.specs.Values.{default_options, first_at, given_number_at, is_name};
+ghost use Rattle.fast_cli.specs.Values.{default_options, first_at, flag_at, given_number_at};
+ghost use Rattle.fast_cli.specs.Values.{is_name};
 ghost use Rattle.fast_cli.specs.Values.{name_at, name_if_given, name_in, names_at, number_at};
 ghost use Rattle.fast_cli.specs.Values.{options_at, pipeline_at, pipeline_in};
 
@@ -117,6 +118,13 @@ pub(crate) fn name_if_given<'a>(matches: &ArgMatches<'a>, id: &str) -> Option<Op
     }
 }
 
+/// Whether the flag is there.
+fn flag_at(matches: &ArgMatches<'_>, id: &str) -> bool
+    ensures { result ≡ flag_at id.now (values_of matches.now) }
+{
+    values_at(matches, id).is_some()
+}
+
 fn pipeline_in(text: &str) -> Option<Pipeline>
     ensures { result ≡ pipeline_in text.now }
 {
@@ -145,6 +153,7 @@ pub(crate) struct GivenOptions<'a> {
     pub cycles: u64,
     pub output: u32,
     pub input: Option<&'a str>,
+    pub exit_code: bool,
 }
 
 /// The options of a line that gives none.
@@ -158,6 +167,7 @@ pub fn default_options() -> Options
         cycles: 10_000_000,
         output: 16_777_216,
         input: None,
+        exit_code: false,
     }
 }
 
@@ -177,5 +187,6 @@ pub(crate) fn options_at<'a>(matches: &ArgMatches<'a>) -> Option<GivenOptions<'a
         cycles,
         output: output as u32,
         input,
+        exit_code: flag_at(matches, "exit-code"),
     })
 }

@@ -136,5 +136,6 @@ fn limits_of(options: &Options) -> Options
         cycles: options.cycles,
         output: options.output,
         input: None,
+        exit_code: options.exit_code,
     }
 }

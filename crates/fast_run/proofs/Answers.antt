@@ -1,6 +1,6 @@
 -- From the answer to a job, and from the cause that there is none, to the program's answer.
-use Rattle.std.proofs.Common.{◌≡◌, ℕ, inl, inr, Option, Some, None, Ok, refl, sym, subst}
-use Rattle.report_text.specs.FaultText.{fault_text}
+use Rattle.std.proofs.Common.{◌≡◌, ◌∙◌, ℕ, Bool, cond, true, false, inl, inr, Option, Some, None, Ok, refl, ap, sym, subst}
+use Rattle.report_text.specs.FaultText.{fault_text, status_number}
 use Rattle.report_text.specs.declared.status.Status.{Status}
 use Rattle.report_text.specs.declared.status.Status.TheVariants.{Memory, Usage}
 use Rattle.fast_cli.specs.declared.line.Line.{Line}
@@ -9,6 +9,7 @@ use Rattle.fast_jobs.specs.Call.{Reading, Writing, WroteTo}
 use Rattle.fast_jobs.specs.Ending.{Ends}
 use Rattle.fast_jobs.specs.Opening.{Asks, Closes, Starved}
 use Rattle.fast_run.specs.Answer.{IsAnswer}
+use Rattle.fast_run.specs.Program.{asks_code, code_number, exit_number}
 
 -- there is no job, and the line of the answer was written
 pub answer-closed : (line : Line) (sets : ℕ) (files : Reading) (sink : Writing) (status answer : Status) → answer ≡ status → Closes line sets files status → WroteTo sink (fault_text status) →
@@ -44,5 +45,18 @@ answer-usage asked sets files sink status none unread usage written =
     let answered : IsAnswer None sets files sink status = inl (record { answer = usage; unread = unread; written = line }) in
     subst (λ (a : Option Line). IsAnswer a sets files sink status) (sym none) answered
 
+-- an answer that has no code ends the process with its own number
+exit-plain : (asks : Bool) (code number : ℕ) → code ≡ number → number ≡ cond asks code number
+exit-plain true code number same = sym same
+exit-plain false code number same = refl
+
+pub exit-usage : (asked : Option Line) (status : Status) (number : ℕ) → status ≡ Usage → number ≡ status_number status → number ≡ exit_number asked status
+exit-usage asked status number usage same =
+    same ∙ ap status_number usage ∙ exit-plain (asks_code asked) (code_number Usage) (status_number Usage) refl ∙ ap (exit_number asked) (sym usage)
+
+pub exit-starved : (asked : Option Line) (status : Status) (number : ℕ) → status ≡ Memory → number ≡ status_number status → number ≡ exit_number asked status
+exit-starved asked status number memory same =
+    same ∙ ap status_number memory ∙ exit-plain (asks_code asked) (code_number Memory) (status_number Memory) refl ∙ ap (exit_number asked) (sym memory)
+
 -- for the answers that come without a job
-pub ruleset closing_answers = (answer-usage, answer-starved)
+pub ruleset closing_answers = (answer-usage, answer-starved, exit-usage, exit-starved)

@@ -2,9 +2,11 @@ ghost use Rattle.std.specs.Prelude.{◌≡◌, ◌≤◌, ◌/◌, true, map, ve
 ghost use Rattle.device_bus.specs.Bus.{AreSets};
 ghost use Rattle.fast_cli.specs.Line.{line};
 ghost use Rattle.fast_cli.specs.Ranges.{IsInRange};
+ghost use Rattle.report_text.specs.FaultText.{status_number};
 ghost use Rattle.fast_jobs.specs.Call.{reading_of, writing_of};
 ghost use Rattle.fast_jobs.specs.Job.{is_still};
 ghost use Rattle.fast_run.specs.Answer.{IsAnswer};
+ghost use Rattle.fast_run.specs.Program.{asks_code, code_number, exit_number};
 ghost use Rattle.fast_run.specs.Settled.{IsComplete, IsSettled};
 
 use device_bus::{Device, SET_SIZE};
@@ -15,6 +17,24 @@ use report_text::Status;
 use std::alloc::Global;
 use std::sync::Wait;
 use std::thread::Threads;
+
+/// An answer, and the number with which the process is to end.
+#[derive(Debug, Drop)]
+pub struct Answer {
+    pub status: Status,
+    pub number: u8,
+}
+
+impl Answer {
+    /// The answer with its own number.
+    pub fn plain(status: Status) -> Answer
+        ensures status { result.status ≡ status }
+        ensures number { result.number ≡ status_number status }
+    {
+        let number = status.number();
+        Answer { status, number }
+    }
+}
 
 /// The answer to the words, with the files, the sink and 1 to 64 sets of devices: console,
 /// timer, finisher, in this order. A sweep takes a set for each of its machines, every other line
@@ -32,19 +52,21 @@ pub fn fast_main<R: Threads + Wait + Sync, F: Files, K: Sink, G: Gate + Sync, D:
     sink: &mut K,
     devices: Vec<D>,
     gate: &G,
-) -> Status
+) -> Answer
     requires sets { AreSets (vec_len devices / 3) (map D.kind devices.items) }
     ensures told { F.told files.new ≡ F.told files.old }
     ensures files { F.faults files.old ≤ F.faults files.new }
     ensures sink { K.faults sink.old ≤ K.faults sink.new }
     ensures answer { IsAnswer (line (map (λ word. word.now) words.now)) (vec_len devices / 3)
         (reading_of F.told F.faults files.old files.new)
-        (writing_of K.written K.faults sink.old sink.new) result }
+        (writing_of K.written K.faults sink.old sink.new) result.status }
     ensures settled { IsSettled (line (map (λ word. word.now) words.now)) (vec_len devices / 3)
-        (reading_of F.told F.faults files.old files.new) result }
+        (reading_of F.told F.faults files.old files.new) result.status }
     ensures complete { IsComplete (line (map (λ word. word.now) words.now)) (vec_len devices / 3)
         (reading_of F.told F.faults files.old files.new)
-        (writing_of K.written K.faults sink.old sink.new) result }
+        (writing_of K.written K.faults sink.old sink.new) result.status }
+    ensures number { result.number
+        ≡ exit_number (line (map (λ word. word.now) words.now)) result.status }
 {
     answer_or_usage(rt, alloc, words, files, sink, devices, gate)
 }
@@ -59,24 +81,86 @@ fn answer_or_usage<R: Threads + Wait + Sync, F: Files, K: Sink, G: Gate + Sync, 
     sink: &mut K,
     devices: Vec<D>,
     gate: &G,
-) -> Status
+) -> Answer
     requires sets { AreSets (vec_len devices / 3) (map D.kind devices.items) }
     ensures told { F.told files.new ≡ F.told files.old }
     ensures files { F.faults files.old ≤ F.faults files.new }
     ensures sink { K.faults sink.old ≤ K.faults sink.new }
     ensures answer { IsAnswer (line (map (λ word. word.now) words.now)) (vec_len devices / 3)
         (reading_of F.told F.faults files.old files.new)
-        (writing_of K.written K.faults sink.old sink.new) result }
+        (writing_of K.written K.faults sink.old sink.new) result.status }
+    ensures number { result.number
+        ≡ exit_number (line (map (λ word. word.now) words.now)) result.status }
 {
     let line = match read_words(alloc, words) {
         Ok(line) => line,
-        Err(UsageFault::Words) => return Refusal::new(Status::Usage).tell(sink),
-        Err(UsageFault::Memory) => return tell_want_of_memory(sink),
+        Err(UsageFault::Words) => return Answer::plain(Refusal::new(Status::Usage).tell(sink)),
+        Err(UsageFault::Memory) => return Answer::plain(tell_want_of_memory(sink)),
     };
-    if is_still(&line) {
-        fast_still(alloc, &line, files, sink, devices)
+    let status = answer_line(rt, alloc, &line, files, sink, devices, gate);
+    let number = exit_number(&line, &status);
+    Answer { status, number }
+}
+
+/// The answer to a line.
+fn answer_line<R: Threads + Wait + Sync, F: Files, K: Sink, G: Gate + Sync, D: Device + Send>(
+    rt: &R,
+    alloc: Global,
+    line: &Line,
+    files: &mut F,
+    sink: &mut K,
+    devices: Vec<D>,
+    gate: &G,
+) -> Status
+    requires ranges { IsInRange line.now }
+    requires sets { AreSets (vec_len devices / 3) (map D.kind devices.items) }
+    ensures told { F.told files.new ≡ F.told files.old }
+    ensures files { F.faults files.old ≤ F.faults files.new }
+    ensures sink { K.faults sink.old ≤ K.faults sink.new }
+    ensures answer { IsAnswer (Some line.now) (vec_len devices / 3)
+        (reading_of F.told F.faults files.old files.new)
+        (writing_of K.written K.faults sink.old sink.new) result }
+{
+    if is_still(line) {
+        fast_still(alloc, line, files, sink, devices)
     } else {
-        answer_in_threads(rt, alloc, &line, files, sink, devices, gate)
+        answer_in_threads(rt, alloc, line, files, sink, devices, gate)
+    }
+}
+
+/// The number that ends the process.
+fn exit_number(line: &Line, status: &Status) -> u8
+    ensures number { result ≡ exit_number (Some line.now) status.now }
+{
+    if asks_code(line) {
+        code_number(status)
+    } else {
+        status.number()
+    }
+}
+
+/// Whether a line asks for the program's code.
+fn asks_code(line: &Line) -> bool
+    ensures asks { result ≡ asks_code (Some line.now) }
+{
+    match line {
+        Line::Func { options, .. }
+        | Line::Run { options, .. }
+        | Line::Sched { options, .. }
+        | Line::Back { options, .. }
+        | Line::Inorder { options, .. }
+        | Line::Sweep { options, .. } => options.exit_code,
+        Line::Soak { .. } => false,
+    }
+}
+
+/// The program's code modulo 256, or the number of an answer that has none.
+fn code_number(status: &Status) -> u8
+    ensures number { result ≡ code_number status.now }
+{
+    match status {
+        Status::Fail(code) => (*code % 256) as u8,
+        status => status.number(),
     }
 }
 

@@ -3,12 +3,11 @@ ghost use Rattle.std.specs.IoError.{error_kind};
 ghost use Rattle.std.specs.Vec.Iter.{into_iter_items};
 ghost use Rattle.std.specs.Process.{exit_status};
 ghost use Rattle.fast_cli.specs.Line.{line};
-ghost use Rattle.report_text.specs.FaultText.{status_number};
 ghost use Rattle.fast_jobs.specs.Call.{reading_of, writing_of};
 ghost use Rattle.fast_run.specs.Answer.{IsAnswer};
-ghost use Rattle.fast_run.specs.Program.{IsNoText, line_in, status_of_error};
+ghost use Rattle.fast_run.specs.Program.{IsNoText, exit_number, line_in, status_of_error};
 
-use crate::answer::fast_main;
+use crate::answer::{Answer, fast_main};
 use device_bus::{AnyDevice, Console, Finisher, SET_SIZE, SETS_LIMIT, Timer, sets_in_order};
 use fast_jobs::{Refusal, tell_want_of_memory};
 use fsim_ports::{Files, HostFiles, HostSink, QuietGate, Sink};
@@ -26,8 +25,8 @@ pub fn run_host<R: Threads + Wait + Sync>(rt: &HostRuntime, threads: &R) -> Exit
     let alloc = rt.alloc();
     let mut files = HostFiles::new(alloc, rt);
     let mut sink = HostSink::new(rt);
-    let status = answer_arguments(threads, alloc, arguments(rt), &mut files, &mut sink);
-    exit_code(&status)
+    let answer = answer_arguments(threads, alloc, arguments(rt), &mut files, &mut sink);
+    exit_code(&answer)
 }
 
 /// The arguments of the process, of which the first is the program's name.
@@ -43,10 +42,10 @@ fn collected(alloc: Global, arguments: env::Args) -> Result<Vec<String>, AllocEr
 }
 
 /// The exit status that tells an answer.
-fn exit_code(status: &Status) -> ExitCode
-    ensures number { exit_status result ≡ status_number status.now }
+fn exit_code(answer: &Answer) -> ExitCode
+    ensures number { exit_status result ≡ answer.now.number }
 {
-    ExitCode::from(status.number())
+    ExitCode::from(answer.number)
 }
 
 /// The answer to the arguments of the process, of which the first is the program's name. Where they
@@ -58,22 +57,23 @@ fn answer_arguments<R: Threads + Wait + Sync, F: Files, K: Sink>(
     arguments: io::Result<Vec<String>>,
     files: &mut F,
     sink: &mut K,
-) -> Status
+) -> Answer
     ensures told { F.told files.new ≡ F.told files.old }
     ensures files { F.faults files.old ≤ F.faults files.new }
     ensures sink { K.faults sink.old ≤ K.faults sink.new }
     ensures answer { IsAnswer (line_in arguments) 64
         (reading_of F.told F.faults files.old files.new)
-        (writing_of K.written K.faults sink.old sink.new) result }
-    ensures no_text { IsNoText arguments result }
+        (writing_of K.written K.faults sink.old sink.new) result.status }
+    ensures number { result.number ≡ exit_number (line_in arguments) result.status }
+    ensures no_text { IsNoText arguments result.status }
 {
     let arguments = match arguments {
         Ok(arguments) => arguments,
-        Err(error) => return refusal_of_error(&error).tell(sink),
+        Err(error) => return Answer::plain(refusal_of_error(&error).tell(sink)),
     };
     match answer_texts(rt, alloc, words_of(arguments.as_slice()), files, sink) {
-        Ok(status) => status,
-        Err(AllocError) => tell_want_of_memory(sink),
+        Ok(answer) => answer,
+        Err(AllocError) => Answer::plain(tell_want_of_memory(sink)),
     }
 }
 
@@ -102,13 +102,15 @@ pub fn answer_texts<R: Threads + Wait + Sync, F: Files, K: Sink>(
     texts: &[String],
     files: &mut F,
     sink: &mut K,
-) -> Result<Status, AllocError>
+) -> Result<Answer, AllocError>
     ensures told { F.told files.new ≡ F.told files.old }
     ensures files { F.faults files.old ≤ F.faults files.new }
     ensures sink { K.faults sink.old ≤ K.faults sink.new }
-    ensures answer { IfOk result (IsAnswer (line (map string_bytes texts.now)) 64
+    ensures answer { IfOk result (λ answer. IsAnswer (line (map string_bytes texts.now)) 64
         (reading_of F.told F.faults files.old files.new)
-        (writing_of K.written K.faults sink.old sink.new)) }
+        (writing_of K.written K.faults sink.old sink.new) answer.status) }
+    ensures number { IfOk result (λ answer.
+        answer.number ≡ exit_number (line (map string_bytes texts.now)) answer.status) }
     ensures untouched { OnErr result ((files.new ≡ files.old) × (sink.new ≡ sink.old)) }
 {
     let mut words = Vec::new(alloc);
@@ -126,13 +128,15 @@ fn answer_words<R: Threads + Wait + Sync, F: Files, K: Sink>(
     words: &[&str],
     files: &mut F,
     sink: &mut K,
-) -> Result<Status, AllocError>
+) -> Result<Answer, AllocError>
     ensures told { F.told files.new ≡ F.told files.old }
     ensures files { F.faults files.old ≤ F.faults files.new }
     ensures sink { K.faults sink.old ≤ K.faults sink.new }
-    ensures answer { IfOk result (IsAnswer (line (map (λ word. word.now) words.now)) 64
+    ensures answer { IfOk result (λ answer. IsAnswer (line (map (λ word. word.now) words.now)) 64
         (reading_of F.told F.faults files.old files.new)
-        (writing_of K.written K.faults sink.old sink.new)) }
+        (writing_of K.written K.faults sink.old sink.new) answer.status) }
+    ensures number { IfOk result (λ answer.
+        answer.number ≡ exit_number (line (map (λ word. word.now) words.now)) answer.status) }
     ensures untouched { OnErr result ((files.new ≡ files.old) × (sink.new ≡ sink.old)) }
 {
     let mut devices = Vec::new(alloc);

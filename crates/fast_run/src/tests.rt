@@ -82,8 +82,8 @@ fn answer<R: Threads + Wait + Sync + Abort>(
     sink: &mut MemorySink,
 ) -> Result<u8, Fail> {
     let texts = texts_of(alloc, line)?;
-    let status = answer_texts(rt, alloc, texts.as_slice(), files, sink)?;
-    Ok(status.number())
+    let answer = answer_texts(rt, alloc, texts.as_slice(), files, sink)?;
+    Ok(answer.number)
 }
 
 /// The same with these devices and this gate.
@@ -98,8 +98,8 @@ fn answer_with<R: Threads + Wait + Sync + Abort, G: Gate + Sync>(
 ) -> Result<u8, Fail> {
     let words = words_of(alloc, line)?;
     assert!(rt; sets_in_order(devices.as_slice()));
-    let status = fast_main(rt, alloc, words.as_slice(), files, sink, devices, gate);
-    Ok(status.number())
+    let answer = fast_main(rt, alloc, words.as_slice(), files, sink, devices, gate);
+    Ok(answer.number)
 }
 
 /// A set of devices with this console.

@@ -6,7 +6,7 @@ use std::str;
 use std::test::Fail;
 
 /// Programs by the names of their files, each by its words; most end in a pass by x6 and x7.
-const PROGRAMS: [(&str, &str); 20] = [
+const PROGRAMS: [(&str, &str); 22] = [
     // Four instructions, of which the last stores a pass.
     ("pass", "001002b7 00005337 55530313 0062a023"),
     // MULHSU, MUL, DIV and MULH at the ends of the range, and a branch over a word that is no
@@ -122,6 +122,9 @@ const PROGRAMS: [(&str, &str); 20] = [
     ),
     // The smallest program with another word for the finisher.
     ("fail", "001002b7 00073337 33330313 0062a023"),
+    // The same with the codes 65,535 and 256.
+    ("large_code", "001002b7 ffff3337 33330313 0062a023"),
+    ("byte_code", "001002b7 01003337 33330313 0062a023"),
     // A jump over a word, and behind it a byte for the console.
     (
         "jump",

@@ -619,6 +619,24 @@ const REPORTS: [(&str, u8, &str); 67] = [
     ),
 ];
 
+/// Lines with `--exit-code`, and the number that ends the process: the code of the program modulo
+/// 256, if it has one.
+const CODES: [(&str, u8); 10] = [
+    ("func pass --exit-code", 0),
+    ("func fail --exit-code", 7),
+    ("func --exit-code large_code", 255),
+    ("func byte_code --exit-code", 0),
+    ("func spin --exit-code --cycles 9", 2),
+    ("func five --exit-code --output 4", 3),
+    ("func none --exit-code", 13),
+    ("run fail eight --exit-code", 7),
+    (
+        "run large_code eight --exit-code --threads 1 --pipeline inorder",
+        255,
+    ),
+    ("inorder fail eight --exit-code", 7),
+];
+
 /// The same of the in-order machine.
 const IN_ORDER: [(&str, u8, &str); 7] = [
     (
@@ -747,6 +765,22 @@ fn reports_of_the_in_order_machine_are_those_worked_out(rt: HostRuntime) -> Resu
     let mut files = files_of_runs(alloc)?;
     for &(text, number, lines) in in_order() {
         check_report(&rt, alloc, text, &mut files, number, lines)?;
+    }
+    Ok(())
+}
+
+fn codes() -> &'static [(&'static str, u8)] {
+    &CODES
+}
+
+#[test]
+fn process_ends_with_the_code_where_it_is_asked_for(rt: HostRuntime) -> Result<(), Fail> {
+    let alloc = rt.alloc();
+    let mut files = files_of_runs(alloc)?;
+    for &(text, number) in codes() {
+        let mut sink = MemorySink::new(alloc, 4096)?;
+        let answered = answer(&rt, alloc, text, &mut files, &mut sink)?;
+        assert_eq!(rt; answered, number, "{text}");
     }
     Ok(())
 }

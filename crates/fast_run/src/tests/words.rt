@@ -9,7 +9,7 @@ const USAGE: &str = concat!(
     "back IMAGE SCRIPT, inorder IMAGE MACHINE PLAN, sweep IMAGE MACHINES\n",
 );
 
-const REFUSED: [&str; 42] = [
+const REFUSED: [&str; 45] = [
     "",
     "--help",
     "walk a",
@@ -44,6 +44,9 @@ const REFUSED: [&str; 42] = [
     "func a --ring 8",
     "func a --cycles 0",
     "func a --machine=",
+    "func a --exit-code=1",
+    "func a --exit-code --exit-code",
+    "back a s --exit-code",
     "run a m --machine m",
     "func a --cycles 5 --cycles 5",
     "func a --output 16777217",
@@ -99,8 +102,8 @@ fn no_words_are_answered_by_the_usage(rt: HostRuntime) -> Result<(), Fail> {
     let alloc = rt.alloc();
     let mut files = MemoryFiles::new(alloc);
     let mut sink = MemorySink::new(alloc, 4096)?;
-    let status = answer_texts(&rt, alloc, &[], &mut files, &mut sink)?;
-    assert_eq!(rt; (status.number(), sink.bytes()), (10, USAGE.as_bytes()));
+    let answer = answer_texts(&rt, alloc, &[], &mut files, &mut sink)?;
+    assert_eq!(rt; (answer.number, sink.bytes()), (10, USAGE.as_bytes()));
     Ok(())
 }
 

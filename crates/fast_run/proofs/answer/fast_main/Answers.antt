@@ -8,10 +8,10 @@ pub returns-clause-settled : goal.returns-clause-settled
 returns-clause-settled g c =
     answer-settled (line (map (λ word. word.now) c.args.words.now)) (vec_len c.args.devices / 3)
     (reading_of g.F.Files.told g.F.Files.faults c.args.files.now c.answer_or_usage.new.files)
-    (writing_of g.K.Sink.written g.K.Sink.faults c.args.sink.now c.answer_or_usage.new.sink) c.answer_or_usage.result c.answer_or_usage.ensures.answer
+    (writing_of g.K.Sink.written g.K.Sink.faults c.args.sink.now c.answer_or_usage.new.sink) c.answer_or_usage.result.status c.answer_or_usage.ensures.answer
 
 pub returns-clause-complete : goal.returns-clause-complete
 returns-clause-complete g c =
     answer-complete (line (map (λ word. word.now) c.args.words.now)) (vec_len c.args.devices / 3)
     (reading_of g.F.Files.told g.F.Files.faults c.args.files.now c.answer_or_usage.new.files)
-    (writing_of g.K.Sink.written g.K.Sink.faults c.args.sink.now c.answer_or_usage.new.sink) c.answer_or_usage.result c.answer_or_usage.ensures.answer
+    (writing_of g.K.Sink.written g.K.Sink.faults c.args.sink.now c.answer_or_usage.new.sink) c.answer_or_usage.result.status c.answer_or_usage.ensures.answer

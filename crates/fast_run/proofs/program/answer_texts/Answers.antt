@@ -1,12 +1,9 @@
-use Rattle.std.proofs.Common.{◌≡◌, ℕ, List, IfOk, map, string_bytes, ap, ◌∙◌, subst}
-use Rattle.std.proofs.lemmas.List.{take_all}
-use Rattle.std.specs.Prelude.{String}
-use Rattle.std.specs.Borrow.{Bor}
-use Rattle.std.specs.Global.{Global}
+use Rattle.std.proofs.Common.{◌≡◌, ℕ, List, IfOk, subst}
 use Rattle.fast_cli.specs.Line.{line}
 use Rattle.fast_run.specs.Answer.{IsAnswer}
 use Rattle.fast_jobs.specs.Call.{reading_of, writing_of}
-use Rattle.fast_run.proofs.Words.{words-next}
+use Rattle.fast_run.specs.Program.{exit_number}
+use Rattle.fast_run.proofs.Words.{words-all, words-next}
 use Rattle.fast_run.proofs.program.answer_texts.Goals as goal
 
 pub loop-text-preserved : goal.loop-text-preserved
@@ -17,11 +14,14 @@ loop-text-preserved g c = record {
 
 pub returns-clause-answer : goal.returns-clause-answer
 returns-clause-answer g c =
-    let texts = c.args.texts.now in
-    let words : map (λ word. word.now) c.as_slice.result.now ≡ map string_bytes texts =
-    ap (λ (ws : List (Bor (List ℕ))). map (λ word. word.now) ws) c.as_slice.ensures.value ∙ c.loop-text.invariant.words
-    ∙ ap (λ (ts : List (String Global)). map string_bytes ts) (take_all c.loop-text.text-index texts c.loop-text-test.false) in
-    let P : List (List ℕ) → Type 0 = λ ws. IfOk c.answer_words.result (IsAnswer (line ws) 64
+    let P : List (List ℕ) → Type 0 = λ ws. IfOk c.answer_words.result (λ answer. IsAnswer (line ws) 64
     (reading_of g.F.Files.told g.F.Files.faults c.args.files.now c.answer_words.new.files)
-    (writing_of g.K.Sink.written g.K.Sink.faults c.args.sink.now c.answer_words.new.sink)) in
-    subst P words c.answer_words.ensures.answer
+    (writing_of g.K.Sink.written g.K.Sink.faults c.args.sink.now c.answer_words.new.sink) answer.status) in
+    subst P (words-all c.args.texts.now c.loop-text.words.items c.as_slice.result.now c.loop-text.text-index c.loop-text-test.false c.as_slice.ensures.value c.loop-text.invariant.words)
+    c.answer_words.ensures.answer
+
+pub returns-clause-number : goal.returns-clause-number
+returns-clause-number g c =
+    let P : List (List ℕ) → Type 0 = λ ws. IfOk c.answer_words.result (λ answer. answer.number ≡ exit_number (line ws) answer.status) in
+    subst P (words-all c.args.texts.now c.loop-text.words.items c.as_slice.result.now c.loop-text.text-index c.loop-text-test.false c.as_slice.ensures.value c.loop-text.invariant.words)
+    c.answer_words.ensures.number
