@@ -35,20 +35,28 @@ bool is_among(const std::string& command, std::initializer_list<const char*> com
 }
 
 bool has_plan(const Line& line) {
-    return is_among(line.command, {"sched", "inorder"});
+    return is_among(line.command, {"sched", "inorder"}) && line.names.size() == 3;
 }
 
-bool has_machine(const Line& line) {
-    return has_plan(line) ||
-           is_among(line.command, {"run", "splitrun", "trace", "stack", "profile"});
+bool has_pipeline(const Line& line) {
+    return is_among(line.command,
+                    {"run", "sched", "inorder", "splitrun", "trace", "stack", "profile"});
+}
+
+// The names of the machine files, in their order.
+std::vector<std::string> machines_of(const Line& line) {
+    const std::vector<std::string>& names = line.names;
+    if (line.command == "sweep") return {names.begin() + 1, names.end()};
+    if (has_pipeline(line)) return {names[1]};
+    if (line.machine) return {*line.machine};
+    return {};
 }
 
 Files read_files(const Line& line) {
     Files files;
     files.image = read_file(line.names[0], "image", image_limit);
-    size_t machines = line.command == "sweep" ? line.names.size() - 1 : has_machine(line) ? 1 : 0;
-    for (size_t k = 1; k <= machines; k++)
-        files.machines.push_back(read_file(line.names[k], "machine", machine_limit));
+    for (const std::string& name : machines_of(line))
+        files.machines.push_back(read_file(name, "machine", machine_limit));
     if (has_plan(line)) files.plan = read_file(line.names[2], "plan", plan_limit);
     if (line.command == "back") files.script = read_file(line.names[1], "script", script_limit);
     if (line.input) files.input = read_file(*line.input, "input", input_limit);
@@ -70,6 +78,14 @@ Setup setup_of(const Line& line, const std::string& input) {
     return setup;
 }
 
+// Of a machine file a run without a pipeline takes the place of RAM alone.
+Parameters placed(const Parameters& parameters) {
+    Parameters plain;
+    plain.ram_base = parameters.ram_base;
+    plain.ram_size = parameters.ram_size;
+    return plain;
+}
+
 void read_image_into(Setup& setup, const std::string& bytes) {
     setup.image = read_image(bytes, setup.parameters.ram_base, setup.parameters.ram_size);
 }
@@ -87,8 +103,15 @@ std::string dump_text(const Line& line, const Memory& memory) {
     return text + "\n";
 }
 
+// The number that ends the process: of a code it can tell eight bits.
+// Definition: crates/fast_run/specs/Program.antt (exit_number).
+int exit_number(const Line& line, const Ending& ending) {
+    bool is_code = line.ends_with_code && ending.end == End::Fail;
+    return is_code ? ending.code % 256 : ending.exit_status();
+}
+
 Answer run_answer(const Line& line, const Final& final, const State& state, const Memory& memory) {
-    return {final.ending.exit_status(), run_text(final, state) + dump_text(line, memory)};
+    return {exit_number(line, final.ending), run_text(final, state) + dump_text(line, memory)};
 }
 
 template <class Machine>
@@ -109,7 +132,7 @@ Answer func(const Line& line, const Setup& setup) {
     return run_answer(line, final, state, memory);
 }
 
-Answer run(const Line& line, const Setup& setup) {
+Answer run_with_window(const Line& line, const Setup& setup) {
     Monolithic machine(setup);
     machine.skips_idle_cycles = !line.walks_idle_cycles;
     machine.tells_commits = line.tells_commits;
@@ -121,7 +144,7 @@ Answer soak(const Line& line) {
     Setup setup;
     setup.parameters = read_machine(soak_machine);
     setup.image = soak_image(line.seed, soak_blocks);
-    return run(line, setup);
+    return run_with_window(line, setup);
 }
 
 // The plan leads to a boundary; the machine that isn't split has to be there too.
@@ -141,7 +164,7 @@ Answer sched(const Line& line, const Setup& setup, const std::string& plan) {
     return run_answer(line, split.final(), split.functional.state, split.functional.memory);
 }
 
-Answer inorder(const Line& line, const Setup& setup, const std::string& plan) {
+Answer run_in_order(const Line& line, const Setup& setup, const std::string& plan) {
     InOrder machine(setup);
     machine.tells_commits = line.tells_commits;
     machine.run();
@@ -153,6 +176,11 @@ Answer inorder(const Line& line, const Setup& setup, const std::string& plan) {
         compare_settled(split, machine);
     }
     return machine_answer(line, machine);
+}
+
+Answer run(const Line& line, const Setup& setup) {
+    return line.is_in_order ? run_in_order(line, in_order_setup(setup), "")
+                            : run_with_window(line, setup);
 }
 
 // The split machine to its end, by rounds or by random events.
@@ -170,14 +198,18 @@ Answer splitrun(const Line& line, const Setup& setup) {
     return run_answer(line, split.final(), split.functional.state, split.functional.memory);
 }
 
-std::string sweep_line(const Setup& setup) {
-    Monolithic machine(setup);
+template <class Machine>
+std::string line_of(Machine machine) {
     machine.run();
     return machine.ending.text() +
            formatted(" cycles %" PRIu64 " instructions %" PRIu64 " mispredicted %" PRIu64
                      " icache %" PRIu64 " dcache %" PRIu64 "\n",
                      machine.cycle, machine.state.csrs.retired, machine.counts.mispredicted,
                      machine.caches.counts.icache_misses, machine.caches.counts.dcache_misses);
+}
+
+std::string sweep_line(const Line& line, const Setup& setup) {
+    return line.is_in_order ? line_of(InOrder(in_order_setup(setup))) : line_of(Monolithic(setup));
 }
 
 // A fault of a machine file, or of the image for its RAM, is told in the machine's line.
@@ -188,7 +220,7 @@ Answer sweep(const Line& line, Setup setup, const Files& files) {
         try {
             setup.parameters = read_machine(files.machines[k]);
             read_image_into(setup, files.image);
-            text += sweep_line(setup);
+            text += sweep_line(line, setup);
         } catch (MachineFault& fault) {
             text += "machine: " + fault.text + "\n";
         } catch (ImageFault& fault) {
@@ -235,8 +267,9 @@ Answer answer_line(const Line& line) {
     Setup setup = setup_of(line, files.input);
     if (command == "sweep") return sweep(line, setup, files);
     try {
-        if (has_machine(line)) setup.parameters = read_machine(files.machines[0]);
+        if (!files.machines.empty()) setup.parameters = read_machine(files.machines[0]);
         read_image_into(setup, files.image);
+        if (!has_pipeline(line)) setup.parameters = placed(setup.parameters);
     } catch (MachineFault& fault) {
         throw Refusal{status::machine, "machine: " + fault.text};
     } catch (ImageFault& fault) {
@@ -246,7 +279,7 @@ Answer answer_line(const Line& line) {
     if (command == "func") return func(line, setup);
     if (command == "run") return run(line, setup);
     if (command == "sched") return sched(line, setup, files.plan);
-    if (command == "inorder") return inorder(line, in_order_setup(setup), files.plan);
+    if (command == "inorder") return run_in_order(line, in_order_setup(setup), files.plan);
     if (command == "splitrun") return splitrun(line, setup);
     if (command == "back") return back(line, setup, files.script);
     if (command == "gdb") return gdb(line, setup);

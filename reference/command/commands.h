@@ -1,5 +1,6 @@
 // What each command does. Definitions: crates/fast_jobs/specs/Files.antt, Stages.antt, Job.antt,
-// Outcome.antt; crates/report_text/specs/SweepText.antt; crates/fast_jobs/specs/Plan.antt.
+// Outcome.antt, Plan.antt, SweepFiles.antt; crates/report_text/specs/SweepText.antt;
+// crates/fast_run/specs/Program.antt.
 #pragma once
 
 #include "command/answer.h"

@@ -10,21 +10,22 @@ const char* const usage =
 
 namespace {
 
-// A command's form: how many names it takes, and which options.
+// A command's form: how many names it takes, which options, and which flags, which have no value.
 struct Form {
     const char* command;
     size_t fewest, most;
-    std::vector<std::string> options;
+    Words options;
+    Words flags = {};
 };
 
 const Form forms[] = {
-    {"func", 1, 1, {"cycles", "input", "output"}},
-    {"run", 2, 2, {"threads", "ring", "cycles", "input", "output"}},
+    {"func", 1, 1, {"machine", "cycles", "input", "output"}, {"exit-code"}},
+    {"run", 2, 2, {"pipeline", "threads", "ring", "cycles", "input", "output"}, {"exit-code"}},
     {"sched", 3, 3, {"ring", "cycles", "input", "output"}},
     {"soak", 1, 1, {}},
-    {"back", 2, 2, {"history", "cycles", "input", "output"}},
-    {"inorder", 3, 3, {"ring", "cycles", "input", "output"}},
-    {"sweep", 2, 65, {"ring", "cycles", "input", "output"}},
+    {"back", 2, 2, {"machine", "history", "cycles", "input", "output"}},
+    {"inorder", 2, 3, {"ring", "cycles", "input", "output"}, {"exit-code"}},
+    {"sweep", 2, 65, {"pipeline", "ring", "cycles", "input", "output"}},
     // Defined, but no words of `fast` yet: crates/insight_model and crates/gdb_model.
     {"trace", 2, 2, {"from", "to", "pipeline", "cycles", "input", "output"}},
     {"stack", 2, 2, {"pipeline", "cycles", "input", "output"}},
@@ -41,11 +42,18 @@ bool is_option_word(const std::string& word) {
     return word.size() > 1 && word[0] == '-';
 }
 
+bool is_among(const Words& words, const std::string& word) {
+    return std::find(words.begin(), words.end(), word) != words.end();
+}
+
+bool set_name(const std::string& name, std::optional<std::string>& place) {
+    place = name;
+    return !name.empty();
+}
+
 bool set_option(const std::string& option, const std::string& value, Line& line) {
-    if (option == "input") {
-        line.input = value;
-        return !value.empty();
-    }
+    if (option == "input") return set_name(value, line.input);
+    if (option == "machine") return set_name(value, line.machine);
     if (option == "pipeline") {
         line.is_in_order = value == "inorder";
         return value == "window" || value == "inorder";
@@ -62,18 +70,24 @@ bool set_option(const std::string& option, const std::string& value, Line& line)
     return read_number(value, 1, 1048576, line.history);
 }
 
-// Reads the option at a place, with its value in the same word or the next one.
+// The one flag that there is takes no value.
+bool set_flag(bool has_value, Line& line) {
+    line.ends_with_code = true;
+    return !has_value;
+}
+
+// Reads the flag at a place, or the option with its value in the same word or the next one.
 bool read_option(const Words& words, size_t& place, const Form& form, Words& seen, Line& line) {
     const std::string& word = words[place];
     if (word.compare(0, 2, "--") != 0) return false;
     size_t equals = word.find('=');
-    std::string option = word.substr(2, equals == std::string::npos ? equals : equals - 2);
-    auto is_among = [&](const Words& list) {
-        return std::find(list.begin(), list.end(), option) != list.end();
-    };
-    if (!is_among(form.options) || is_among(seen)) return false;
+    bool has_value = equals != std::string::npos;
+    std::string option = word.substr(2, has_value ? equals - 2 : equals);
+    if (is_among(seen, option)) return false;
     seen.push_back(option);
-    if (equals != std::string::npos) return set_option(option, word.substr(equals + 1), line);
+    if (is_among(form.flags, option)) return set_flag(has_value, line);
+    if (!is_among(form.options, option)) return false;
+    if (has_value) return set_option(option, word.substr(equals + 1), line);
     if (++place == words.size() || is_option_word(words[place])) return false;
     return set_option(option, words[place], line);
 }

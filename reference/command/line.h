@@ -14,9 +14,11 @@ struct Line {
     uint64_t threads = 2, ring = 64, cycles = 10000000, output = 16777216, history = 65536;
     uint64_t seed = 0;
     std::optional<std::string> input;
+    std::optional<std::string> machine;  // the option --machine
     uint64_t from = 0;
     std::optional<uint64_t> to;
-    bool is_in_order = false;  // the option --pipeline
+    bool is_in_order = false;     // the option --pipeline
+    bool ends_with_code = false;  // the flag --exit-code
 
     // Words that only this program takes.
     bool checks = false, tells_commits = false, tells_orders = false, walks_idle_cycles = false;

@@ -12,7 +12,7 @@
 enum class Place : uint8_t { Decode, Execute, Memory, Write };
 
 // The setup under which it runs: its window has a record for each stage behind Fetch.
-// Definition: crates/fast_jobs/specs/Job.antt (inorder_setup).
+// Definition: crates/fast_jobs/specs/Stages.antt (inorder_setup).
 inline Setup in_order_setup(Setup setup) {
     setup.parameters.core_window = 4;
     return setup;

@@ -18,6 +18,7 @@ SHORT = ["--cycles", "200"]
 SEEDS_PER_SOAK = 40
 SEEDS_PER_RUN_IN_THREADS = 4
 PACKETS = 150
+PLANS = ["plan", "badplan"]
 MOST_SHORT_CYCLES = 3000
 
 
@@ -52,6 +53,8 @@ class CaseDraw:
         self._pipeline = draws.choice(
             [[], [], ["--pipeline", "window"], ["--pipeline", "inorder"], ["--pipeline=inorder"]]
         )
+        self._place = draws.choice([[], [], ["--machine", "m.toml"], ["--machine=m2.toml"]])
+        self._code = draws.choice([[], ["--exit-code"]])
 
     def draw(self, kinds: list[str]) -> Case:
         """The case with the calls of some kinds."""
@@ -71,30 +74,34 @@ class CaseDraw:
 
     def _words(self, kind: str) -> list[list[str]]:
         """The words of each call of a kind."""
-        options, ring = self._options, self._ring
+        options, ring, code = self._options, self._ring, self._code
         machine = ["p.elf", "m.toml"]
         match kind:
-            case "func" | "count":
+            case "func":
+                return [[kind, "p.elf", *self._place, *code, *options]]
+            case "count":
                 return [[kind, "p.elf", *options]]
             case "run":
-                one = [kind, *machine, *ring, *options, "--threads", "1"]
-                two = [kind, *machine, *ring, *self._short_options()]
-                return [one, two] if self._seed % SEEDS_PER_RUN_IN_THREADS == 0 else [one]
-            case "sched" | "inorder":
-                plans = ["plan", "badplan"]
-                return [[kind, *machine, plan, *ring, *options] for plan in plans]
+                return self._runs(machine)
+            case "sched":
+                return [[kind, *machine, plan, *ring, *options] for plan in PLANS]
+            case "inorder":
+                plans = [[], *([plan] for plan in PLANS)]
+                return [[kind, *machine, *plan, *ring, *options, *code] for plan in plans]
             case "back":
-                return [[kind, "p.elf", "script", *self._history, *options]]
+                return [[kind, "p.elf", "script", *self._place, *self._history, *options]]
             case "gdb":
                 return [[kind, "p.elf", *self._history, *options]]
             case "sweep":
-                whole = [kind, "p.elf", "m.toml", "bad.toml", "m2.toml", *options]
+                machines = ["m.toml", "bad.toml", "m2.toml"]
+                whole = [kind, "p.elf", *machines, *self._pipeline, *options]
                 return [whole, [kind, "bad.elf", "m.toml", "bad.toml", *options]]
             case "image":
                 run = ["run", "bad.elf", "m.toml", "--threads", "1", *SHORT]
-                return [["func", "bad.elf", *SHORT], run]
+                return [["func", "bad.elf", *self._place, *SHORT], run]
             case "machine":
-                return [["run", "p.elf", "bad.toml", "--threads", "1", *SHORT]]
+                placed = ["p.elf", "script", "--machine", "bad.toml", *SHORT]
+                return [["run", "p.elf", "bad.toml", "--threads", "1", *SHORT], ["back", *placed]]
             case "words":
                 draws = self._draws("words")
                 return [draw_words(draws) for _ in range(4)]
@@ -106,6 +113,16 @@ class CaseDraw:
             case "stack" | "profile":
                 return [[kind, *machine, *self._pipeline, *options]]
         raise ValueError(kind)
+
+    def _runs(self, machine: list[str]) -> list[list[str]]:
+        """Runs under a machine file: on one thread, now and then on two, and on either pipeline."""
+        ring, code, short = self._ring, self._code, self._short_options()
+        runs = [["run", *machine, *ring, *self._options, "--threads", "1", *code]]
+        if self._seed % SEEDS_PER_RUN_IN_THREADS == 0:
+            runs += [["run", *machine, *ring, *short]]
+        if self._pipeline:
+            runs += [["run", *code, *machine, *self._pipeline, *ring, "--threads=1", *short]]
+        return runs
 
     def _calls_again(self) -> list[Call]:
         """Pairs of words that the reference has to answer alike; some make it test itself.

@@ -2,14 +2,15 @@
 
 from .draws import Draws
 
-FORMS = {
-    "func": ["p.elf"],
-    "run": ["p.elf", "m.toml"],
-    "sched": ["p.elf", "m.toml", "plan"],
-    "inorder": ["p.elf", "m.toml", "plan"],
-    "back": ["p.elf", "script"],
-    "sweep": ["p.elf", "m.toml"],
-}
+FORMS = [
+    ["func", "p.elf"],
+    ["run", "p.elf", "m.toml"],
+    ["sched", "p.elf", "m.toml", "plan"],
+    ["inorder", "p.elf", "m.toml"],
+    ["inorder", "p.elf", "m.toml", "plan"],
+    ["back", "p.elf", "script"],
+    ["sweep", "p.elf", "m.toml"],
+]
 NO_COMMANDS = ["", "--help", "Func", "-", "--", "help", "-h"]
 POOL = [
     *("p.elf", "m.toml", "m2.toml", "plan", "input", "script", "nothere", ".", "-", "--", ""),
@@ -20,11 +21,16 @@ POOL = [
     *("--threads=3", "--input=", "--input=input", "--input=-", "--history=2", "--history=1048577"),
     *("8", "08", "+8", "-8", "00000000000000000008", "000000000000000000008", "1099511627776"),
     *("1099511627777", "18446744073709551615", "18446744073709551616", "--help", "-h", "--version"),
+    *("--pipeline", "--pipeline=window", "--pipeline=inorder", "--pipeline=Window", "--pipeline="),
+    *("--machine", "--machine=m2.toml", "--machine=nothere", "--machine=", "--exit-code"),
+    *("--exit-code", "--exit-code", "--exit-code=", "--exit-code=1", "--exit"),
 ]
 PAIRS = [
     *(["--cycles", "100"], ["--output", "3"], ["--input", "input"], ["--ring", "4"]),
     *(["--history", "9"], ["--cycles", "-"], ["--input", "--"], ["--input", "-x"]),
-    *(["--threads", "1"], ["--threads", "0"]),
+    *(["--threads", "1"], ["--threads", "0"], ["--pipeline", "inorder"], ["--pipeline", "lane"]),
+    *(["--machine", "m2.toml"], ["--machine", "bad.toml"], ["--machine", "--"]),
+    *(["--exit-code", "--exit-code"], ["--exit-code", "1"]),
 ]
 SEEDS = ["-1", "+1", "", "--", "x", "18446744073709551616", "000000000000000000001", "--ring"]
 
@@ -35,8 +41,7 @@ def draw_words(draws: Draws) -> list[str]:
         # (A whole soak would take its time, so there is a word too many.)
         more = draws.choice([["1", "2"], ["1", "2"], ["3", "--", "x"]])
         return ["soak", draws.choice(SEEDS), *more]
-    command = draws.choice(list(FORMS))
-    words = list(FORMS[command])
+    command, *words = draws.choice(FORMS)
     for _ in range(draws.randrange(3)):
         words.insert(draws.randrange(len(words) + 1), draws.choice(POOL))
     if draws.chance(0.3):

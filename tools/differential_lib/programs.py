@@ -132,8 +132,8 @@ class ProgramDraw:
         if draws.chance(0.85):
             self._words += PASS
         elif draws.chance(0.5):
-            code = draws.getrandbits(16) << 16 | 0x3333
-            finisher = [*asm.constant(6, FINISHER), *asm.constant(7, code)]
+            code = draws.weighted([(1, 0), (1, 256), (6, draws.getrandbits(16))])
+            finisher = [*asm.constant(6, FINISHER), *asm.constant(7, code << 16 | 0x3333)]
             self._words += [*finisher, asm.store(asm.WORD, 7, 6, 0)]
 
     # ---- pieces

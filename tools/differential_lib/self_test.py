@@ -15,6 +15,7 @@ from .kinds import ALL_KINDS, KINDS, usual_kinds
 from .simulators import find_reference
 
 SECONDS = 120
+OPTIONED = ["func", "run", "inorder", "back", "sweep"]
 
 # Programs that answer as the reference does, but for some words.
 PASSING = ""
@@ -74,6 +75,9 @@ class SelfTest:
             self.expect(f"cases: {kind} alone", draw_case(7, [kind]).calls, own)
         soaks = [seed for seed in range(80) if draw_case(seed, ["soak"]).calls]
         self.expect("cases: soaks", soaks, [0, 40])
+        drawn = [call.words for seed in range(20) for call in draw_case(seed, OPTIONED).calls]
+        for option in ("--machine", "--pipeline", "--exit-code"):
+            self.expect(f"cases: {option}", any(option in words for words in drawn), True)
 
     def check_same(self) -> None:
         """A program that answers alike has no differences, in all kinds."""
