@@ -112,6 +112,8 @@ BEGIN {
     if (!count) said = "no command was given"
     else if (!(used in counts)) said = "\"" used "\" is no command" ask(used, counts)
     else { said = fault_of(count); help = " help " used }
+    # A program that fails may have the code that refused words have.
+    if (!said && "--exit-code" in given) exit
     printf "fast: %s\"%s%s\" says more\n", said ? said (said ~ /\?$/ ? " " : "; ") : "", ENVIRON["called"],
         help ? help : " --help"
     exit
