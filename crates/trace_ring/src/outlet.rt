@@ -164,8 +164,8 @@ impl<T: Copy, L: Law<T>> Outlet<T, L> {
     }
 }
 
-/// Puts the values that wait into the queue, as one group. It has room for as many groups as values may be under way, and each
-/// has at least one: so it takes the group at the first try.
+/// Puts the values that wait into the queue, as one group. It has room for as many groups as values
+/// may be under way, and each has at least one: so it takes the group at the first try.
 fn send<T: Copy, L: Law<T>, R: Wait>(
     rt: &R,
     line: &Line<T, L>,
