@@ -1,2 +1,3 @@
+pub mod Lookahead
 pub mod Workers
 pub mod Session

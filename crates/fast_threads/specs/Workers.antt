@@ -14,16 +14,19 @@ use Rattle.time_model.specs.Standing.{is_told_out}
 use Rattle.trace_ring.specs.Ring.{IsNamed, Follows}
 use Rattle.trace_ring.specs.Orders.{IsInPlace}
 use Rattle.trace_ring.specs.Ends.{FuncAt, TimeAt}
+use Rattle.fast_threads.specs.declared.lookahead.Lookahead.{Lookahead}
 
--- what callers see of the functional side at work: its run, the side, and the entry that was
--- computed and not pushed yet
+-- what callers see of the functional side at work: its run, the side, the entry that was computed
+-- and not pushed yet, and how far it may run ahead
 pub record FuncWork (D : Type 0) : Type 0 where
   pub setup : Setup
   pub side : Walk D
   pub computed : Option Entry
+  pub lookahead : Lookahead
 
-abbrev pub func_work : {D : Type 0} → Setup → Walk D → Option Entry → FuncWork D
-func_work setup side computed = record { setup = setup; side = side; computed = computed }
+abbrev pub func_work : {D : Type 0} → Setup → Walk D → Option Entry → Lookahead → FuncWork D
+func_work setup side computed lookahead =
+    record { setup = setup; side = side; computed = computed; lookahead = lookahead }
 
 -- and of the timing side: its run, the side, the order that was told and not pushed yet, and
 -- whether it was told that the run is over

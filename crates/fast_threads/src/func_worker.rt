@@ -1,4 +1,4 @@
-ghost use Rattle.std.specs.Prelude.{◌≡◌, true, None, IsSome, map, IfOk};
+ghost use Rattle.std.specs.Prelude.{◌≡◌, ◌≤◌, ◌+◌, true, None, IsSome, map, IfOk};
 
 use crate::foresight::Foresight;
 use crate::lookahead::Lookahead;
@@ -35,7 +35,8 @@ impl<D: Device> Model for FuncWorker<D> {
     ghost Value = { FuncWork D };
 
     ghost view = { λ worker.
-        func_work worker.end.setup worker.side (entry_if worker.is_computed worker.entry) };
+        func_work worker.end.setup worker.side (entry_if worker.is_computed worker.entry)
+        worker.lookahead };
 
     ghost invariant = { λ worker.
         IsFuncAt worker.end worker.side (entry_if worker.is_computed worker.entry) };
@@ -47,6 +48,8 @@ impl<D: Device> FuncWorker<D> {
     ghost use Rattle.trace_ring.specs.Ends.{func_start};
     ghost use Rattle.func_model.specs.Side.{arch_in};
     ghost use Rattle.func_model.specs.Contents.{output_in};
+    ghost use Rattle.func_model.specs.Walk.{IsAtRest};
+    ghost use Rattle.fast_threads.specs.Lookahead.{IsWide};
     ghost use Rattle.fast_threads.specs.Session.{HoldsEnd};
 
     /// The functional side at the start of a run, with its end of the queues. All memory of the
@@ -120,7 +123,7 @@ impl<D: Device> FuncWorker<D> {
     /// What is done in a turn in which no entry may be made. An order that is foreseen is waited
     /// for as long as the timing side has entries left, since it may come behind the last of them.
     fn hold_back(&mut self)
-        ensures same { self.new ≡ self.old }
+        ensures same { self.new ≡ record self.old { lookahead = self.new.lookahead } }
     {
         let is_over = self.lookahead.note_idle();
         if is_over && !self.end.is_drained() {
@@ -137,18 +140,23 @@ impl<D: Device> FuncWorker<D> {
 
     /// The timing side has nothing left to do: whatever is waited for comes after more entries.
     pub fn go_on(&mut self)
-        ensures same { self.new ≡ self.old }
+        ensures same { self.new ≡ record self.old { lookahead = self.new.lookahead } }
+        ensures on { self.new.lookahead.patience ≡ 0 }
     {
         self.lookahead.go_on();
     }
 
     /// Computes the next entry, if the side may run ahead and isn't at rest. Where it may not run
-    /// ahead, there is nothing else to do.
+    /// ahead, there is nothing else to do. It may where the allowance is the greatest and no more
+    /// is under way than the greatest window holds: so the timing side gets what it waits for.
     fn compute(&mut self)
         requires none { self.old.computed ≡ None }
         ensures setup { self.new.setup ≡ self.old.setup }
+        ensures made { IsWide self.old.lookahead
+            → self.old.side.position ≤ self.old.side.committed + 256
+            → (IsAtRest self.old.side → ⊥) → IsSome self.new.computed }
     {
-        if !self.lookahead.may_run_ahead() {
+        if !self.lookahead.may_run_ahead(self.side.steps_back()) {
             self.hold_back();
             return;
         }

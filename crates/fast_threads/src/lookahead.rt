@@ -1,4 +1,4 @@
-ghost use Rattle.std.specs.Prelude.{◌≡◌, ◌≤◌, ◌<◌, ◌+◌, ◌-◌, ◌*◌, true};
+ghost use Rattle.std.specs.Prelude.{◌≡◌, ◌≤◌, ◌<◌, ◌+◌, ◌-◌, ◌*◌, min, true};
 
 /// How many entries may be under way behind an order that opens an epoch, before it is known that
 /// the timing side needs more.
@@ -31,6 +31,8 @@ pub struct Lookahead {
 }
 
 impl Lookahead {
+    ghost use Rattle.fast_threads.specs.Lookahead.{IsWide};
+
     /// Behind an order that opens an epoch, and at the start of a run.
     pub fn new() -> Lookahead {
         Lookahead {
@@ -40,12 +42,12 @@ impl Lookahead {
         }
     }
 
-    /// Whether one more entry may be made now.
-    pub fn may_run_ahead(&self) -> bool
-        ensures room { self.now.patience ≡ 0 → self.now.allowed ≡ 512 → self.now.ahead ≤ 256
-            → result ≡ true }
+    /// Whether one more entry may be made now, where so many instructions are under way: made, and
+    /// not known to be committed. No more than these count as ahead, whatever was noted.
+    pub fn may_run_ahead(&self, under_way: u32) -> bool
+        ensures room { IsWide self.now → min self.now.ahead under_way ≤ 256 → result ≡ true }
     {
-        self.patience == 0 && self.ahead < self.allowed
+        self.patience == 0 && self.ahead.min(u64::from(under_way)) < self.allowed
     }
 
     /// One more entry was made. Where the timing side will probably depart behind it, its order is
