@@ -1,4 +1,4 @@
-ghost use Rattle.std.specs.Prelude.{◌≡◌, ◌≤◌, ◌+◌, true, None, IsSome, map, IfOk};
+ghost use Rattle.std.specs.Prelude.{◌≡◌, ◌≤◌, ◌<◌, ◌+◌, ◌-◌, true, None, IsSome, map, IfOk};
 
 use crate::foresight::Foresight;
 use crate::lookahead::Lookahead;
@@ -49,7 +49,7 @@ impl<D: Device> FuncWorker<D> {
     ghost use Rattle.func_model.specs.Side.{arch_in};
     ghost use Rattle.func_model.specs.Contents.{output_in};
     ghost use Rattle.func_model.specs.Walk.{IsAtRest};
-    ghost use Rattle.fast_threads.specs.Lookahead.{IsWide};
+    ghost use Rattle.fast_threads.specs.Lookahead.{IsWide, IsWidened};
     ghost use Rattle.fast_threads.specs.Session.{HoldsEnd};
 
     /// The functional side at the start of a run, with its end of the queues. All memory of the
@@ -124,6 +124,10 @@ impl<D: Device> FuncWorker<D> {
     /// for as long as the timing side has entries left, since it may come behind the last of them.
     fn hold_back(&mut self)
         ensures same { self.new ≡ record self.old { lookahead = self.new.lookahead } }
+        ensures waits { 1 < self.old.lookahead.patience
+            → self.new.lookahead.patience ≡ self.old.lookahead.patience - 1 }
+        ensures wider { self.old.lookahead.patience ≡ 0
+            → IsWidened self.old.lookahead.allowed self.new.lookahead.allowed }
     {
         let is_over = self.lookahead.note_idle();
         if is_over && !self.end.is_drained() {
@@ -141,7 +145,8 @@ impl<D: Device> FuncWorker<D> {
     /// The timing side has nothing left to do: whatever is waited for comes after more entries.
     pub fn go_on(&mut self)
         ensures same { self.new ≡ record self.old { lookahead = self.new.lookahead } }
-        ensures on { self.new.lookahead.patience ≡ 0 }
+        ensures patience { self.new.lookahead.patience ≡ 0 }
+        ensures wider { IsWidened self.old.lookahead.allowed self.new.lookahead.allowed }
     {
         self.lookahead.go_on();
     }

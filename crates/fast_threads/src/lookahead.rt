@@ -1,4 +1,4 @@
-ghost use Rattle.std.specs.Prelude.{◌≡◌, ◌≤◌, ◌<◌, ◌+◌, ◌-◌, ◌*◌, min, true};
+ghost use Rattle.std.specs.Prelude.{◌≡◌, ◌≤◌, ◌<◌, ◌+◌, ◌-◌, min, true};
 
 /// How many entries may be under way behind an order that opens an epoch, before it is known that
 /// the timing side needs more.
@@ -31,10 +31,12 @@ pub struct Lookahead {
 }
 
 impl Lookahead {
-    ghost use Rattle.fast_threads.specs.Lookahead.{IsWide};
+    ghost use Rattle.fast_threads.specs.Lookahead.{IsWide, IsWidened};
 
     /// Behind an order that opens an epoch, and at the start of a run.
-    pub fn new() -> Lookahead {
+    pub fn new() -> Lookahead
+        ensures some { 0 < result.allowed }
+    {
         Lookahead {
             ahead: 0,
             allowed: FIRST,
@@ -65,6 +67,7 @@ impl Lookahead {
     /// So many instructions were committed: the entries are of use.
     pub fn note_commit(&mut self, count: u64)
         ensures ahead { self.new.ahead ≡ self.old.ahead - count }
+        ensures wider { IsWidened self.old.allowed self.new.allowed }
     {
         self.ahead = self.ahead.saturating_sub(count);
         self.widen();
@@ -75,6 +78,8 @@ impl Lookahead {
     pub fn note_idle(&mut self) -> bool
         ensures ahead { self.new.ahead ≡ self.old.ahead }
         ensures patience { self.new.patience ≡ self.old.patience - 1 }
+        ensures wider { self.old.patience ≡ 0 → IsWidened self.old.allowed self.new.allowed }
+        ensures over { result ≡ true → self.new.patience ≡ 0 }
     {
         if self.patience == 0 {
             self.widen();
@@ -97,6 +102,7 @@ impl Lookahead {
     pub fn go_on(&mut self)
         ensures ahead { self.new.ahead ≡ self.old.ahead }
         ensures patience { self.new.patience ≡ 0 }
+        ensures wider { IsWidened self.old.allowed self.new.allowed }
     {
         self.patience = 0;
         self.widen();
@@ -105,10 +111,7 @@ impl Lookahead {
     fn widen(&mut self)
         ensures ahead { self.new.ahead ≡ self.old.ahead }
         ensures patience { self.new.patience ≡ self.old.patience }
-        ensures doubles { self.old.allowed < 64 → self.new.allowed ≡ self.old.allowed * 2 }
-        ensures grows { 64 ≤ self.old.allowed → self.old.allowed < 512
-            → self.new.allowed ≡ self.old.allowed + 1 }
-        ensures most { 512 ≤ self.old.allowed → self.new.allowed ≡ 512 }
+        ensures wider { IsWidened self.old.allowed self.new.allowed }
     {
         let allowed = if self.allowed < KNEE {
             self.allowed * 2
