@@ -1,5 +1,5 @@
 -- The functional side at its end of the queues: each of its turns keeps what it stands for.
-use Rattle.std.proofs.Common.{◌≡◌, ℕ, ◌+◌, ◌≤◌, ◌<◌, ◌↔◌, Bool, true, false, if◌then◌else◌, Option, Some, None, IfSome, OnSome, IfNone, IsNone, List, [], ◌∷◌, length, refl, ap, sym, ◌∙◌, subst, arith, inl, inr}
+use Rattle.std.proofs.Common.{◌≡◌, ℕ, ◌+◌, ◌≤◌, ◌<◌, ◌↔◌, Bool, true, false, if◌then◌else◌, Option, Some, None, IfSome, OnSome, IfNone, IsNone, List, [], ◌∷◌, ◌++◌, length, refl, ap, sym, ◌∙◌, subst, arith, inl, inr}
 use Rattle.rollback_cmds.specs.declared.order.Order.{Order}
 use Rattle.rollback_cmds.specs.declared.order.Order.TheVariants.{Set, Commit, Interrupt, Time, Stop, Sync}
 use Rattle.rollback_cmds.specs.Order.{opens_epoch_of}
@@ -21,7 +21,7 @@ use Rattle.trace_ring.specs.Ends.{FuncAt, func_start, func_pushed, func_taken}
 use Rattle.machine_laws.specs.Told.{HasName}
 use Rattle.machine_laws.specs.NextOrder.{MayObeyNext}
 use Rattle.side_laws.specs.Along.{MayObey, MayProduce}
-use Rattle.fast_threads.specs.Workers.{GoesOn, IsFuncAt}
+use Rattle.fast_threads.specs.Workers.{GoesOn, IsFuncAt, HasObeyed, HasGoneOn}
 use Rattle.fast_threads.specs.Session.{HoldsEnd}
 
 first_zero : (s : Setup) → first s 0 ≡ 0
@@ -38,6 +38,9 @@ func_starts s side sound stands fresh = record {
   epochs = tt;
   goes_on = fresh.position ∙ sym (first_zero s) ∙ ap (first s) (sym fresh.epoch);
 }
+
+pub none_obeyed : {D : Type 0} (s : Setup) (count : ℕ) (side : Walk D) → count ≡ 0 → WalkStandsFor s [] side → IsFresh side → HasObeyed s count side []
+none_obeyed s count side none stands fresh = record { count_is = none; along = along_start s side stands fresh }
 
 -- where an order that opens an epoch leads
 opening_position : (o : Order) (n : ℕ) → opens_epoch_of o ≡ true → position_by o n ≡ number_of o
@@ -131,6 +134,20 @@ module _ {D : Type 0} (end : FuncAt) (side : Walk D) (computed : Option Entry) (
         goes_on = goes;
       }
 
+      -- one order more was obeyed
+      pub func_goes_on : (end_behind : FuncAt) → end_behind ≡ func_taken end → (os : List Order) → HasGoneOn end.setup end.taken side os → HasGoneOn end_behind.setup end_behind.taken new os
+      func_goes_on end_behind taken os on =
+          let P : FuncAt → Type 0 = λ e. HasGoneOn {D = D} e.setup e.taken new os in
+          let all : List Order = on.later ++ os in
+          let next : order end.setup (length all) ≡ Some o = subst (λ (n : ℕ). order end.setup n ≡ Some o) on.obeyed.count_is at in
+          subst P (sym taken) (record {
+            later = o ∷ on.later;
+            obeyed = record {
+              count_is = omega (arith, on.obeyed.count_is);
+              along = along_obeyed end.setup all o side new some_cycles on.obeyed.along next (stands end.setup all on.obeyed.along.stands) moved;
+            };
+          })
+
       pub func_opened : (end_behind : FuncAt) → end_behind ≡ func_taken end → opens_epoch_of o ≡ true → IsFuncAt end_behind new None
       func_opened end_behind taken opens =
           let P : FuncAt → Type 0 = λ e. IsFuncAt {D = D} e new None in
@@ -169,6 +186,23 @@ module _ {D : Type 0} (end : FuncAt) (side : Walk D) (is : IsFuncAt end side Non
           position = moved.position ∙ ap (λ (n : ℕ). n + 1) (sym number);
         };
       }
+
+-- and no order was obeyed
+pub func_stays_on : {D : Type 0} (s : Setup) (count : ℕ) (side new : Walk D) (result : Option Entry) → ((s : Setup) (os : List Order) → WalkStandsFor s os side → IsProduced s os side new result) →
+    IfSome result (λ e. IsForward side new) → (IsNone result ↔ IsAtRest side) → IfNone result (new ≡ side) → (os : List Order) → HasGoneOn s count side os → HasGoneOn s count new os
+func_stays_on {D} s count side new None produced moved none same os on =
+    let P : Walk D → Type 0 = λ w. HasGoneOn {D = D} s count w os in
+    subst P (sym same) on
+func_stays_on s count side new (Some e) produced moved none same os on =
+    let all : List Order = on.later ++ os in
+    let along = on.obeyed.along in
+    record {
+      later = on.later;
+      obeyed = record {
+        count_is = on.obeyed.count_is;
+        along = along_produced s all side new along (produced s all along.stands).stands moved (λ rest. cc (none.1 rest));
+      };
+    }
 
 -- how many entries wait or are handed out tells nothing of the side
 looks : {D : Type 0} (end : FuncAt) (side : Walk D) (c : Option Entry) (known waiting : ℕ) → GoesOn end side c → GoesOn (record end { known = known; waiting = waiting }) side c

@@ -1,3 +1,4 @@
 mod Functional
 mod Timing
 mod Ended
+mod Keeping

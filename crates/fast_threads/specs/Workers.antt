@@ -1,7 +1,7 @@
 -- What each side at its end of the queues stands for: how far it has come in the run. The two come
 -- on at their own pace.
 use Rattle.std.specs.Prelude.{◌≡◌, ℕ, ◌+◌, ◌≤◌, Bool, true, Option, Some, None, IfSome, List}
-use Rattle.std.specs.Prelude.{length}
+use Rattle.std.specs.Prelude.{◌++◌, length}
 use Rattle.rollback_cmds.specs.declared.order.Order.{Order}
 use Rattle.trace_entry.specs.declared.Entry.{Entry}
 use Rattle.mono_model.specs.declared.setup.Setup.{Setup}
@@ -16,17 +16,24 @@ use Rattle.trace_ring.specs.Orders.{IsInPlace}
 use Rattle.trace_ring.specs.Ends.{FuncAt, TimeAt}
 use Rattle.fast_threads.specs.declared.lookahead.Lookahead.{Lookahead}
 
--- what callers see of the functional side at work: its run, the side, the entry that was computed
--- and not pushed yet, and how far it may run ahead
+-- what callers see of the functional side at work: its run, how many orders of it were obeyed, the
+-- side, the entry that was computed and not pushed yet, and how far it may run ahead
 pub record FuncWork (D : Type 0) : Type 0 where
   pub setup : Setup
+  pub obeyed : ℕ
   pub side : Walk D
   pub computed : Option Entry
   pub lookahead : Lookahead
 
-abbrev pub func_work : {D : Type 0} → Setup → Walk D → Option Entry → Lookahead → FuncWork D
-func_work setup side computed lookahead =
-    record { setup = setup; side = side; computed = computed; lookahead = lookahead }
+abbrev pub func_work : {D : Type 0} → FuncAt → Walk D → Option Entry → Lookahead → FuncWork D
+func_work end side computed lookahead =
+    record {
+      setup = end.setup;
+      obeyed = end.taken;
+      side = side;
+      computed = computed;
+      lookahead = lookahead;
+    }
 
 -- and of the timing side: its run, the side, the order that was told and not pushed yet, and
 -- whether it was told that the run is over
@@ -66,6 +73,24 @@ pub record IsFuncAt {D : Type 0} (end : FuncAt) (side : Walk D)
   -- no entry of a later epoch was pushed
   pub epochs : IfSome end.last (λ last. last.0 ≤ side.epoch)
   pub goes_on : GoesOn end side computed
+
+-- A functional side has obeyed these orders, the newest first: so many, which are the first ones of
+-- the run.
+pub record HasObeyed {D : Type 0} (s : Setup) (count : ℕ) (side : Walk D)
+    (orders : List Order) : Type 0 where
+  pub count_is : count ≡ length orders
+  pub along : IsAlong s orders side
+
+-- It has obeyed these orders, and maybe others after them.
+pub record HasGoneOn {D : Type 0} (s : Setup) (count : ℕ) (side : Walk D)
+    (orders : List Order) : Type 0 where
+  pub later : List Order
+  pub obeyed : HasObeyed s count side (later ++ orders)
+
+-- Whatever orders it had obeyed, it has obeyed these, and maybe others after them.
+pub record KeepsObeyed {D : Type 0} (old new : FuncWork D) : Type 0 where
+  pub on : (orders : List Order) → HasGoneOn old.setup old.obeyed old.side orders
+      → HasGoneOn new.setup new.obeyed new.side orders
 
 -- how many orders are in hand
 abbrev pub in_hand : Option Order → ℕ

@@ -1,4 +1,4 @@
-ghost use Rattle.std.specs.Prelude.{◌≡◌, ◌≤◌, ◌<◌, ◌+◌, ◌-◌, true, None, IsSome, map, IfOk};
+ghost use Rattle.std.specs.Prelude.{◌≡◌, ◌≤◌, ◌<◌, ◌+◌, ◌-◌, true, None, IsSome, map, IfOk, []};
 
 use crate::foresight::Foresight;
 use crate::lookahead::Lookahead;
@@ -35,7 +35,7 @@ impl<D: Device> Model for FuncWorker<D> {
     ghost Value = { FuncWork D };
 
     ghost view = { λ worker.
-        func_work worker.end.setup worker.side (entry_if worker.is_computed worker.entry)
+        func_work worker.end worker.side (entry_if worker.is_computed worker.entry)
         worker.lookahead };
 
     ghost invariant = { λ worker.
@@ -50,6 +50,7 @@ impl<D: Device> FuncWorker<D> {
     ghost use Rattle.func_model.specs.Contents.{output_in};
     ghost use Rattle.func_model.specs.Walk.{IsAtRest};
     ghost use Rattle.fast_threads.specs.Lookahead.{IsWide, IsWidened};
+    ghost use Rattle.fast_threads.specs.Workers.{HasObeyed, KeepsObeyed};
     ghost use Rattle.fast_threads.specs.Session.{HoldsEnd};
 
     /// The functional side at the start of a run, with its end of the queues. All memory of the
@@ -64,6 +65,7 @@ impl<D: Device> FuncWorker<D> {
         requires end { end ≡ func_start setup.now }
         requires order { map D.kind devices.items ≡ device_order }
         ensures setup { IfOk result (λ worker. worker.setup ≡ setup.now) }
+        ensures start { IfOk result (λ worker. HasObeyed setup.now worker.obeyed worker.side []) }
     {
         let side = FuncSide::new(alloc, setup, devices)?;
         let foresight = Foresight::new(alloc, &setup.params)?;
@@ -103,6 +105,7 @@ impl<D: Device> FuncWorker<D> {
     /// use any more.
     pub fn obey<R: Wait>(&mut self, rt: &R) -> bool
         ensures setup { self.new.setup ≡ self.old.setup }
+        ensures kept { KeepsObeyed self.old self.new }
     {
         let Some(order) = self.end.next(rt) else {
             return false;
@@ -157,6 +160,7 @@ impl<D: Device> FuncWorker<D> {
     fn compute(&mut self)
         requires none { self.old.computed ≡ None }
         ensures setup { self.new.setup ≡ self.old.setup }
+        ensures kept { KeepsObeyed self.old self.new }
         ensures made { IsWide self.old.lookahead
             → self.old.side.position ≤ self.old.side.committed + 256
             → (IsAtRest self.old.side → ⊥) → IsSome self.new.computed }
@@ -175,7 +179,7 @@ impl<D: Device> FuncWorker<D> {
     /// Hands over the computed entry, if there is room for it.
     fn push<R: Wait>(&mut self, rt: &R) -> bool
         requires computed { IsSome self.old.computed }
-        ensures setup { self.new.setup ≡ self.old.setup }
+        ensures same { self.new ≡ record self.old { computed = self.new.computed } }
     {
         let pushed = self.end.push(rt, self.entry).is_ok();
         if pushed {
@@ -186,7 +190,12 @@ impl<D: Device> FuncWorker<D> {
 }
 
 impl<D: Device> Worker for FuncWorker<D> {
+    ghost use Rattle.fast_threads.specs.Workers.{HasGoneOn};
+
     ghost setup = { λ worker. worker.setup };
+
+    ghost has_gone_on = { λ orders worker.
+        HasGoneOn worker.setup worker.obeyed worker.side orders };
 
     fn is_over(&self) -> bool {
         self.stopped()

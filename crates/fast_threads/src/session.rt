@@ -1,4 +1,4 @@
-ghost use Rattle.std.specs.Prelude.{◌≡◌, true, false, map, IfOk};
+ghost use Rattle.std.specs.Prelude.{◌≡◌, true, false, map, IfOk, []};
 
 use crate::func_worker::FuncWorker;
 use crate::rounds::{FEWEST_TURNS, MOST_TURNS};
@@ -14,8 +14,8 @@ use std::sync::Wait;
 use std::thread::{Threads, join_mut};
 use trace_ring::rings;
 
-/// A run of the two sides in two threads. Contracts see its setup, the functional side, and whether
-/// the run has ended.
+/// A run of the two sides in two threads. Contracts see its setup, the functional side with how many
+/// orders it has obeyed, and whether the run has ended. What the side has committed stays.
 #[derive(Drop)]
 pub struct Session<D: Device> {
     func: FuncWorker<D>,
@@ -38,6 +38,7 @@ impl<D: Device> Session<D> {
     ghost use Rattle.device_bus.specs.Bus.{device_order};
     ghost use Rattle.mono_model.specs.Setup.{is_setup};
     ghost use Rattle.mono_model.specs.Cycle.{final, mono};
+    ghost use Rattle.fast_threads.specs.Workers.{HasObeyed};
 
     /// The two sides at the start of a run, with nothing under way. All memory of the run is taken
     /// here; a refusal drops what it was given.
@@ -45,6 +46,8 @@ impl<D: Device> Session<D> {
         requires sound { is_setup setup.now ≡ true }
         requires order { map D.kind devices.items ≡ device_order }
         ensures setup { IfOk result (λ session. session.setup ≡ setup.now) }
+        ensures start { IfOk result (λ session.
+            HasObeyed setup.now session.obeyed session.func []) }
     {
         let (func_end, time_end) = rings(alloc, setup)?;
         let func = FuncWorker::new(alloc, setup, func_end, devices)?;
@@ -76,7 +79,8 @@ impl<D: Device> Session<D> {
 }
 
 impl<D: Device + Send> Session<D> {
-    ghost use Rattle.fast_threads.specs.Session.{HoldsEnd};
+    ghost use Rattle.fast_threads.specs.Workers.{KeepsObeyed};
+    ghost use Rattle.fast_threads.specs.Session.{HoldsEnd, Keeps};
 
     /// Runs the two sides to the end of the run. In a round they work in two threads, each until it
     /// has ended, or has given way to other threads some times. That tells of a busy host, where
@@ -86,6 +90,7 @@ impl<D: Device + Send> Session<D> {
     pub fn run<R: Threads + Wait + Sync, G: Gate + Sync>(&mut self, rt: &R, gate: &G)
         ensures setup { self.new.setup ≡ self.old.setup }
         ensures ended { self.new.ended ≡ true }
+        ensures kept { Keeps self.old self.new }
         ensures contents { HoldsEnd self.new.setup self.new.func.contents }
     {
         self.ended = false;
@@ -103,6 +108,7 @@ impl<D: Device + Send> Session<D> {
                 &mut ||
                     ensures place { func.exit.ghost_name ≡ func.entry.ghost_name }
                     ensures setup { func.exit.now.setup ≡ func.entry.now.setup }
+                    ensures kept { KeepsObeyed func.entry.now func.exit.now }
                 { func.work(rt, gate) },
                 &mut ||
                     ensures place { time.exit.ghost_name ≡ time.entry.ghost_name }
@@ -120,6 +126,7 @@ impl<D: Device + Send> Session<D> {
     fn take_turns<R: Wait, G: Gate>(&mut self, rt: &R, gate: &G, turns: u32)
         requires runs { self.old.ended ≡ false }
         ensures setup { self.new.setup ≡ self.old.setup }
+        ensures kept { Keeps self.old self.new }
         ensures runs { self.new.ended ≡ false }
     {
         for _ in 0..turns {

@@ -136,6 +136,9 @@ impl TimeWorker {
 impl Worker for TimeWorker {
     ghost setup = { λ worker. worker.setup };
 
+    // it obeys none
+    ghost has_gone_on = { λ orders worker. Unit {0} };
+
     fn is_over(&self) -> bool {
         self.halted()
     }

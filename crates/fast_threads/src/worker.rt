@@ -1,4 +1,5 @@
-ghost use Rattle.std.specs.Prelude.{◌≡◌};
+ghost use Rattle.std.specs.Prelude.{◌≡◌, List};
+ghost use Rattle.rollback_cmds.specs.declared.order.Order.{Order};
 ghost use Rattle.mono_model.specs.declared.setup.Setup.{Setup};
 
 use crate::rounds::{MOST_SPINS, MOST_WAITS};
@@ -11,6 +12,9 @@ pub trait Worker: Drop {
     // the setup of its run, which a turn keeps
     ghost setup: { Self → Setup };
 
+    // whether it has obeyed these orders of the run, the newest first, and maybe others after them
+    ghost has_gone_on: { List Order → Self → Type 0 };
+
     /// Whether it has nothing more to do in the run.
     fn is_over(&self) -> bool;
 
@@ -19,11 +23,15 @@ pub trait Worker: Drop {
 
     /// A turn. Says whether there was anything to do.
     fn turn<R: Wait>(&mut self, rt: &R) -> bool
-        ensures setup { setup self.new ≡ setup self.old };
+        ensures setup { setup self.new ≡ setup self.old }
+        ensures kept { (orders : List Order) → has_gone_on orders self.old
+            → has_gone_on orders self.new };
 
     /// Makes a turn, unless it is over. Says whether there was anything to do.
     final fn take_turn<R: Wait, G: Gate>(&mut self, rt: &R, gate: &G) -> bool
         ensures setup { setup self.new ≡ setup self.old }
+        ensures kept { (orders : List Order) → has_gone_on orders self.old
+            → has_gone_on orders self.new }
     {
         if self.is_over() {
             return false;
@@ -36,6 +44,8 @@ pub trait Worker: Drop {
     /// side is likely not to run at all.
     final fn work<R: Wait, G: Gate>(&mut self, rt: &R, gate: &G)
         ensures setup { setup self.new ≡ setup self.old }
+        ensures kept { (orders : List Order) → has_gone_on orders self.old
+            → has_gone_on orders self.new }
     {
         let mut idle = 0;
         let mut waits = 0;

@@ -2,4 +2,4 @@ pub mod Committed
 pub mod Goes
 pub mod Obeying
 pub mod Reporting
-mod Staying
+pub mod Staying

@@ -1,7 +1,8 @@
-use Rattle.std.proofs.Common.{◌∙◌, sym}
+use Rattle.std.proofs.Common.{◌∙◌, sym, subst}
 use Rattle.func_model.specs.Walk.{entry_if}
 use Rattle.trace_ring.specs.Orders.{IsInPlace}
-use Rattle.fast_threads.proofs.Functional.{if_some, on_some, func_may_obey, func_opened, func_obeyed}
+use Rattle.fast_threads.specs.Workers.{FuncWork, HasGoneOn}
+use Rattle.fast_threads.proofs.Functional.{if_some, on_some, func_may_obey, func_opened, func_obeyed, func_goes_on}
 use Rattle.fast_threads.proofs.func_worker.FuncWorker.obey.Goals as goal
 
 pub obey-requires : goal.obey-requires
@@ -23,3 +24,21 @@ invariant_of-self-else-opens_epoch g c =
     func_obeyed old.end old.side (entry_if old.is_computed old.entry) c.self.invariant c.in-Some.order (if_some _ _ (IsInPlace old.end.setup old.end.taken) c.in-Some.is c.next.ensures.order)
     c.obey.new.self c.obey.ensures.stands c.obey.ensures.moved c.next.new.self (on_some _ _ _ c.in-Some.is c.next.ensures.taken)
     (sym c.opens_epoch.ensures.all_but_commit ∙ c.if-opens_epoch.false)
+
+pub returns-then-opens_epoch-clause-kept : goal.returns-then-opens_epoch-clause-kept
+returns-then-opens_epoch-clause-kept g c = record {
+  on = λ os on.
+      let old = c.self.inside in
+      func_goes_on old.end old.side (entry_if old.is_computed old.entry) c.self.invariant c.in-Some.order (if_some _ _ (IsInPlace old.end.setup old.end.taken) c.in-Some.is c.next.ensures.order)
+      c.obey.new.self c.obey.ensures.stands c.obey.ensures.moved c.next.new.self (on_some _ _ _ c.in-Some.is c.next.ensures.taken)
+      os (subst (λ (w : FuncWork _). HasGoneOn w.setup w.obeyed w.side os) (sym c.self.view_is) on);
+}
+
+pub returns-else-opens_epoch-clause-kept : goal.returns-else-opens_epoch-clause-kept
+returns-else-opens_epoch-clause-kept g c = record {
+  on = λ os on.
+      let old = c.self.inside in
+      func_goes_on old.end old.side (entry_if old.is_computed old.entry) c.self.invariant c.in-Some.order (if_some _ _ (IsInPlace old.end.setup old.end.taken) c.in-Some.is c.next.ensures.order)
+      c.obey.new.self c.obey.ensures.stands c.obey.ensures.moved c.next.new.self (on_some _ _ _ c.in-Some.is c.next.ensures.taken)
+      os (subst (λ (w : FuncWork _). HasGoneOn w.setup w.obeyed w.side os) (sym c.self.view_is) on);
+}

@@ -1,4 +1,6 @@
-use Rattle.std.proofs.Common.{◌≡◌, false}
+use Rattle.std.proofs.Common.{◌≡◌, false, List}
+use Rattle.rollback_cmds.specs.declared.order.Order.{Order}
+use Rattle.fast_threads.specs.Workers.{HasGoneOn}
 use Rattle.fast_threads.proofs.session.Session.take_turns.Given as goal
 
 abbrev pub invariant-loop : goal.invariant-loop
@@ -6,3 +8,5 @@ invariant-loop g l =
     (l.self-inside.func.setup ≡ l.fn.self.setup)
     × (l.self-inside.time.setup ≡ l.self-inside.func.setup)
     × (l.self-inside.ended ≡ false)
+    × ((orders : List Order) → HasGoneOn l.fn.self.setup l.fn.self.obeyed l.fn.self.func orders
+    → HasGoneOn l.self-inside.func.setup l.self-inside.func.obeyed l.self-inside.func.side orders)
