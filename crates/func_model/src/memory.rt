@@ -1,4 +1,4 @@
-ghost use Rattle.std.specs.Prelude.{◌≡◌, ◌%◌, ◌^◌, All, OnOk, IfOk, IfErr, IfSome, IfNone, length};
+ghost use Rattle.std.specs.Prelude.{◌≡◌, ℕ, ◌+◌, ◌%◌, All, OnOk, IfOk, IfErr, IfSome, IfNone, length};
 ghost use Rattle.fsim_base.specs.Width.{width_bytes};
 ghost use Rattle.elf_image.specs.Sound.{IsSound};
 ghost use Rattle.elf_image.specs.Load.{image_byte, is_executable};
@@ -15,31 +15,35 @@ use rv_decode::{Insn, decode};
 use std::alloc::Global;
 use std::marker::Model;
 
-/// How many instructions of the text are kept: as many as 16 KiB have.
-const KEPT: usize = 4096;
+/// How many instructions of the text are kept: as many as 512 KiB have.
+const KEPT: usize = 131_072;
 
-/// Beyond every address.
-const NOWHERE: u64 = 1 << 32;
+/// The stamp of the first text, and how far those of two texts are apart: beyond every address.
+const STAMP: u64 = 1 << 32;
 
-/// An instruction of the text, with its word and what is read off it, by its address.
+/// Behind this stamp they begin anew.
+const LAST_STAMP: u64 = 1 << 63;
+
+/// An instruction of the text, with its word and what is read off it.
 #[derive(Clone, Copy, Debug)]
 struct TextInsn {
-    /// `NOWHERE` where none is kept.
-    addr: u64,
+    /// Its address, and the stamp of the text that it was found in; 0 where none is kept.
+    key: u64,
     decoded: Decoded,
 }
 
-/// Keeps the instruction that stands in the text at an address, in place of another one, or says
-/// what fetch finds there instead.
+/// Keeps the instruction that stands in the text at an address, by this key and in place of
+/// another one, or says what fetch finds there instead.
 #[tactic(auto, unfolding(crate::specs::Hart::found_by))]
 #[inline(never)]
-fn keep(ram: &Ram, addr: u32, kept: &mut TextInsn) -> Result<(), Fetched>
-    ensures kept { OnOk result (kept.new.addr ≡ addr) }
+fn keep(ram: &Ram, addr: u32, key: u64, kept: &mut TextInsn) -> Result<(), Fetched>
+    ensures kept { OnOk result (kept.new.key ≡ key) }
     ensures found { IfErr result (λ other. found_in other
         ≡ found_by (exec_of ram.now) (text_of ram.now) addr) }
     ensures fits { IfErr result FetchedFits }
-    ensures text { IsOfText (exec_of ram.now) (text_of ram.now) kept.old
-        → IsOfText (exec_of ram.now) (text_of ram.now) kept.new }
+    ensures text { (stamp : ℕ) → key ≡ stamp + addr
+        → IsOfText (exec_of ram.now) (text_of ram.now) stamp kept.old
+        → IsOfText (exec_of ram.now) (text_of ram.now) stamp kept.new }
 {
     if addr % 4 != 0 {
         return Err(Fetched::Refused(Cause::InstructionMisaligned));
@@ -51,7 +55,7 @@ fn keep(ram: &Ram, addr: u32, kept: &mut TextInsn) -> Result<(), Fetched>
         return Err(Fetched::Unknown(word));
     };
     *kept = TextInsn {
-        addr: u64::from(addr),
+        key,
         decoded: Decoded::new(word, insn),
     };
     Ok(())
@@ -60,10 +64,10 @@ fn keep(ram: &Ram, addr: u32, kept: &mut TextInsn) -> Result<(), Fetched>
 /// Keeps none of these instructions.
 fn forget(insns: &mut Vec<TextInsn>)
     ensures length { length insns.new.items ≡ length insns.old.items }
-    ensures nowhere { All (λ kept. kept.addr ≡ 2 ^ 32) insns.new.items }
+    ensures none { All (λ kept. kept.key ≡ 0) insns.new.items }
 {
     for kept in insns.iter_mut() {
-        kept.addr = NOWHERE;
+        kept.key = 0;
     }
 }
 
@@ -74,10 +78,12 @@ pub struct Memory {
     ram: Ram,
     /// An instruction is kept in the place that its address selects.
     insns: Vec<TextInsn>,
+    /// That of the text as fetch sees it. What has an earlier one was kept of an earlier text.
+    stamp: u64,
 }
 
 impl Model for Memory {
-    ghost use Rattle.std.specs.Prelude.{◌≡◌, All, length};
+    ghost use Rattle.std.specs.Prelude.{◌≡◌, ◌+◌, ◌^◌, ◌≤◌, All, length};
     ghost use Rattle.phys_mem.specs.declared.ram.Ram.{Ram};
 
     ghost Value = { Ram };
@@ -87,8 +93,10 @@ impl Model for Memory {
 
     ghost view = { λ memory. memory.ram };
 
-    ghost invariant = { λ memory. (length memory.insns.items ≡ 4096)
-        × All (IsOfText (exec_of memory.ram) (text_of memory.ram)) memory.insns.items };
+    ghost invariant = { λ memory. (length memory.insns.items ≡ 131072)
+        × (2 ^ 32 ≤ memory.stamp) × (memory.stamp + 2 ^ 32 ≤ 2 ^ 64)
+        × All (IsOfText (exec_of memory.ram) (text_of memory.ram) memory.stamp)
+        memory.insns.items };
 }
 
 impl Memory {
@@ -104,13 +112,17 @@ impl Memory {
     {
         let ram = Ram::new(alloc, range, image)?;
         let none = TextInsn {
-            addr: NOWHERE,
+            key: 0,
             decoded: Decoded::new(0, Insn::Wfi),
         };
         let Ok(insns) = vec![in alloc; none; KEPT] else {
             return Err(NoMemory);
         };
-        Ok(Memory { ram, insns })
+        Ok(Memory {
+            ram,
+            insns,
+            stamp: STAMP,
+        })
     }
 
     /// The value of an aligned access, none where it isn't inside RAM. Little endian.
@@ -153,7 +165,12 @@ impl Memory {
         ensures range { range_of self.new ≡ range_of self.old }
     {
         self.ram.sync();
-        forget(&mut self.insns);
+        if self.stamp < LAST_STAMP {
+            self.stamp += STAMP;
+        } else {
+            forget(&mut self.insns);
+            self.stamp = STAMP;
+        }
     }
 
     /// The instruction at an address, where it is kept.
@@ -164,7 +181,7 @@ impl Memory {
         ensures fits { IfSome result (λ decoded. DecodedFits decoded.now) }
     {
         let kept = &self.insns[(addr / 4) as usize % KEPT];
-        if kept.addr == u64::from(addr) {
+        if kept.key == self.stamp + u64::from(addr) {
             Some(&kept.decoded)
         } else {
             None
@@ -178,9 +195,10 @@ impl Memory {
         ensures fits { FetchedFits result }
         ensures others { self.new ≡ self.old }
     {
+        let key = self.stamp + u64::from(addr);
         let kept = &mut self.insns[(addr / 4) as usize % KEPT];
-        if kept.addr != u64::from(addr) {
-            if let Err(other) = keep(&self.ram, addr, kept) {
+        if kept.key != key {
+            if let Err(other) = keep(&self.ram, addr, key, kept) {
                 return other;
             }
         }

@@ -1,10 +1,12 @@
-use Rattle.std.proofs.Common.{rules, ◌≡◌, ◌<◌, ◌^◌, ◌∙◌, ℕ, Option, Some, unwrap_or, ap, sym, subst}
+use Rattle.std.proofs.Common.{rules, ◌≡◌, ◌<◌, ◌^◌, ◌∙◌, ℕ, Option, Some, unwrap_or, ap, sym, subst, arith}
 use Rattle.rv_decode.specs.declared.insn.Insn.{Insn}
 use Rattle.rv_exec.specs.Bare.{bare_of}
 use Rattle.rv_decode.specs.Class.{sources_of, dest_of, class_of}
 use Rattle.rv_decode.specs.Decode.{decode_of}
 use Rattle.rv_decode.specs.Fits.{Fits}
 use Rattle.rv_decode.proofs.Spelled.{spelled_fits}
+use Rattle.mono_model.specs.Found.{known}
+use Rattle.phys_mem.specs.Ram.{exec_of, text_of}
 use Rattle.func_model.specs.Hart.{found_by}
 use Rattle.func_model.proofs.Bare.{registers_exist}
 use Rattle.func_model.proofs.Written.{kept_told}
@@ -19,10 +21,11 @@ new-requires c = record { fits = spelled c.in-Some.word c.in-Some-decode.insn c.
 
 pub returns-clause-text : goal.returns-clause-text
 unfolding found_by
-returns-clause-text c = λ was.
+returns-clause-text c = λ stamp is was.
     let fits : Fits c.in-Some-decode.insn = spelled c.in-Some.word c.in-Some-decode.insn c.decode.result (search rules) c.decode.ensures.row c.in-Some-decode.is in
     record {
-      found = λ within. rw (c.from.ensures, c.new.ensures.word, c.new.ensures.insn) (search rules);
+      found = λ within. subst (λ a. known c.new.result.word c.new.result.insn ≡ found_by (exec_of c.args.ram.now) (text_of c.args.ram.now) a) {x = c.args.addr} (omega (arith, is)) (rw (c.new.ensures.word, c.new.ensures.insn) (search rules));
+      below = omega (arith, is);
       fits = λ within. record {
         fits = subst Fits (sym c.new.ensures.insn) fits;
         bare = c.new.ensures.bare ∙ ap bare_of (sym c.new.ensures.insn);
