@@ -1,7 +1,7 @@
 pub mod Setups
 pub mod Ends
 pub mod Ending
-pub mod LaneEnding
+pub mod InorderEnding
 pub mod Plans
 pub mod Jobs
 pub mod Readings

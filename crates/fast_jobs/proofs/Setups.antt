@@ -12,7 +12,7 @@ use Rattle.mono_model.specs.declared.setup.Setup.{Setup}
 use Rattle.mono_model.specs.Plain.{plain_params}
 use Rattle.fast_cli.specs.declared.line.Options.{Options}
 use Rattle.fast_cli.specs.Ranges.{HasRanges}
-use Rattle.inorder_model.specs.Standing.{IsInorder}
+use Rattle.inorder_machine.specs.Setup.{IsInorder}
 use Rattle.fast_jobs.specs.Stages.{inorder_params, inorder_setup, placed_params, setup_for}
 
 pub is_setup-setup_for : (params : Params) (options : Options) (image : Image) (input : List ℕ) → are_params params ≡ true → IsSound image (ram_range params) → HasRanges options → length input ≤ input_limit → is_setup (setup_for params options image input) ≡ true

@@ -15,7 +15,7 @@ use Rattle.fast_cli.specs.Ranges.{HasRanges}
 use Rattle.fast_cli.specs.Values.{default_options}
 use Rattle.gen_image.specs.Soak.{soak_image}
 use Rattle.gen_image.specs.Machine.{soak_machine}
-use Rattle.inorder_model.specs.Standing.{IsInorder}
+use Rattle.inorder_machine.specs.Setup.{IsInorder}
 use Rattle.fast_jobs.specs.declared.job.Job.{Job}
 use Rattle.fast_jobs.specs.declared.job.Job.TheVariants.{Single, Sweep}
 use Rattle.fast_jobs.specs.declared.job.SingleJob.{SingleJob}

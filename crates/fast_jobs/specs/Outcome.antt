@@ -7,7 +7,7 @@ use Rattle.mono_model.specs.Alone.{Alone, alone}
 use Rattle.mono_model.specs.Cycle.{mono}
 use Rattle.mono_model.specs.Report.{text}
 use Rattle.mono_model.specs.Split.{reach}
-use Rattle.lane_model.specs.Cycle.{lane, lane_text}
+use Rattle.inorder_machine.specs.Cycle.{inorder, inorder_text}
 use Rattle.split_core.specs.declared.event.Event.{Event}
 use Rattle.split_core.specs.Events.{event_in}
 use Rattle.report_text.specs.declared.status.Status.{Status}
@@ -44,7 +44,7 @@ abbrev pub job_status : Job → Status
 job_status (Single (Func s)) = status_for (whole_run s).end
 job_status (Single (Run s)) = status_for (mono s s.cycles).end
 job_status (Single (Sched s plan)) = status_for (mono s (planned_cycle s plan)).end
-job_status (Single (Inorder s plan)) = status_for (lane s s.cycles).machine.end
+job_status (Single (Inorder s plan)) = status_for (inorder s s.cycles).machine.end
 job_status (Single (Back s history script)) = Shown
 job_status (Sweep files) = Shown
 
@@ -54,7 +54,7 @@ abbrev pub job_text : Job → List ℕ
 job_text (Single (Func s)) = func_text s
 job_text (Single (Run s)) = text s s.cycles
 job_text (Single (Sched s plan)) = text s (planned_cycle s plan)
-job_text (Single (Inorder s plan)) = lane_text s s.cycles
+job_text (Single (Inorder s plan)) = inorder_text s s.cycles
 job_text (Single (Back s history script)) = session_text history s script start_position
 job_text (Sweep files) = sweep_lines files
 

@@ -10,8 +10,8 @@ use Rattle.mono_model.specs.Report.{joined}
 use Rattle.report_text.specs.declared.status.Status.{Status}
 use Rattle.report_text.specs.declared.status.Status.TheVariants.{Sets}
 use Rattle.report_text.specs.SweepText.{is_sweep_refusal, sweep_text, sweep_refusal_text}
-use Rattle.inorder_model.specs.Standing.{IsInorder}
-use Rattle.sweep_runs.specs.Sweep.{lane_last_of, last_of}
+use Rattle.inorder_machine.specs.Setup.{IsInorder}
+use Rattle.sweep_runs.specs.Sweep.{inorder_last_of, last_of}
 use Rattle.fast_cli.specs.declared.line.Options.{Options}
 use Rattle.fast_cli.specs.declared.line.Pipeline.{Pipeline}
 use Rattle.fast_cli.specs.declared.line.Pipeline.TheVariants.{Inorder, Window}
@@ -60,7 +60,7 @@ IsSoundOn Inorder setup = IsInorder setup
 -- what is reported of the run on a pipeline
 abbrev pub last_on : Pipeline → Setup → Final
 last_on Window setup = last_of setup
-last_on Inorder setup = lane_last_of setup
+last_on Inorder setup = inorder_last_of setup
 
 -- the setup of the run on a machine, or what refuses it
 unfoldable pub machine_setup : SweepFiles → List ℕ → Result Setup Status

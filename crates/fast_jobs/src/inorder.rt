@@ -1,7 +1,7 @@
 //! The in-order machine's run.
 ghost use Rattle.std.specs.Prelude.{◌≡◌, ◌≤◌, map};
 ghost use Rattle.device_bus.specs.Bus.{device_order};
-ghost use Rattle.inorder_model.specs.Standing.{IsInorder};
+ghost use Rattle.inorder_machine.specs.Setup.{IsInorder};
 ghost use Rattle.fast_jobs.specs.declared.job.Job.{Job as AnyJob};
 ghost use Rattle.fast_jobs.specs.declared.job.SingleJob.{SingleJob as AnyRun};
 ghost use Rattle.fast_jobs.specs.Ending.{Ends};

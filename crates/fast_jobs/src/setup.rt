@@ -2,7 +2,7 @@ ghost use Rattle.std.specs.Prelude.{◌≡◌, ◌≤◌, true, length};
 ghost use Rattle.elf_image.specs.Sound.{IsSound};
 ghost use Rattle.mono_model.specs.Setup.{input_limit, is_setup, are_params, ram_range};
 ghost use Rattle.fast_cli.specs.Ranges.{HasRanges};
-ghost use Rattle.inorder_model.specs.Standing.{IsInorder};
+ghost use Rattle.inorder_machine.specs.Setup.{IsInorder};
 ghost use Rattle.fast_jobs.specs.Job.{inorder_setup, setup_for};
 ghost use Rattle.fast_jobs.specs.SweepFiles.{IsSoundOn, setup_on};
 

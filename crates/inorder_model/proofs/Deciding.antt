@@ -16,9 +16,9 @@ use Rattle.mono_model.specs.Window.{is_register, is_store_class}
 use Rattle.timing_side.specs.Slots.{found_in, is_waiting_state, is_done_state}
 use Rattle.timing_side.specs.Issue.{gives_value, is_available, has_value, has_operands, are_stores_done, is_oldest, load_allows, class_allows}
 use Rattle.in_flight.specs.Flight.{older_at, may_start, is_written, reads_from}
-use Rattle.lane_model.specs.Issue.{is_load_class}
-use Rattle.lane_side.specs.Timing.{LaneTiming}
-use Rattle.lane_side.specs.Issue.{valueless, found_in_order, issue_of, issue_from}
+use Rattle.inorder_machine.specs.Issue.{is_load_class}
+use Rattle.inorder_side.specs.Timing.{InorderTiming}
+use Rattle.inorder_side.specs.Issue.{valueless, found_in_order, issue_of, issue_from}
 use Rattle.inorder_model.specs.Stages.{reads_load, waits_for_load}
 use Rattle.inorder_model.proofs.Bool.{and_true, and_false, both_without}
 use Rattle.inorder_model.proofs.Lists.{older_there, ends_there, set_last, reverse_more}
@@ -104,7 +104,7 @@ allows_in_order memory older class.Store made = refl
 allows_in_order memory older class.Serial made = oldest_in_order memory older
 
 -- the youngest takes its turn
-module _ (s : Setup) (l : LaneTiming) where
+module _ (s : Setup) (l : InorderTiming) where
   issue_last : (front older : List Slot) (slot : Slot) → issue_from s l older (front ++ slot ∷ []) ≡ front ++ issue_of s l (reverse front ++ older) slot ∷ []
   unfolding issue_from
   issue_last [] older slot = refl

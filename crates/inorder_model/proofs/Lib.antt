@@ -2,7 +2,7 @@ pub mod Bool
 pub mod Lists
 pub mod Slots
 pub mod Deciding
-pub mod Lanes
+pub mod Relations
 pub mod Numbers
 pub mod Turns
-pub mod LaneCore
+pub mod InorderTimingCore

@@ -9,7 +9,7 @@ use Rattle.reorder_buffer.specs.declared.slot.SlotState.{SlotState}
 use Rattle.reorder_buffer.specs.declared.slot.SlotState.TheVariants.{Waiting, Until, Done}
 use Rattle.timing_side.specs.Slots.{is_waiting_state, is_done_state}
 use Rattle.in_flight.specs.Flight.{older_at, is_executing_state, executes_at}
-use Rattle.lane_side.specs.Timing.{Executing, execute_by, in_execute, done_count}
+use Rattle.inorder_side.specs.Timing.{Executing, execute_by, in_execute, done_count}
 use Rattle.inorder_model.proofs.Bool.{and_true, and_assoc}
 use Rattle.inorder_model.proofs.Lists.{drop_there, ends_there}
 

@@ -1,9 +1,9 @@
 -- Which turn comes next, as the demand run has it.
-use Rattle.lane_model.specs.Demand as run
+use Rattle.inorder_machine.specs.Demand as run
 use Rattle.inorder_model.specs.declared.at.At.{At}
 use Rattle.inorder_model.specs.declared.at.At.TheVariants.{Interrupting, Writing, Accessing, Executing, Issuing, Trying, Ending, Stopping, Halted}
 
-abbrev pub at_in : At → run.LaneAt
+abbrev pub at_in : At → run.InorderAt
 at_in Interrupting = run.interrupting
 at_in Writing = run.writing
 at_in Accessing = run.accessing

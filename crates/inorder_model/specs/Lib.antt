@@ -1,10 +1,10 @@
 pub mod At
-pub mod LaneStandsFor
+pub mod InorderStandsFor
 pub mod Standing
 pub mod BoundedLaws
 pub mod SmallLaws
 pub mod StandingLaws
 pub mod Stages
-pub mod LaneTimed
-pub mod LaneTimedLaws
+pub mod InorderTimed
+pub mod InorderTimedLaws
 pub mod Core

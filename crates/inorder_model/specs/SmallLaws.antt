@@ -10,29 +10,29 @@ use Rattle.machine_laws.proofs.SplitBounds.{openings_most}
 use Rattle.timing_laws.specs.Seen as timing
 use Rattle.timing_core.specs.Small.{IsSmall}
 use Rattle.time_model.specs.BoundedLaws.{IsBounded}
-use Rattle.lane_model.specs.Demand.{LanePlace, lane_place, lane_step_bound, seen_of, seen}
-use Rattle.lane_laws.proofs.Counting.{run_counted}
-use Rattle.lane_laws.proofs.Bounds.{run_bounded}
-use Rattle.lane_laws.proofs.OutputRoom.{output_within}
-use Rattle.lane_laws.proofs.Halting.{run_halts}
-use Rattle.lane_timing_laws.specs.Seen.{lane_held_at}
-use Rattle.inorder_model.specs.Standing.{IsInorder}
+use Rattle.inorder_machine.specs.Demand.{InorderPlace, inorder_place, inorder_step_bound, seen_of, seen}
+use Rattle.inorder_laws.proofs.Counting.{run_counted}
+use Rattle.inorder_laws.proofs.Bounds.{run_bounded}
+use Rattle.inorder_laws.proofs.OutputRoom.{output_within}
+use Rattle.inorder_laws.proofs.Halting.{run_halts}
+use Rattle.inorder_timing_laws.specs.Seen.{inorder_held_at}
+use Rattle.inorder_machine.specs.Setup.{IsInorder}
 use Rattle.inorder_model.specs.BoundedLaws.{held_bounded}
 
-steps_small : (s : Setup) → is_setup s ≡ true → lane_step_bound s ≤ 2 ^ 44
+steps_small : (s : Setup) → is_setup s ≡ true → inorder_step_bound s ≤ 2 ^ 44
 steps_small s sound = let r = setup_facts s sound in omega (arith, r.cycles)
 
 -- behind no more steps than the bound
-within_small : (s : Setup) (k : ℕ) → IsInorder s → k ≤ lane_step_bound s → IsSmall (timing.seen s (lane_place s k).run.demand)
-unfolding timing.seen lane_held_at
+within_small : (s : Setup) (k : ℕ) → IsInorder s → k ≤ inorder_step_bound s → IsSmall (timing.seen s (inorder_place s k).run.demand)
+unfolding timing.seen inorder_held_at
 within_small s k allowed within =
     let r = setup_facts s allowed.sound in
     let steps = steps_small s allowed.sound in
     let counted = run_counted s k in
     let bounded = run_bounded s k r.some_cycle allowed.window in
-    let shown : IsBounded (timing.seen s (lane_place s k).run.demand) = held_bounded s r k in
-    let done : (lane_place s k).run.demand.to_commit ≤ 1099511627776 = omega (arith, bounded.to_commit, r.cycles) in
-    let cycle : (lane_place s k).run.demand.machine.cycle ≤ 1099511627776 = omega (arith, bounded.cycle, r.cycles) in
+    let shown : IsBounded (timing.seen s (inorder_place s k).run.demand) = held_bounded s r k in
+    let done : (inorder_place s k).run.demand.to_commit ≤ 1099511627776 = omega (arith, bounded.to_commit, r.cycles) in
+    let cycle : (inorder_place s k).run.demand.machine.cycle ≤ 1099511627776 = omega (arith, bounded.cycle, r.cycles) in
     record {
       cycle = omega (arith, cycle);
       to_commit = omega (arith, done);
@@ -49,32 +49,32 @@ within_small s k allowed within =
       order = shown.order;
     }
 
-pub place_small : (s : Setup) (k : ℕ) → IsInorder s → IsSmall (timing.seen s (lane_place s k).run.demand)
-place_small s k allowed = by_order (cases_lt k (lane_step_bound s))
+pub place_small : (s : Setup) (k : ℕ) → IsInorder s → IsSmall (timing.seen s (inorder_place s k).run.demand)
+place_small s k allowed = by_order (cases_lt k (inorder_step_bound s))
   where
-    still : lane_step_bound s ≤ k → IsSmall (timing.seen s (lane_place s k).run.demand)
+    still : inorder_step_bound s ≤ k → IsSmall (timing.seen s (inorder_place s k).run.demand)
     still more =
-        subst (λ (p : LanePlace). IsSmall (timing.seen s p.run.demand)) (sym ((run_halts s (setup_facts s allowed.sound).some_cycle).still k more))
-        (within_small s (lane_step_bound s) allowed (omega arith))
+        subst (λ (p : InorderPlace). IsSmall (timing.seen s p.run.demand)) (sym ((run_halts s (setup_facts s allowed.sound).some_cycle).still k more))
+        (within_small s (inorder_step_bound s) allowed (omega arith))
 
-    by_order : (k < lane_step_bound s) ⊎ (lane_step_bound s ≤ k) → IsSmall (timing.seen s (lane_place s k).run.demand)
+    by_order : (k < inorder_step_bound s) ⊎ (inorder_step_bound s ≤ k) → IsSmall (timing.seen s (inorder_place s k).run.demand)
     by_order (inl less) = within_small s k allowed (omega arith)
     by_order (inr more) = still more
 
 -- and so is the epoch
-told_within : (s : Setup) (k : ℕ) → IsInorder s → k ≤ lane_step_bound s → openings (told (seen s k)) ≤ 2 ^ 44
+told_within : (s : Setup) (k : ℕ) → IsInorder s → k ≤ inorder_step_bound s → openings (told (seen s k)) ≤ 2 ^ 44
 told_within s k allowed within =
     let bounded = run_bounded s k (setup_facts s allowed.sound).some_cycle allowed.window in
     omega (arith, openings_most (told (seen s k)), bounded.orders, steps_small s allowed.sound)
 
 pub epoch_small : (s : Setup) (k : ℕ) → IsInorder s → openings (told (seen s k)) ≤ 2 ^ 44
-epoch_small s k allowed = by_order (cases_lt k (lane_step_bound s))
+epoch_small s k allowed = by_order (cases_lt k (inorder_step_bound s))
   where
-    still : lane_step_bound s ≤ k → openings (told (seen s k)) ≤ 2 ^ 44
+    still : inorder_step_bound s ≤ k → openings (told (seen s k)) ≤ 2 ^ 44
     still more =
-        subst (λ (p : LanePlace). openings (told (seen_of p)) ≤ 2 ^ 44) (sym ((run_halts s (setup_facts s allowed.sound).some_cycle).still k more))
-        (told_within s (lane_step_bound s) allowed (omega arith))
+        subst (λ (p : InorderPlace). openings (told (seen_of p)) ≤ 2 ^ 44) (sym ((run_halts s (setup_facts s allowed.sound).some_cycle).still k more))
+        (told_within s (inorder_step_bound s) allowed (omega arith))
 
-    by_order : (k < lane_step_bound s) ⊎ (lane_step_bound s ≤ k) → openings (told (seen s k)) ≤ 2 ^ 44
+    by_order : (k < inorder_step_bound s) ⊎ (inorder_step_bound s ≤ k) → openings (told (seen s k)) ≤ 2 ^ 44
     by_order (inl less) = told_within s k allowed (omega arith)
     by_order (inr more) = still more

@@ -7,10 +7,10 @@ use Rattle.timing_side.specs.Slots.{found_in}
 use Rattle.timing_side.specs.Timing.{Phase}
 use Rattle.timing_side.specs.Commit.{commits, committed_phase}
 use Rattle.in_flight.specs.Flight.{reads_from}
-use Rattle.lane_model.specs.Issue.{is_load_class}
-use Rattle.lane_side.specs.Timing as place
-use Rattle.lane_side.specs.Timing.{LaneTiming}
-use Rattle.lane_side.specs.Phases.{write_width}
+use Rattle.inorder_machine.specs.Issue.{is_load_class}
+use Rattle.inorder_side.specs.Timing as place
+use Rattle.inorder_side.specs.Timing.{InorderTiming}
+use Rattle.inorder_side.specs.Phases.{write_width}
 use Rattle.inorder_model.specs.declared.stages.Executing as code
 
 -- the slot in Execute
@@ -31,5 +31,5 @@ waits_for_load None older slot = false
 waits_for_load (Some e) older slot = reads_load older slot
 
 -- Write, with Memory as it was
-abbrev pub write_phase : Setup → LaneTiming → Phase
+abbrev pub write_phase : Setup → InorderTiming → Phase
 write_phase s l = committed_phase (commits s (write_width l) 0 l.timing)

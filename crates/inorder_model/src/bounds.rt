@@ -1,14 +1,14 @@
 ghost use Rattle.std.specs.Prelude.{◌≡◌, true};
 ghost use Rattle.mono_model.specs.Setup.{is_setup};
-ghost use Rattle.lane_model.specs.Demand.{lane_step_bound};
-ghost use Rattle.lane_laws.specs.Rounds.{lane_boundary_rounds};
+ghost use Rattle.inorder_machine.specs.Demand.{inorder_step_bound};
+ghost use Rattle.inorder_laws.specs.Rounds.{inorder_boundary_rounds};
 
 use mono_model::Setup;
 
 /// A boundary is never further than so many rounds.
 pub(crate) fn most_rounds(setup: &Setup) -> u32
     requires sound { is_setup setup.now ≡ true }
-    ensures rounds { result ≡ lane_boundary_rounds setup.now }
+    ensures rounds { result ≡ inorder_boundary_rounds setup.now }
 {
     (setup.ring + 128) * 10
 }
@@ -16,7 +16,7 @@ pub(crate) fn most_rounds(setup: &Setup) -> u32
 /// No run has more steps of the timing side.
 pub(crate) fn most_steps(setup: &Setup) -> u64
     requires sound { is_setup setup.now ≡ true }
-    ensures steps { result ≡ lane_step_bound setup.now }
+    ensures steps { result ≡ inorder_step_bound setup.now }
 {
     setup.cycles * 8 + 2
 }

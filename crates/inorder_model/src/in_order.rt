@@ -1,13 +1,13 @@
 ghost use Rattle.std.specs.Prelude.{◌≡◌};
 ghost use Rattle.mono_model.specs.declared.setup.Setup.{Setup as RunSetup};
-ghost use Rattle.lane_side.specs.Timing.{LaneTiming};
-ghost use Rattle.lane_side.specs.Turn.{at_after_write, at_after_issue, at_after_end};
+ghost use Rattle.inorder_side.specs.Timing.{InorderTiming};
+ghost use Rattle.inorder_side.specs.Turn.{at_after_write, at_after_issue, at_after_end};
 ghost use Rattle.inorder_model.specs.At.{at_in};
-ghost use Rattle.inorder_model.specs.LaneStandsFor.{LaneStandsFor};
+ghost use Rattle.inorder_model.specs.InorderStandsFor.{InorderStandsFor};
 
 use crate::at::At;
 use crate::bounds;
-use crate::lane::LaneCore;
+use crate::timing::InorderTimingCore;
 use fsim_base::NoMemory;
 use mono_model::Setup;
 use rollback_cmds::Order;
@@ -18,7 +18,7 @@ use timing_core::{Orders, TimingCore};
 use trace_entry::Entry;
 
 /// The timing side of the in-order machine.
-pub type InorderSide = TimingSide<LaneCore>;
+pub type InorderSide = TimingSide<InorderTimingCore>;
 
 /// The phases of a cycle, in their order.
 struct Interrupting;
@@ -33,11 +33,11 @@ struct Issuing;
 
 struct Ending;
 
-impl Phase<LaneCore, At> for Interrupting {
+impl Phase<InorderTimingCore, At> for Interrupting {
     ghost use Rattle.inorder_model.specs.declared.at.At.TheVariants.{Interrupting};
-    ghost use Rattle.inorder_model.specs.Standing.{lane_piped};
+    ghost use Rattle.inorder_model.specs.Standing.{inorder_piped};
 
-    ghost piped = { lane_piped };
+    ghost piped = { inorder_piped };
 
     ghost turn = { Interrupting };
 
@@ -46,17 +46,17 @@ impl Phase<LaneCore, At> for Interrupting {
     }
 
     #[inline(always)]
-    fn make(lane: &mut LaneCore, next: &mut At) -> Orders {
+    fn make(timing: &mut InorderTimingCore, next: &mut At) -> Orders {
         *next = At::Writing;
-        lane.interrupt()
+        timing.interrupt()
     }
 }
 
-impl Phase<LaneCore, At> for Writing {
+impl Phase<InorderTimingCore, At> for Writing {
     ghost use Rattle.inorder_model.specs.declared.at.At.TheVariants.{Writing};
-    ghost use Rattle.inorder_model.specs.Standing.{lane_piped};
+    ghost use Rattle.inorder_model.specs.Standing.{inorder_piped};
 
-    ghost piped = { lane_piped };
+    ghost piped = { inorder_piped };
 
     ghost turn = { Writing };
 
@@ -65,18 +65,18 @@ impl Phase<LaneCore, At> for Writing {
     }
 
     #[inline(always)]
-    fn make(lane: &mut LaneCore, next: &mut At) -> Orders {
-        let orders = lane.write();
-        *next = at_after_write(lane);
+    fn make(timing: &mut InorderTimingCore, next: &mut At) -> Orders {
+        let orders = timing.write();
+        *next = at_after_write(timing);
         orders
     }
 }
 
-impl Phase<LaneCore, At> for Accessing {
+impl Phase<InorderTimingCore, At> for Accessing {
     ghost use Rattle.inorder_model.specs.declared.at.At.TheVariants.{Accessing};
-    ghost use Rattle.inorder_model.specs.Standing.{lane_piped};
+    ghost use Rattle.inorder_model.specs.Standing.{inorder_piped};
 
-    ghost piped = { lane_piped };
+    ghost piped = { inorder_piped };
 
     ghost turn = { Accessing };
 
@@ -85,18 +85,18 @@ impl Phase<LaneCore, At> for Accessing {
     }
 
     #[inline(always)]
-    fn make(lane: &mut LaneCore, next: &mut At) -> Orders {
+    fn make(timing: &mut InorderTimingCore, next: &mut At) -> Orders {
         *next = At::Executing;
-        lane.access();
+        timing.access();
         Orders::none()
     }
 }
 
-impl Phase<LaneCore, At> for Executing {
+impl Phase<InorderTimingCore, At> for Executing {
     ghost use Rattle.inorder_model.specs.declared.at.At.TheVariants.{Executing};
-    ghost use Rattle.inorder_model.specs.Standing.{lane_piped};
+    ghost use Rattle.inorder_model.specs.Standing.{inorder_piped};
 
-    ghost piped = { lane_piped };
+    ghost piped = { inorder_piped };
 
     ghost turn = { Executing };
 
@@ -105,17 +105,17 @@ impl Phase<LaneCore, At> for Executing {
     }
 
     #[inline(always)]
-    fn make(lane: &mut LaneCore, next: &mut At) -> Orders {
+    fn make(timing: &mut InorderTimingCore, next: &mut At) -> Orders {
         *next = At::Issuing;
-        lane.execute()
+        timing.execute()
     }
 }
 
-impl Phase<LaneCore, At> for Issuing {
+impl Phase<InorderTimingCore, At> for Issuing {
     ghost use Rattle.inorder_model.specs.declared.at.At.TheVariants.{Issuing};
-    ghost use Rattle.inorder_model.specs.Standing.{lane_piped};
+    ghost use Rattle.inorder_model.specs.Standing.{inorder_piped};
 
-    ghost piped = { lane_piped };
+    ghost piped = { inorder_piped };
 
     ghost turn = { Issuing };
 
@@ -124,18 +124,18 @@ impl Phase<LaneCore, At> for Issuing {
     }
 
     #[inline(always)]
-    fn make(lane: &mut LaneCore, next: &mut At) -> Orders {
-        let orders = lane.issue();
-        *next = at_after_issue(lane);
+    fn make(timing: &mut InorderTimingCore, next: &mut At) -> Orders {
+        let orders = timing.issue();
+        *next = at_after_issue(timing);
         orders
     }
 }
 
-impl Phase<LaneCore, At> for Ending {
+impl Phase<InorderTimingCore, At> for Ending {
     ghost use Rattle.inorder_model.specs.declared.at.At.TheVariants.{Ending};
-    ghost use Rattle.inorder_model.specs.Standing.{lane_piped};
+    ghost use Rattle.inorder_model.specs.Standing.{inorder_piped};
 
-    ghost piped = { lane_piped };
+    ghost piped = { inorder_piped };
 
     ghost turn = { Ending };
 
@@ -144,19 +144,19 @@ impl Phase<LaneCore, At> for Ending {
     }
 
     #[inline(always)]
-    fn make(lane: &mut LaneCore, next: &mut At) -> Orders {
-        lane.end_cycle();
-        *next = at_after_end(lane);
+    fn make(timing: &mut InorderTimingCore, next: &mut At) -> Orders {
+        timing.end_cycle();
+        *next = at_after_end(timing);
         Orders::none()
     }
 }
 
 /// What comes after Write: where the run has ended the other phases are left out.
-fn at_after_write(lane: &LaneCore) -> At
-    ensures at { (s : RunSetup) (l : LaneTiming) → LaneStandsFor s l lane.now
+fn at_after_write(timing: &InorderTimingCore) -> At
+    ensures at { (s : RunSetup) (l : InorderTiming) → InorderStandsFor s l timing.now
         → at_in result ≡ at_after_write l.timing }
 {
-    if lane.core.has_ended() {
+    if timing.core.has_ended() {
         At::Ending
     } else {
         At::Accessing
@@ -164,11 +164,11 @@ fn at_after_write(lane: &LaneCore) -> At
 }
 
 /// What comes after issue: a try of fetch where one may be made, else the end of the cycle.
-fn at_after_issue(lane: &LaneCore) -> At
-    ensures at { (s : RunSetup) (l : LaneTiming) → LaneStandsFor s l lane.now
+fn at_after_issue(timing: &InorderTimingCore) -> At
+    ensures at { (s : RunSetup) (l : InorderTiming) → InorderStandsFor s l timing.now
         → at_in result ≡ at_after_issue l.timing }
 {
-    if lane.may_fetch() {
+    if timing.may_fetch() {
         At::Trying
     } else {
         At::Ending
@@ -176,29 +176,29 @@ fn at_after_issue(lane: &LaneCore) -> At
 }
 
 /// What comes after the end of a cycle: the next cycle, or the last order.
-fn at_after_end(lane: &LaneCore) -> At
-    ensures at { (s : RunSetup) (l : LaneTiming) → LaneStandsFor s l lane.now
+fn at_after_end(timing: &InorderTimingCore) -> At
+    ensures at { (s : RunSetup) (l : InorderTiming) → InorderStandsFor s l timing.now
         → at_in result ≡ at_after_end l.timing }
 {
-    if lane.core.has_ended() {
+    if timing.core.has_ended() {
         At::Stopping
     } else {
         At::Interrupting
     }
 }
 
-impl Pipeline for LaneCore {
-    ghost use Rattle.inorder_model.specs.Standing.{lane_piped};
-    ghost use Rattle.inorder_model.specs.StandingLaws.{lane_laws};
+impl Pipeline for InorderTimingCore {
+    ghost use Rattle.inorder_model.specs.Standing.{inorder_piped};
+    ghost use Rattle.inorder_model.specs.StandingLaws.{inorder_laws};
 
     type At = At;
 
-    ghost piped = { lane_piped };
+    ghost piped = { inorder_piped };
 
-    ghost laws = { lane_laws };
+    ghost laws = { inorder_laws };
 
-    fn new(alloc: Global, setup: &Setup) -> Result<LaneCore, NoMemory> {
-        LaneCore::new(alloc, setup)
+    fn new(alloc: Global, setup: &Setup) -> Result<InorderTimingCore, NoMemory> {
+        InorderTimingCore::new(alloc, setup)
     }
 
     fn first() -> At {
@@ -247,7 +247,7 @@ impl Pipeline for LaneCore {
 
     #[inline(always)]
     fn fetch(&mut self, next: &mut At, entry: &Entry) -> Option<Fetched> {
-        let tried = LaneCore::fetch(self, entry);
+        let tried = InorderTimingCore::fetch(self, entry);
         *next = At::Ending;
         Some(Fetched {
             orders: tried.orders,
@@ -257,40 +257,40 @@ impl Pipeline for LaneCore {
 
     #[inline(always)]
     fn stride(&mut self, next: &mut At) -> Orders {
-        let ended = over::<LaneCore, At, Ending>(self, next);
+        let ended = over::<InorderTimingCore, At, Ending>(self, next);
         if ended.first.is_some() {
             return ended;
         }
-        let interrupted = over::<LaneCore, At, Interrupting>(self, next);
+        let interrupted = over::<InorderTimingCore, At, Interrupting>(self, next);
         if interrupted.first.is_some() {
             return interrupted;
         }
-        let written = over::<LaneCore, At, Writing>(self, next);
+        let written = over::<InorderTimingCore, At, Writing>(self, next);
         if written.first.is_some() {
             return written;
         }
-        let accessed = over::<LaneCore, At, Accessing>(self, next);
+        let accessed = over::<InorderTimingCore, At, Accessing>(self, next);
         if accessed.first.is_some() {
             return accessed;
         }
-        let executed = over::<LaneCore, At, Executing>(self, next);
+        let executed = over::<InorderTimingCore, At, Executing>(self, next);
         if executed.first.is_some() {
             return executed;
         }
-        over::<LaneCore, At, Issuing>(self, next)
+        over::<InorderTimingCore, At, Issuing>(self, next)
     }
 
     // It passes over none: nothing here looks for them.
     fn pass_idle(&mut self, _at: At) {}
 }
 
-impl Bounded for LaneCore {
-    ghost use Rattle.lane_laws.specs.Rounds.{lane_boundary_rounds};
-    ghost use Rattle.inorder_model.specs.LaneTimedLaws.{lane_splits};
+impl Bounded for InorderTimingCore {
+    ghost use Rattle.inorder_laws.specs.Rounds.{inorder_boundary_rounds};
+    ghost use Rattle.inorder_model.specs.InorderTimedLaws.{inorder_splits};
 
-    ghost rounds = { lane_boundary_rounds };
+    ghost rounds = { inorder_boundary_rounds };
 
-    ghost splits = { lane_splits };
+    ghost splits = { inorder_splits };
 
     fn most_rounds(setup: &Setup) -> u32 {
         bounds::most_rounds(setup)

@@ -5,9 +5,9 @@
 mod at;
 mod bounds;
 mod in_order;
-mod lane;
 mod split;
 mod stages;
+mod timing;
 
 pub use in_order::InorderSide;
 pub use split::InorderCore;

@@ -26,34 +26,36 @@ impl<D: Device> Model for InorderCore<D> {
     ghost use Rattle.split_core.specs.declared.state.SplitState.{SplitState};
     ghost use Rattle.split_core.specs.Standing.{IsStandingOn};
     ghost use Rattle.inorder_model.specs.Standing.{InorderState};
-    ghost use Rattle.inorder_model.specs.LaneTimed.{lane_timed};
+    ghost use Rattle.inorder_model.specs.InorderTimed.{inorder_timed};
 
     ghost Value = { SplitState D InorderState };
 
     ghost view = { λ core. core.state };
 
     ghost invariant = { λ core. core.state.is_reported ≡ false
-        → IsStandingOn lane_timed core.state };
+        → IsStandingOn inorder_timed core.state };
 }
 
 impl<D: Device> InorderCore<D> {
     ghost use Rattle.device_bus.specs.Bus.{device_order};
     ghost use Rattle.func_model.specs.Contents.{output_in};
     ghost use Rattle.split_core.specs.Events.{event_in};
-    ghost use Rattle.lane_model.specs.Split.{lane_split_start, lane_played};
-    ghost use Rattle.lane_laws.specs.Rounds.{lane_to_boundary};
-    ghost use Rattle.inorder_model.specs.Standing.{IsInorder};
-    ghost use Rattle.inorder_model.specs.Core.{LaneSplitStandsFor, LaneLeads, LaneLeadsToEnd};
-    ghost use Rattle.inorder_model.specs.Core.{TellsLaneBoundary, IsAtLaneBoundary, LaneReports};
-    ghost use Rattle.inorder_model.specs.Core.{LaneGoesBack, LaneKeeps, LaneKeepsToEnd};
+    ghost use Rattle.inorder_machine.specs.Split.{inorder_split_start, inorder_played};
+    ghost use Rattle.inorder_laws.specs.Rounds.{inorder_to_boundary};
+    ghost use Rattle.inorder_machine.specs.Setup.{IsInorder};
+    ghost use Rattle.inorder_model.specs.Core.{InorderSplitStandsFor, InorderLeads};
+    ghost use Rattle.inorder_model.specs.Core.{InorderLeadsToEnd};
+    ghost use Rattle.inorder_model.specs.Core.{TellsInorderBoundary, IsAtInorderBoundary};
+    ghost use Rattle.inorder_model.specs.Core.{InorderReports};
+    ghost use Rattle.inorder_model.specs.Core.{InorderGoesBack, InorderKeeps, InorderKeepsToEnd};
 
     /// The core at the start of a run: nothing was computed, and nothing is under way. All memory
     /// of the run is taken here; a refusal drops what it was given.
     pub fn new(alloc: Global, setup: &Setup, devices: Vec<D>) -> Result<InorderCore<D>, NoMemory>
         requires sound { IsInorder setup.now }
         requires order { map D.kind devices.items ≡ device_order }
-        ensures stands { IfOk result (λ core. LaneSplitStandsFor setup.now
-            (lane_split_start setup.now) core) }
+        ensures stands { IfOk result (λ core. InorderSplitStandsFor setup.now
+            (inorder_split_start setup.now) core) }
     {
         let state = SplitState::new(alloc, setup, devices)?;
         Ok(InorderCore { state })
@@ -62,9 +64,10 @@ impl<D: Device> InorderCore<D> {
     /// Plays events, the first in front. One that can't happen changes nothing.
     pub fn play(&mut self, events: &[Event])
         requires going { self.old.is_reported ≡ false }
-        ensures played { LaneLeads (λ s. lane_played s (map event_in events.now)) self.old
+        ensures played { InorderLeads (λ s. inorder_played s (map event_in events.now)) self.old
             self.new }
-        ensures kept { LaneKeeps (λ s. lane_played s (map event_in events.now)) self.old self.new }
+        ensures kept { InorderKeeps (λ s. inorder_played s
+            (map event_in events.now)) self.old self.new }
         ensures going { self.new.is_reported ≡ false }
     {
         self.state.play(events);
@@ -73,9 +76,9 @@ impl<D: Device> InorderCore<D> {
     /// Whether it is at a boundary: the start of a cycle, or the end of the run, with no order in
     /// hand or under way. If so, [`InorderCore::committed`] may be called, unless it was.
     pub fn at_boundary(&self) -> bool
-        ensures boundary { TellsLaneBoundary self.now result }
+        ensures boundary { TellsInorderBoundary self.now result }
         ensures here { result ≡ true → self.now.is_reported ≡ false
-            → IsAtLaneBoundary self.now }
+            → IsAtInorderBoundary self.now }
     {
         self.state.at_boundary()
     }
@@ -84,9 +87,9 @@ impl<D: Device> InorderCore<D> {
     /// out the step of the timing side where that stands at a boundary already.
     pub fn to_boundary(&mut self)
         requires going { self.old.is_reported ≡ false }
-        ensures stands { LaneLeads lane_to_boundary self.old self.new }
-        ensures kept { LaneKeeps lane_to_boundary self.old self.new }
-        ensures boundary { IsAtLaneBoundary self.new }
+        ensures stands { InorderLeads inorder_to_boundary self.old self.new }
+        ensures kept { InorderKeeps inorder_to_boundary self.old self.new }
+        ensures boundary { IsAtInorderBoundary self.new }
     {
         self.state.to_boundary();
     }
@@ -96,9 +99,9 @@ impl<D: Device> InorderCore<D> {
     /// the rounds behind it come to the end.
     pub fn to_end(&mut self)
         requires going { self.old.is_reported ≡ false }
-        ensures ended { LaneLeadsToEnd self.old self.new }
-        ensures kept { LaneKeepsToEnd self.old self.new }
-        ensures boundary { IsAtLaneBoundary self.new }
+        ensures ended { InorderLeadsToEnd self.old self.new }
+        ensures kept { InorderKeepsToEnd self.old self.new }
+        ensures boundary { IsAtInorderBoundary self.new }
     {
         self.state.play_on_demand();
         self.state.to_end();
@@ -108,9 +111,9 @@ impl<D: Device> InorderCore<D> {
     /// functional side goes back to what is committed for it and stays there; its output can still
     /// be read, and nothing can be played any more.
     pub fn committed(&mut self) -> Final
-        requires boundary { IsAtLaneBoundary self.old }
-        ensures reported { LaneReports self.old result }
-        ensures contents { LaneGoesBack self.old self.new }
+        requires boundary { IsAtInorderBoundary self.old }
+        ensures reported { InorderReports self.old result }
+        ensures contents { InorderGoesBack self.old self.new }
         ensures over { self.new.is_reported ≡ true }
     {
         self.state.committed()

@@ -4,10 +4,10 @@ ghost use Rattle.timing_side.specs.Slots.{is_done_state};
 ghost use Rattle.timing_core.specs.Finishing.{IsFirst};
 ghost use Rattle.in_flight.specs.Flight.{executes_at};
 ghost use Rattle.in_flight.specs.Snapshot.{IsSnapshot};
-ghost use Rattle.lane_model.specs.Execute.{memory_latency};
-ghost use Rattle.lane_model.specs.Issue.{is_load_class, execute_latency};
-ghost use Rattle.lane_side.specs.Timing.{done_count, in_execute};
-ghost use Rattle.lane_side.specs.Issue.{is_past_fetch};
+ghost use Rattle.inorder_machine.specs.Execute.{memory_latency};
+ghost use Rattle.inorder_machine.specs.Issue.{is_load_class, execute_latency};
+ghost use Rattle.inorder_side.specs.Timing.{done_count, in_execute};
+ghost use Rattle.inorder_side.specs.Issue.{is_past_fetch};
 ghost use Rattle.inorder_model.specs.Stages.{executing_in};
 
 use fsim_base::Class;

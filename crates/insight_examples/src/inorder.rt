@@ -9,7 +9,7 @@ ghost use Rattle.worked_examples.specs.Memory.{load_on_a_wrong_path};
 ghost use Rattle.worked_examples.specs.Traps.{speculative_misaligned_jump};
 ghost use Rattle.worked_examples.specs.Time.{timer_interrupt_between};
 ghost use Rattle.worked_examples.specs.Devices.{uart_driver};
-ghost use Rattle.lane_examples.specs.Machines.{in_order_machine, one_line_cache_in_order};
+ghost use Rattle.inorder_examples.specs.Machines.{in_order_machine, one_line_cache_in_order};
 ghost use Rattle.insight_model.specs.declared.pipeline.Pipeline.TheVariants.{Inorder};
 ghost use Rattle.insight_model.specs.declared.cycle_cause.CycleCause.TheVariants as cause;
 ghost use Rattle.insight_model.specs.declared.fetch_end.FetchEnd.TheVariants as fetch;

@@ -8,7 +8,7 @@ ghost use Rattle.worked_examples.specs.Machines.{one_line_cache};
 ghost use Rattle.worked_examples.specs.Pipeline.{backward_branch_loop};
 ghost use Rattle.worked_examples.specs.Memory.{load_on_a_wrong_path};
 ghost use Rattle.worked_examples.specs.Time.{timer_interrupt_between};
-ghost use Rattle.lane_examples.specs.Machines.{one_line_cache_in_order};
+ghost use Rattle.inorder_examples.specs.Machines.{one_line_cache_in_order};
 ghost use Rattle.insight_model.specs.declared.pipeline.Pipeline.TheVariants.{Window, Inorder};
 ghost use Rattle.insight_model.specs.Profile.{profile_text, profile_header};
 ghost use Rattle.insight_examples.specs.Rows.{loads_that_miss_profile, loop_profile};

@@ -7,7 +7,7 @@ ghost use Rattle.worked_examples.specs.Machines.{window_of_eight, one_line_cache
 ghost use Rattle.worked_examples.specs.Pipeline.{smallest_pass};
 ghost use Rattle.worked_examples.specs.Memory.{load_on_a_wrong_path};
 ghost use Rattle.worked_examples.specs.Traps.{speculative_misaligned_jump};
-ghost use Rattle.lane_examples.specs.Machines.{in_order_machine};
+ghost use Rattle.inorder_examples.specs.Machines.{in_order_machine};
 ghost use Rattle.insight_model.specs.declared.pipeline.Pipeline.TheVariants.{Window, Inorder};
 ghost use Rattle.insight_model.specs.Trace.{trace_text};
 ghost use Rattle.insight_examples.specs.Traces.{smallest_pass_trace, late_trace};

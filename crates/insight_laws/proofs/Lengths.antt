@@ -7,13 +7,13 @@ use Rattle.mono_model.specs.Final.{has_ended}
 use Rattle.mono_model.specs.Machine.{Machine, machine_start}
 use Rattle.mono_model.specs.Cycle.{mono, cycled, final}
 use Rattle.machine_laws.specs.FirstEnd.{EndsOnce}
-use Rattle.lane_model.specs.Lane.{Lane, lane_start}
-use Rattle.lane_model.specs.Cycle.{lane, lane_cycled, lane_final}
-use Rattle.lane_laws.specs.FirstEnd.{LaneEndsOnce}
+use Rattle.inorder_machine.specs.InorderMachine.{InorderMachine, inorder_start}
+use Rattle.inorder_machine.specs.Cycle.{inorder, inorder_cycled, inorder_final}
+use Rattle.inorder_laws.specs.FirstEnd.{InorderEndsOnce}
 use Rattle.insight_model.specs.declared.pipeline.Pipeline.{Pipeline}
 use Rattle.insight_model.specs.declared.pipeline.Pipeline.TheVariants.{Window, Inorder}
 use Rattle.insight_model.specs.Sight.{Sight}
-use Rattle.insight_model.specs.OfState.{sight, sights_from, lane_sight, lane_sights_from, sights}
+use Rattle.insight_model.specs.OfState.{sight, sights_from, inorder_sight, inorder_sights_from, sights}
 use Rattle.insight_model.specs.Facts.{Facts, facts_between}
 use Rattle.insight_model.specs.Head.{Known}
 use Rattle.insight_model.specs.Cycles.{cycles_from, cycles, known_start, known_after}
@@ -56,33 +56,33 @@ window_cycles s ends =
     )
 
 -- Over a run that ends once, as many cycles are told from a state on as it has left: of the in-order machine.
-lane_more : (s : Setup) (x : Sight) (n : ℕ) (m : Lane) → length (facts_between (x ∷ lane_sights_from s n m)) ≡ length (facts_between (lane_sights_from s n m)) + 1
-unfolding lane_sights_from facts_between
-lane_more s x zero m = omega arith
-lane_more s x (suc n) m = omega arith
+inorder_more : (s : Setup) (x : Sight) (n : ℕ) (m : InorderMachine) → length (facts_between (x ∷ inorder_sights_from s n m)) ≡ length (facts_between (inorder_sights_from s n m)) + 1
+unfolding inorder_sights_from facts_between
+inorder_more s x zero m = omega arith
+inorder_more s x (suc n) m = omega arith
 
-lane_next : (s : Setup) (c n k : ℕ) → LaneEndsOnce s c → k ≤ c → (suc k ≤ c → length (facts_between (lane_sights_from s n (lane s (suc k)))) + suc k ≡ c) → (b : Bool) → has_ended (lane s k).machine.end ≡ b → length (facts_between (lane_sight (lane s k) ∷ elim b [ true ↦ [] | false ↦ lane_sights_from s n (lane_cycled s (lane s k)) ])) + k ≡ c
-unfolding lane facts_between
-lane_next s c n k ends below further true e =
+inorder_next : (s : Setup) (c n k : ℕ) → InorderEndsOnce s c → k ≤ c → (suc k ≤ c → length (facts_between (inorder_sights_from s n (inorder s (suc k)))) + suc k ≡ c) → (b : Bool) → has_ended (inorder s k).machine.end ≡ b → length (facts_between (inorder_sight (inorder s k) ∷ elim b [ true ↦ [] | false ↦ inorder_sights_from s n (inorder_cycled s (inorder s k)) ])) + k ≡ c
+unfolding inorder facts_between
+inorder_next s c n k ends below further true e =
     ⊎_elim (λ same. omega (arith, same))
     (λ other. ⊎_elim (λ less. absurd (false≢true (sym (ends.first.before k less) ∙ e)))
     (λ beyond. omega (arith, below, beyond)) other) (cases_order k c)
-lane_next s c n k ends below further false e =
-    ⊎_elim (λ same. absurd (false≢true (sym e ∙ ap (λ j. has_ended (lane s j).machine.end) same ∙ ends.first.ended)))
-    (λ other. ⊎_elim (λ less. omega (arith, lane_more s (lane_sight (lane s k)) n (lane_cycled s (lane s k)), further (omega (arith, less))))
+inorder_next s c n k ends below further false e =
+    ⊎_elim (λ same. absurd (false≢true (sym e ∙ ap (λ j. has_ended (inorder s j).machine.end) same ∙ ends.first.ended)))
+    (λ other. ⊎_elim (λ less. omega (arith, inorder_more s (inorder_sight (inorder s k)) n (inorder_cycled s (inorder s k)), further (omega (arith, less))))
     (λ beyond. omega (arith, below, beyond)) other) (cases_order k c)
 
-lane_span : (s : Setup) (c : ℕ) → LaneEndsOnce s c → (n k : ℕ) → k ≤ c → c ≤ n + k → length (facts_between (lane_sights_from s n (lane s k))) + k ≡ c
-unfolding lane_sights_from facts_between
-lane_span s c ends zero k below above = omega (arith, below, above)
-lane_span s c ends (suc n) k below above =
-    lane_next s c n k ends below (λ further. lane_span s c ends n (suc k) further (omega (arith, above))) (has_ended (lane s k).machine.end) refl
+inorder_span : (s : Setup) (c : ℕ) → InorderEndsOnce s c → (n k : ℕ) → k ≤ c → c ≤ n + k → length (facts_between (inorder_sights_from s n (inorder s k))) + k ≡ c
+unfolding inorder_sights_from facts_between
+inorder_span s c ends zero k below above = omega (arith, below, above)
+inorder_span s c ends (suc n) k below above =
+    inorder_next s c n k ends below (λ further. inorder_span s c ends n (suc k) further (omega (arith, above))) (has_ended (inorder s k).machine.end) refl
 
-pub lane_cycles : (s : Setup) → LaneEndsOnce s (lane_final s s.cycles).stats.cycles → length (cycles Inorder s s.cycles) ≡ (lane_final s s.cycles).stats.cycles
-unfolding cycles sights lane
-lane_cycles s ends =
+pub inorder_cycles : (s : Setup) → InorderEndsOnce s (inorder_final s s.cycles).stats.cycles → length (cycles Inorder s s.cycles) ≡ (inorder_final s s.cycles).stats.cycles
+unfolding cycles sights inorder
+inorder_cycles s ends =
     omega (
       arith,
-      cycles_length Inorder s.params (known_start s.image.entry) (facts_between (lane_sights_from s s.cycles (lane_start s))),
-      lane_span s ((lane_final s s.cycles).stats.cycles) ends s.cycles zero (omega arith) (omega (arith, ends.within)),
+      cycles_length Inorder s.params (known_start s.image.entry) (facts_between (inorder_sights_from s s.cycles (inorder_start s))),
+      inorder_span s ((inorder_final s s.cycles).stats.cycles) ends s.cycles zero (omega arith) (omega (arith, ends.within)),
     )

@@ -4,11 +4,11 @@
 ghost use Rattle.std.specs.Prelude.{◌≡◌, ◌≤◌, length};
 ghost use Rattle.mono_model.specs.declared.setup.Setup.{Setup};
 ghost use Rattle.mono_model.specs.Cycle.{final};
-ghost use Rattle.lane_model.specs.Cycle.{lane_final};
+ghost use Rattle.inorder_machine.specs.Cycle.{inorder_final};
 ghost use Rattle.insight_model.specs.declared.pipeline.Pipeline.TheVariants.{Window, Inorder};
 ghost use Rattle.insight_model.specs.Cycles.{cycles};
 
-use lane_laws::run_in_order_ends_once;
+use inorder_laws::run_in_order_ends_once;
 use machine_laws::run_ends_once;
 
 /// As many cycles are told of a run as its report counts.
@@ -16,7 +16,7 @@ pub fn each_cycle_is_told()
     ensures window { (s : Setup) → 1 ≤ s.cycles
         → length (cycles Window s s.cycles) ≡ (final s s.cycles).stats.cycles }
     ensures inorder { (s : Setup) → 1 ≤ s.cycles
-        → length (cycles Inorder s s.cycles) ≡ (lane_final s s.cycles).stats.cycles }
+        → length (cycles Inorder s s.cycles) ≡ (inorder_final s s.cycles).stats.cycles }
 {
     run_ends_once();
     run_in_order_ends_once();

@@ -7,8 +7,8 @@ use Rattle.mono_model.specs.Result.{Result}
 use Rattle.mono_model.specs.Window as window
 use Rattle.mono_model.specs.Machine.{Machine, machine_start}
 use Rattle.mono_model.specs.Cycle.{cycled}
-use Rattle.lane_model.specs.Lane.{Lane, lane_start, done_count}
-use Rattle.lane_model.specs.Cycle.{lane_cycled}
+use Rattle.inorder_machine.specs.InorderMachine.{InorderMachine, inorder_start, done_count}
+use Rattle.inorder_machine.specs.Cycle.{inorder_cycled}
 use Rattle.insight_model.specs.declared.pipeline.Pipeline.{Pipeline}
 use Rattle.insight_model.specs.declared.pipeline.Pipeline.TheVariants.{Window, Inorder}
 use Rattle.insight_model.specs.Sight.{Outcome, Progress, waiting, executing, accessing, done, Shown, Sight}
@@ -57,27 +57,27 @@ unfoldable pub sight : Machine → Sight
 sight m = seen_with (map shown_of m.window) m
 
 -- In order, the youngest record that is done is in Memory, if that has one: it goes on in the cycle that stands there.
-abbrev pub lane_progress : Option ℕ → ℕ → window.Stage → Progress
-lane_progress (Some e) zero (window.done r) = accessing e (outcome_of r)
-lane_progress memory younger stage = progress_of stage
+abbrev pub inorder_progress : Option ℕ → ℕ → window.Stage → Progress
+inorder_progress (Some e) zero (window.done r) = accessing e (outcome_of r)
+inorder_progress memory younger stage = progress_of stage
 
-abbrev pub lane_shown : Option ℕ → List window.Record → List Shown
-lane_shown memory [] = []
-lane_shown memory (rec ∷ rest) = shown_as rec (lane_progress memory (done_count rest) rec.stage) ∷ lane_shown memory rest
+abbrev pub inorder_shown : Option ℕ → List window.Record → List Shown
+inorder_shown memory [] = []
+inorder_shown memory (rec ∷ rest) = shown_as rec (inorder_progress memory (done_count rest) rec.stage) ∷ inorder_shown memory rest
 
 -- what is seen of the in-order machine
-unfoldable pub lane_sight : Lane → Sight
-lane_sight l = seen_with (lane_shown l.memory l.machine.window) l.machine
+unfoldable pub inorder_sight : InorderMachine → Sight
+inorder_sight l = seen_with (inorder_shown l.memory l.machine.window) l.machine
 
 -- What is seen of a run, from its start to its end, or over so many cycles.
 unfoldable pub sights_from : Setup → ℕ → Machine → List Sight
 sights_from s zero m = sight m ∷ []
 sights_from s (suc more) m = sight m ∷ elim (has_ended m.end) [ true ↦ [] | false ↦ sights_from s more (cycled s m) ]
 
-unfoldable pub lane_sights_from : Setup → ℕ → Lane → List Sight
-lane_sights_from s zero l = lane_sight l ∷ []
-lane_sights_from s (suc more) l = lane_sight l ∷ elim (has_ended l.machine.end) [ true ↦ [] | false ↦ lane_sights_from s more (lane_cycled s l) ]
+unfoldable pub inorder_sights_from : Setup → ℕ → InorderMachine → List Sight
+inorder_sights_from s zero l = inorder_sight l ∷ []
+inorder_sights_from s (suc more) l = inorder_sight l ∷ elim (has_ended l.machine.end) [ true ↦ [] | false ↦ inorder_sights_from s more (inorder_cycled s l) ]
 
 unfoldable pub sights : Pipeline → Setup → ℕ → List Sight
 sights Window s cycles = sights_from s cycles (machine_start s)
-sights Inorder s cycles = lane_sights_from s cycles (lane_start s)
+sights Inorder s cycles = inorder_sights_from s cycles (inorder_start s)

@@ -5,7 +5,7 @@ use Rattle.std.specs.List.{range_with_len}
 use Rattle.mono_model.specs.declared.params.Params.{Params}
 use Rattle.mono_model.specs.declared.setup.Setup.{Setup}
 use Rattle.mono_model.specs.Report.{Text, count_line, joined, text}
-use Rattle.lane_model.specs.Cycle.{lane_text}
+use Rattle.inorder_machine.specs.Cycle.{inorder_text}
 use Rattle.insight_model.specs.declared.pipeline.Pipeline.{Pipeline}
 use Rattle.insight_model.specs.declared.pipeline.Pipeline.TheVariants.{Window, Inorder}
 use Rattle.insight_model.specs.declared.cycle_cause.CycleCause.{CycleCause}
@@ -65,7 +65,7 @@ stack_lines pipeline p run =
 -- what is written of a run: its output and report, and then the stack
 abbrev pub run_text : Pipeline → Setup → ℕ → Text
 run_text Window s most = text s most
-run_text Inorder s most = lane_text s most
+run_text Inorder s most = inorder_text s most
 
 unfoldable pub stack_text : Pipeline → Setup → ℕ → Text
 stack_text pipeline s most = run_text pipeline s most ++ joined (stack_lines pipeline s.params (cycles pipeline s most))

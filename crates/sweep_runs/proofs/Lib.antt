@@ -1,3 +1,3 @@
 pub mod Last
-pub mod LaneLast
+pub mod InorderLast
 pub mod Order

@@ -1,8 +1,8 @@
 ghost use Rattle.std.specs.Prelude.{◌≡◌, true, map, IfOk};
 ghost use Rattle.device_bus.specs.Bus.{device_order};
 ghost use Rattle.mono_model.specs.Setup.{is_setup};
-ghost use Rattle.inorder_model.specs.Standing.{IsInorder};
-ghost use Rattle.sweep_runs.specs.Sweep.{lane_last_of, last_of};
+ghost use Rattle.inorder_machine.specs.Setup.{IsInorder};
+ghost use Rattle.sweep_runs.specs.Sweep.{inorder_last_of, last_of};
 
 use device_bus::Device;
 use fsim_base::NoMemory;
@@ -36,7 +36,7 @@ pub fn play<D: Device>(alloc: Global, job: Job<D>) -> Result<Final, NoMemory>
 pub fn play_in_order<D: Device>(alloc: Global, job: Job<D>) -> Result<Final, NoMemory>
     requires sound { IsInorder job.setup }
     requires order { map D.kind job.devices.items ≡ device_order }
-    ensures last { IfOk result (λ last. last ≡ lane_last_of job.setup) }
+    ensures last { IfOk result (λ last. last ≡ inorder_last_of job.setup) }
 {
     let Job { setup, devices } = job;
     let mut core = InorderCore::new(alloc, &setup, devices)?;

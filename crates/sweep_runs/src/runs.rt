@@ -1,8 +1,8 @@
 ghost use Rattle.std.specs.Prelude.{◌≡◌, ◌≤◌, true, map, All, IfOk, Ok, vec_len};
 ghost use Rattle.device_bus.specs.Bus.{device_order};
 ghost use Rattle.mono_model.specs.Setup.{is_setup};
-ghost use Rattle.inorder_model.specs.Standing.{IsInorder};
-ghost use Rattle.sweep_runs.specs.Sweep.{lane_last_of, last_of};
+ghost use Rattle.inorder_machine.specs.Setup.{IsInorder};
+ghost use Rattle.sweep_runs.specs.Sweep.{inorder_last_of, last_of};
 
 use crate::job::{Job, play, play_in_order};
 use device_bus::Device;
@@ -49,12 +49,12 @@ pub fn sweep_in_order<R: Threads + Sync, D: Device + Send>(
     requires sound { All (λ job. IsInorder job.setup) jobs.items }
     requires order { All (λ job. map D.kind job.devices.items ≡ device_order) jobs.items }
     ensures finals { IfOk result (λ finals. finals.items
-        ≡ map (λ job. lane_last_of job.setup) jobs.items) }
+        ≡ map (λ job. inorder_last_of job.setup) jobs.items) }
 {
     let play_job = |job: Job<D>| -> Result<Final, NoMemory>
         requires sound { IsInorder job.setup }
         requires order { map D.kind job.devices.items ≡ device_order }
-        ensures last { IfOk result (λ last. last ≡ lane_last_of job.setup) }
+        ensures last { IfOk result (λ last. last ≡ inorder_last_of job.setup) }
     { play_in_order(alloc, job) };
     match map_vec(rt, jobs, &play_job) {
         Ok(played) => all_found(alloc, played.as_slice()),

@@ -1,5 +1,5 @@
 use Rattle.std.proofs.Common.{if◌then◌else◌, Bool, sym, ap, ◌∙◌}
-use Rattle.lane_model.specs.Demand.{stopping, interrupting}
+use Rattle.inorder_machine.specs.Demand.{stopping, interrupting}
 use Rattle.inorder_model.proofs.in_order.at_after_end.Goals as goal
 
 pub returns-then-has_ended : goal.returns-then-has_ended

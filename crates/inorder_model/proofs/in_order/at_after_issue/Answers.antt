@@ -1,5 +1,5 @@
 use Rattle.std.proofs.Common.{if◌then◌else◌, Bool, sym, ap, ◌∙◌}
-use Rattle.lane_model.specs.Demand.{trying, ending}
+use Rattle.inorder_machine.specs.Demand.{trying, ending}
 use Rattle.inorder_model.proofs.in_order.at_after_issue.Goals as goal
 
 pub returns-then-may_fetch : goal.returns-then-may_fetch

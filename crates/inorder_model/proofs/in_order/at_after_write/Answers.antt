@@ -1,5 +1,5 @@
 use Rattle.std.proofs.Common.{if◌then◌else◌, Bool, sym, ap, ◌∙◌}
-use Rattle.lane_model.specs.Demand.{ending, accessing}
+use Rattle.inorder_machine.specs.Demand.{ending, accessing}
 use Rattle.inorder_model.proofs.in_order.at_after_write.Goals as goal
 
 pub returns-then-has_ended : goal.returns-then-has_ended

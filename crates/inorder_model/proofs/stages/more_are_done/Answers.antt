@@ -1,6 +1,6 @@
 use Rattle.std.proofs.Common.{true, false, sym, ◌∙◌, arith}
 use Rattle.std.proofs.lemmas.Bool.{lt-ltb}
-use Rattle.lane_side.specs.Timing.{done_count}
+use Rattle.inorder_side.specs.Timing.{done_count}
 use Rattle.inorder_model.proofs.Slots.{done_next}
 use Rattle.inorder_model.proofs.stages.more_are_done.Goals as goal
 use Rattle.inorder_model.proofs.stages.more_are_done.Goals.{then-is_done+else-left-eq0, else-is_done}

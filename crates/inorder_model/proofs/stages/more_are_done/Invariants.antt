@@ -1,5 +1,5 @@
 use Rattle.std.proofs.Common.{◌≡◌, ◌+◌, drop}
-use Rattle.lane_side.specs.Timing.{done_count}
+use Rattle.inorder_side.specs.Timing.{done_count}
 use Rattle.inorder_model.proofs.stages.more_are_done.Given as goal
 
 -- those in front of the place are counted

@@ -1,4 +1,4 @@
-use Rattle.inorder_model.proofs.LaneCore.{at_boundary_inside, reports, goes_back}
+use Rattle.inorder_model.proofs.InorderTimingCore.{at_boundary_inside, reports, goes_back}
 use Rattle.inorder_model.proofs.split.InorderCore.committed.Goals as goal
 
 pub committed-requires : goal.committed-requires

@@ -1,4 +1,4 @@
-use Rattle.inorder_model.proofs.LaneCore.{starts}
+use Rattle.inorder_model.proofs.InorderTimingCore.{starts}
 use Rattle.inorder_model.proofs.split.InorderCore.new.Goals as goal
 
 pub returns : goal.returns

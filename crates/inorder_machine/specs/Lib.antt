@@ -1,0 +1,10 @@
+pub mod Setup
+pub mod InorderMachine
+pub mod Write
+pub mod Memory
+pub mod Execute
+pub mod Issue
+pub mod Fetch
+pub mod Cycle
+pub mod Demand
+pub mod Split

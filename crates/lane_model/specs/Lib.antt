@@ -1,9 +1,0 @@
-pub mod Lane
-pub mod Write
-pub mod Memory
-pub mod Execute
-pub mod Issue
-pub mod Fetch
-pub mod Cycle
-pub mod Demand
-pub mod Split
