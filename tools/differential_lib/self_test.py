@@ -3,14 +3,12 @@
 import contextlib
 import io
 import subprocess
-import sys
-import tempfile
-from collections.abc import Callable
 from pathlib import Path
+
+from shared_lib.checks import Checks, run_checks
 
 from . import command
 from .cases import draw_case
-from .faults import Fault
 from .kinds import ALL_KINDS, KINDS, usual_kinds
 from .simulators import find_reference
 
@@ -35,18 +33,12 @@ exec '{reference}' "$@"
 """
 
 
-class SelfTest:
-    """Runs the checks in a folder of its own, and keeps what went wrong."""
+class SelfTest(Checks):
+    """The checks, with the reference."""
 
     def __init__(self, folder: Path, reference: Path):
-        self.folder = folder
+        super().__init__(folder)
         self.reference = reference
-        self.faults: list[str] = []
-
-    def expect(self, what: str, got: object, wanted: object) -> None:
-        """Notes a fault where two values differ."""
-        if got != wanted:
-            self.faults.append(f"{what}: got {got!r}, and wanted {wanted!r}")
 
     def program(self, name: str, body: str) -> Path:
         """A program that stands for `fast`."""
@@ -141,21 +133,4 @@ class SelfTest:
 def self_test(reference: Path | None) -> int:
     """Runs all checks; says what went wrong."""
     program = find_reference(reference)
-    with tempfile.TemporaryDirectory() as name:
-        test = SelfTest(Path(name), program)
-        checks: list[Callable[[], None]] = [
-            test.check_cases,
-            test.check_same,
-            test.check_difference,
-            test.check_statuses,
-            test.check_kinds,
-            test.check_missing,
-        ]
-        for check in checks:
-            try:
-                check()
-            except (Fault, OSError, subprocess.TimeoutExpired) as fault:
-                test.faults.append(f"{check.__name__}: {fault}")
-    for text in test.faults:
-        print(f"differential: self-test: {text}", file=sys.stderr)
-    return 1 if test.faults else 0
+    return run_checks("differential", lambda folder: SelfTest(folder, program))

@@ -5,8 +5,8 @@ import shutil
 import subprocess
 from pathlib import Path
 
-from explore_lib.faults import Fault as ProgramFault
 from explore_lib.program import find_program
+from shared_lib.faults import Fault as ProgramFault
 
 from .faults import Fault
 

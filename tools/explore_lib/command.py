@@ -7,9 +7,10 @@ import sys
 from collections.abc import Callable
 from pathlib import Path
 
+from shared_lib.faults import Fault
+
 from .batches import MOST_IN_BATCH
 from .exploring import Exploration, Plan
-from .faults import Fault
 from .journal import Journal, Lock, Work, open_journals, other_rows
 from .space import Space
 from .space_file import read_space

@@ -4,10 +4,11 @@ import time
 from dataclasses import dataclass
 from pathlib import Path
 
+from shared_lib.faults import Fault
+from shared_lib.files import sum_of
+
 from .answers import Refusal
 from .batches import Batch, WorkFolder
-from .faults import Fault
-from .files import sum_of
 from .gnu_parallel import GnuParallel
 from .journal import Work, identity, open_journals, other_rows
 from .program import find_program

@@ -9,7 +9,8 @@ import math
 from collections.abc import Mapping
 from types import CodeType
 
-from .faults import InputFault
+from shared_lib.faults import InputFault
+
 from .keys import KEYS, Value, unknown_key
 
 FUNCTIONS = {"min": min, "max": max, "log2": math.log2, "ceil": math.ceil, "floor": math.floor}

@@ -6,8 +6,9 @@ import subprocess
 from collections.abc import Iterator
 from pathlib import Path
 
+from shared_lib.faults import Fault
+
 from .batches import Batch, WorkFolder
-from .faults import Fault
 from .workers import Workers, end_group, start_group
 
 TRIES = 3

@@ -3,7 +3,8 @@
 from collections.abc import Collection
 from pathlib import Path
 
-from .faults import InputFault
+from shared_lib.faults import InputFault
+
 from .keys import show
 
 

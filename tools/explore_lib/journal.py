@@ -14,9 +14,10 @@ from collections.abc import Collection, Mapping
 from dataclasses import asdict, dataclass
 from pathlib import Path
 
+from shared_lib.faults import Fault
+from shared_lib.files import sum_of, write_whole
+
 from .answers import Row
-from .faults import Fault
-from .files import sum_of, write_whole
 from .keys import Value
 from .machine_file import differing
 from .space import Image, Space

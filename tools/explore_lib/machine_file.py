@@ -1,10 +1,12 @@
 """Machine files: reading the base file, and writing the file of a machine."""
 
-import tomllib
 from collections.abc import Iterator, Mapping
 from pathlib import Path
 
-from .faults import InputFault
+import tomllib
+
+from shared_lib.faults import InputFault
+
 from .input_table import Table
 from .keys import DEFAULTS, KEYS, Value, show, unknown_key
 

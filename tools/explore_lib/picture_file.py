@@ -1,6 +1,7 @@
 """Reading the pictures of an input."""
 
-from .faults import InputFault
+from shared_lib.faults import InputFault
+
 from .formula import Formula
 from .input_table import Table
 from .keys import KEYS, Value, show, unknown_key

@@ -1,39 +1,24 @@
 """The pictures, by matplotlib: each as PNG and as SVG."""
 
-import sys
 from collections.abc import Callable, Iterator, Sequence
 from pathlib import Path
 from statistics import fmean
 
-from .faults import Fault
+from shared_lib.faults import Fault
+from shared_lib.plots import STYLE, matplotlib, need_matplotlib, save
+
 from .front import knee_of
 from .keys import Value
 from .space import Axis, Picture, Space
 from .table import Entry, in_front
 
-try:
-    import matplotlib
-
-    matplotlib.use("Agg")
+if matplotlib is not None:
     from matplotlib import pyplot
     from matplotlib.patches import Rectangle
     from matplotlib.ticker import FuncFormatter, LogLocator, NullLocator
-except ImportError:
-    matplotlib = None
 
 COLOURS = ["#0072B2", "#D55E00", "#009E73", "#CC79A7", "#E69F00", "#56B4E9", "#000000", "#999999"]
 MARKERS = "osD^vP*X"
-STYLE = {
-    "font.size": 9,
-    "axes.titlesize": 10,
-    "axes.spines.top": False,
-    "axes.spines.right": False,
-    "legend.frameon": False,
-    "legend.fontsize": 8,
-    "legend.title_fontsize": 8,
-    "lines.markersize": 4.5,
-    "svg.hashsalt": "explore",
-}
 MOST_TICKS = 12
 MOST_CELLS = 200
 WIDE = 8
@@ -44,11 +29,7 @@ Place = Value | float
 
 def draw(space: Space, entries: Sequence[Entry], folder: Path) -> Iterator[Path]:
     """Draws all pictures of an input, and gives their files."""
-    if matplotlib is None:
-        raise Fault(
-            f"no pictures: {sys.executable} has no matplotlib (Debian: apt-get install "
-            "python3-matplotlib, for /usr/bin/python3); the table is written"
-        )
+    need_matplotlib("the table is written")
     with matplotlib.rc_context(STYLE):
         for picture in space.pictures:
             chosen = [entry for entry in entries if is_chosen(picture, entry)]
@@ -94,15 +75,6 @@ def compared_label(space: Space, of_one: str, of_suite: str) -> str:
 def rate_label(space: Space) -> str:
     """The name of an axis of rates."""
     return compared_label(space, "instructions per cycle", "speed")
-
-
-def save(figure, path: Path) -> Iterator[Path]:
-    """Writes a picture in both forms."""
-    about = {".png": {"Software": None}, ".svg": {"Date": None}}
-    for ending, metadata in about.items():
-        figure.savefig(path.with_suffix(ending), dpi=200, bbox_inches="tight", metadata=metadata)
-        yield path.with_suffix(ending)
-    pyplot.close(figure)
 
 
 def places(axis: Axis, entries: Sequence[Entry]) -> list[Place]:

@@ -4,7 +4,7 @@ import os
 import subprocess
 from pathlib import Path
 
-from .faults import Fault
+from shared_lib.faults import Fault
 
 NOT_BUILT = 125
 

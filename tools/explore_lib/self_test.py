@@ -8,15 +8,15 @@ import re
 import shutil
 import subprocess
 import sys
-import tempfile
 import time
 from collections import Counter
-from collections.abc import Callable
 from pathlib import Path
+
+from shared_lib.checks import Checks, run_checks
+from shared_lib.faults import Fault, InputFault
 
 from . import command
 from .answers import read_answer
-from .faults import Fault, InputFault
 from .formula import Formula
 from .front import front_of, knee_of
 from .keys import DEFAULTS, KEYS, Key
@@ -105,19 +105,17 @@ WRONG = {
 }
 
 
-class SelfTest:
-    """Runs the checks in a folder of its own, and keeps what went wrong."""
+class SelfTest(Checks):
+    """The checks, and what a simulator was called for."""
 
     def __init__(self, folder: Path, program: Path):
-        self.folder = folder
+        super().__init__(folder)
         self.program = program
         self.counting = folder / "counting"
-        self.faults: list[str] = []
-
-    def expect(self, what: str, got: object, wanted: object) -> None:
-        """Notes a fault where two values differ."""
-        if got != wanted:
-            self.faults.append(f"{what}: got {got!r}, and wanted {wanted!r}")
+        self.counting.write_text(COUNTING.format(folder=folder, program=program))
+        self.counting.chmod(0o755)
+        (folder / "calls").touch()
+        self.write_input(f"{BASE}core.window = 4", "base")
 
     def write_input(self, text: str, name: str = "input") -> Path:
         """Writes an input."""
@@ -301,13 +299,13 @@ class SelfTest:
         said = self.explore(space, "changed")
         wanted = "explore: 4 rows of before aren't used, since the image changed; they are kept\n"
         self.expect("changed image", said, wanted)
-        self.check_draw_without_rows(image)
+        self.draw_without_rows(image)
         shutil.copyfile(IMAGE, image)
         self.calls()
         self.explore(space, "changed")
         self.expect("image of before: machines run", sum(self.calls().values()), 0)
 
-    def check_draw_without_rows(self, image: Path) -> None:
+    def draw_without_rows(self, image: Path) -> None:
         """`--draw` says which rows it leaves out, and leaves a table that it has no row for."""
         text = f"cycles = 500\n{SPACE.replace(str(IMAGE), str(image))}"
         space = self.write_input(text, "bounded")
@@ -359,29 +357,4 @@ def written_default(key: Key) -> str:
 def self_test(fast: Path) -> int:
     """Runs all checks; says what went wrong."""
     program = find_program(fast).absolute()
-    with tempfile.TemporaryDirectory() as name:
-        test = SelfTest(Path(name), program)
-        test.counting.write_text(COUNTING.format(folder=name, program=program))
-        test.counting.chmod(0o755)
-        (test.folder / "calls").touch()
-        test.write_input(f"{BASE}core.window = 4", "base")
-        checks: list[Callable[[], None]] = [
-            test.check_keys,
-            test.check_parts,
-            test.check_wrong_inputs,
-            test.check_grid,
-            test.check_suite,
-            test.check_refused,
-            test.check_break,
-            test.check_killed,
-            test.check_changed_image,
-            test.check_parallel,
-        ]
-        for check in checks:
-            try:
-                check()
-            except (Fault, OSError, subprocess.TimeoutExpired) as fault:
-                test.faults.append(f"{check.__name__}: {fault}")
-    for text in test.faults:
-        command.say(f"self-test: {text}")
-    return 1 if test.faults else 0
+    return run_checks("explore", lambda folder: SelfTest(folder, program))

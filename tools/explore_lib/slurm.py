@@ -7,9 +7,10 @@ from collections.abc import Iterator
 from dataclasses import asdict
 from pathlib import Path
 
+from shared_lib.faults import Fault
+
 from .answers import Row
 from .batches import PREFIX, Batch, WorkFolder
-from .faults import Fault
 from .journal import Journal, Work
 from .workers import Workers, end_group, start_group
 

@@ -5,8 +5,9 @@ from collections.abc import Mapping
 from dataclasses import replace
 from pathlib import Path
 
-from .faults import InputFault
-from .files import sum_of
+from shared_lib.faults import InputFault
+from shared_lib.files import sum_of
+
 from .formula import Formula
 from .input_table import Table
 from .keys import KEYS, Value, show

@@ -7,8 +7,9 @@ from dataclasses import dataclass
 from pathlib import Path
 from statistics import geometric_mean
 
+from shared_lib.files import write_whole
+
 from .answers import Row
-from .files import write_whole
 from .front import front_of
 from .journal import Journal, identity
 from .keys import Value

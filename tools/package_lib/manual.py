@@ -4,6 +4,8 @@ import re
 from collections.abc import Iterator
 from dataclasses import dataclass
 
+from .tools import TOOLS, Tool
+
 # What an installed program has no use for.
 LEFT_OUT = "Making the program"
 FOLDER = "/usr/share/doc/fast"
@@ -140,7 +142,8 @@ def page_of_fast(help_text: str, commands: str, version: str, date: str) -> str:
         lines += [".TP", f"\\fB{name}\\fR", inline(meaning.strip().replace("\n", " "))]
     lines += option_lines(commands.replace("./fast", "fast"))
     lines += [".SH EXAMPLES", *verbatim_lines([line.strip() for line in examples])]
-    lines += [".SH SEE ALSO", f"\\fBfast\\-explore\\fR(1), the documents in {FOLDER}"]
+    others = ", ".join(f"\\fBfast\\-{tool.name}\\fR(1)" for tool in TOOLS)
+    lines += [".SH SEE ALSO", f"{others}, the documents in {FOLDER}"]
     return "\n".join(lines) + "\n"
 
 
@@ -157,10 +160,11 @@ def option_lines(commands: str) -> Iterator[str]:
             yield from block_lines(block)
 
 
-def page_of_explore(help_text: str, version: str, date: str) -> str:
-    """fast-explore(1), of what `--help` of tools/explore writes."""
-    lines = [f'.TH FAST\\-EXPLORE 1 {date} "fast {version}" "User Commands"', ".SH NAME"]
-    lines += ["fast\\-explore \\- runs a program on each machine of a space", ".SH SYNOPSIS"]
+def page_of_tool(tool: Tool, help_text: str, version: str, date: str) -> str:
+    """The page of a tool, of what `--help` of it writes."""
+    name = f"fast\\-{tool.name}"
+    lines = [f'.TH {name.upper()} 1 {date} "fast {version}" "User Commands"', ".SH NAME"]
+    lines += [f"{name} \\- {tool.about}", ".SH SYNOPSIS"]
     lines += verbatim_lines(help_text.strip("\n").split("\n"))
-    lines += [".SH SEE ALSO", f"\\fBfast\\fR(1), {FOLDER}/docs/EXPLORE.md"]
+    lines += [".SH SEE ALSO", f"\\fBfast\\fR(1), {FOLDER}/docs/{tool.document}"]
     return "\n".join(lines) + "\n"

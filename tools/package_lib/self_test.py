@@ -1,9 +1,14 @@
 """The test of this program. Silent where it passes."""
 
+import subprocess
 import sys
+import tempfile
+from collections.abc import Iterator
+from pathlib import Path
 
-from .manual import blocks_of, block_lines, inline, page_of_fast
-from .tree import REPOSITORY, START
+from .manual import block_lines, blocks_of, inline, page_of_fast
+from .tools import TOOLS
+from .tree import REPOSITORY, START, Tree, put_tools
 
 INLINE = {
     "a `--word` of [text](OTHER.md#part)": r"a \fB\-\-word\fR of text",
@@ -64,6 +69,18 @@ def self_test() -> int:
     for part in ".SH NAME", ".SH OPTIONS", ".SH FILES", ".SS Exit statuses", ".SH EXAMPLES":
         if f"\n{part}\n" not in page:
             faults.append(f"fast(1) lacks {part!r}")
+    faults.extend(faults_of_tools())
     for fault in faults:
         print(f"package: {fault}", file=sys.stderr)
     return 1 if faults else 0
+
+
+def faults_of_tools() -> Iterator[str]:
+    """Tools that don't start from where the package has them."""
+    with tempfile.TemporaryDirectory() as folder:
+        put_tools(Tree(Path(folder)))
+        for tool in TOOLS:
+            words = [sys.executable, f"{folder}/usr/share/fast/tools/{tool.name}", "--help"]
+            done = subprocess.run(words, capture_output=True, text=True, check=False)
+            if done.returncode != 0:
+                yield f"{tool.name} doesn't start: {done.stderr.strip().splitlines()[-1]}"

@@ -11,7 +11,8 @@ from email.utils import formatdate
 from pathlib import Path
 from time import gmtime, strftime
 
-from .manual import page_of_explore, page_of_fast
+from .manual import page_of_fast, page_of_tool
+from .tools import LIBRARIES, TOOLS, Tool
 
 REPOSITORY = Path(__file__).resolve().parent.parent.parent
 START = REPOSITORY / "tools" / "start"
@@ -88,7 +89,7 @@ def tracked(folder: str) -> list[Path]:
 def lay_out(tree: Tree, program: Path, release: Release) -> None:
     """Lays out all that the package holds."""
     put_program(tree, program, release)
-    put_explore(tree)
+    put_tools(tree)
     put_documents(tree, release)
     put_manual(tree, release)
     put_control(tree, program, release)
@@ -105,12 +106,14 @@ def put_program(tree: Tree, program: Path, release: Release) -> None:
     tree.write("usr/share/fast/version", release.about.encode())
 
 
-def put_explore(tree: Tree) -> None:
-    """tools/explore, in a folder that looks to it as the repository does."""
-    tree.copy(REPOSITORY / "tools" / "explore", "usr/share/fast/tools/explore", 0o755)
-    for path in tracked("tools/explore_lib"):
-        tree.copy(path, f"usr/share/fast/tools/explore_lib/{path.name}")
-    tree.link("usr/bin/fast-explore", "../share/fast/tools/explore")
+def put_tools(tree: Tree) -> None:
+    """The tools, in a folder that looks to them as the repository does."""
+    for tool in TOOLS:
+        tree.copy(path_of(tool), f"usr/share/fast/tools/{tool.name}", 0o755)
+        tree.link(f"usr/bin/fast-{tool.name}", f"../share/fast/tools/{tool.name}")
+    for library in LIBRARIES:
+        for path in tracked(f"tools/{library}"):
+            tree.copy(path, f"usr/share/fast/{path.relative_to(REPOSITORY)}")
     tree.link("usr/share/fast/fast", "../../libexec/fast/fast")
     for name in "docs", "examples":
         tree.link(f"usr/share/fast/{name}", f"../doc/fast/{name}")
@@ -139,10 +142,17 @@ def put_manual(tree: Tree, release: Release) -> None:
     commands = (REPOSITORY / "docs" / "COMMANDS.md").read_text()
     page = page_of_fast(help_text, commands, release.version, release.day)
     tree.pack(f"{folder}/fast.1", page)
-    words = [sys.executable, str(REPOSITORY / "tools" / "explore"), "--help"]
-    said = subprocess.run(words, capture_output=True, text=True, check=True).stdout
-    said = said.replace("usage: explore", "usage: fast-explore")
-    tree.pack(f"{folder}/fast-explore.1", page_of_explore(said, release.version, release.day))
+    for tool in TOOLS:
+        words = [sys.executable, str(path_of(tool)), "--help"]
+        said = subprocess.run(words, capture_output=True, text=True, check=True).stdout
+        said = said.replace(f"usage: {tool.name}", f"usage: fast-{tool.name}")
+        page = page_of_tool(tool, said, release.version, release.day)
+        tree.pack(f"{folder}/fast-{tool.name}.1", page)
+
+
+def path_of(tool: Tool) -> Path:
+    """A tool in the repository."""
+    return REPOSITORY / "tools" / tool.name
 
 
 def libc_of(program: Path) -> str:

@@ -1,0 +1,18 @@
+"""The Python programs that the package has beside the simulator."""
+
+from dataclasses import dataclass
+
+
+@dataclass(frozen=True)
+class Tool:
+    """A program of tools/, which is installed as `fast-NAME`, and the document that tells of it."""
+
+    name: str
+    about: str
+    document: str
+
+
+TOOLS = (
+    Tool("explore", "runs a program on each machine of a space", "EXPLORE.md"),
+)
+LIBRARIES = ("explore_lib", "shared_lib")
