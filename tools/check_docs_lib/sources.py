@@ -29,6 +29,7 @@ BODY = re.compile(
 )
 OWNER = re.compile(r"[<: ].*", re.DOTALL)
 MEMBER = re.compile(r"^    (?:pub(?:\(\w+\))? )?(?:(?:const|final) )*(?:fn )?(\w+)", re.M)
+LIBRARY = re.compile(r"^from (\w+_lib)\.", re.M)
 OPTION = re.compile(r"(?<![\w-])--?[a-z][a-z-]*")
 
 
@@ -110,9 +111,12 @@ def listed(repository: Path) -> list[str]:
 
 
 def tool_text(repository: Path, file: str) -> str:
-    """The text of a tool, with that of its parts."""
-    parts = sorted((repository / f"{file}_lib").glob("*.py"))
-    return "\n".join(path.read_text() for path in (repository / file, *parts))
+    """The text of a tool, with that of the library that it starts from."""
+    text = (repository / file).read_text()
+    for library in LIBRARY.findall(text):
+        for path in sorted((repository / "tools" / library).glob("*.py")):
+            text += f"\n{path.read_text()}"
+    return text
 
 
 def names_of(repository: Path, files: Iterable[str]) -> frozenset[str]:
