@@ -1,0 +1,6 @@
+"""Shows what each cycle of a run was spent on.
+
+`tools/pipeline` reads a trace (`trace`) and the functions of its image (`elf`), and writes them
+with the files of `page/` as one HTML page (`page`). Its test uses the page in a browser
+(`browser`).
+"""
