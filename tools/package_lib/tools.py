@@ -15,5 +15,6 @@ class Tool:
 TOOLS = (
     Tool("explore", "runs a program on each machine of a space", "EXPLORE.md"),
     Tool("pipeline", "shows a pipeline trace as one HTML page", "INSIGHT.md"),
+    Tool("profile", "shows where the cycles of a run went", "INSIGHT.md"),
 )
 LIBRARIES = ("explore_lib", "insight_lib", "shared_lib")

@@ -180,7 +180,8 @@ Description: cycle-accurate simulator of a small RISC-V computer
  It runs an ELF image for RV32I with M, Zicsr and Zifencei in machine mode,
  with or without a pipeline, and writes what the program prints, how it ends,
  cycles, predictions and misses. The source is proved against a definition of
- the machine. fast-explore runs an image on hundreds of machines.
+ the machine. fast-explore runs an image on hundreds of machines, fast-pipeline
+ and fast-profile show where cycles went.
 """
     tree.write("DEBIAN/control", control.encode())
     sums = [
