@@ -7,7 +7,8 @@ What the document says of a run:
 - its lines: of a transcript, whose commands begin with `$`, all lines up to the next command; else
   those after an empty line in the same block, or a block after a paragraph that begins `It prints`;
 - lines of its report, in the paragraph after its block, as `status: pass`;
-- its exit status, by the line of the status: 0 if there is none, and 5 of `sweep` and `back`.
+- its exit status, by the line of the status: 0 if there is none, and 5 of `sweep` and `back`. If
+  the program writes into `head`, which may end first, it may also be 15.
 """
 
 import re
@@ -24,6 +25,8 @@ from .spans import PLACEHOLDER
 STATUSES = {"pass": 0, "fail": 1, "limit": 2, "output": 3, "running": 4}
 SHOWN = ("sweep", "back")
 SHOWN_STATUS = 5
+CUT_OFF_STATUS = 15
+CUT_OFF = re.compile(r"\./fast [^|]*\| *head(?: |$)")
 LINE_OF_REPORT = re.compile(r"`([a-z0-9]+: [^`]*)`")
 STARTED = re.compile(r"(?:\$ )?(?:(?:[^|]*[^|\s] +\| +)?\./fast|examples/\S+\.sh)(?: |$)")
 MADE_BY_SCRIPT = {"--prove", "--help", "--version", "help"}
@@ -65,6 +68,11 @@ class Command:
             if found := re.match(r"status: (\w+)", line):
                 return STATUSES[found[1]]
         return 0
+
+    @property
+    def statuses(self) -> set[int]:
+        """The exit statuses with which the program may end."""
+        return {self.status, CUT_OFF_STATUS} if CUT_OFF.search(self.text) else {self.status}
 
 
 def faults_of(document: Document, repository: Path, program: Path) -> Iterator[tuple[Found, str]]:
@@ -133,7 +141,7 @@ def faults_of_run(command: Command, repository: Path, program: Path) -> Iterator
             return
         statuses = Path(folder, "statuses")
         ended = {int(word) for word in statuses.read_text().split()} if statuses.exists() else set()
-    if ended and ended != {command.status}:
+    if not ended <= command.statuses:
         yield f"ends with status {sorted(ended)}, and not {command.status}"
     elif not ended and run.returncode != 0:
         yield f"ends with status {run.returncode}, and not 0"

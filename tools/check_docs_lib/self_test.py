@@ -90,11 +90,14 @@ RUNS = {
     "    $ ./fast run x\n    said run x\n    status: fail 3\n": [],
     "    ./fast run x\n\nIt ends as `status: fail 3`.\n": [],
     "    ./fast run x | cat\n": ["ends with status [1], and not 0"],
+    "    ./fast cut x | cat\n": ["ends with status [15], and not 0"],
+    "    ./fast cut x | head -n 1\n": [],
     "    ./fast run x\n\n    said more\n    status: fail 3\n": ["prints no line 'said more'"],
 }
 PROGRAM = """#!/bin/sh
 echo "said $*"
 echo "status: fail 3"
+[ "$1" = cut ] && exit 15
 exit 1
 """
 
