@@ -5,3 +5,4 @@ pub mod Sink
 pub mod Plan
 pub mod Memory
 pub mod Host
+pub mod Source

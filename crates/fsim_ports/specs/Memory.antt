@@ -1,5 +1,5 @@
--- Files and a sink in memory.
-use Rattle.std.specs.Prelude.{ℕ, ◌-◌, Bool, ◌&&◌, ◌||◌, List, [], ◌∷◌, ◌++◌, length, is_some}
+-- Files, a sink and a source in memory.
+use Rattle.std.specs.Prelude.{ℕ, ◌-◌, max, Bool, ◌&&◌, ◌||◌, List, [], ◌∷◌, ◌++◌, length, is_some}
 use Rattle.std.specs.Prelude.{nat_lt, if◌then◌else◌}
 use Rattle.fsim_ports.specs.Files.{Names, lookup}
 use Rattle.fsim_ports.specs.Plan.{Plan, empty_plan, is_to_fail, called, faulted}
@@ -41,3 +41,14 @@ after_put sink piece =
     if put_fails sink piece
     then record sink { plan = faulted (called sink.plan) }
     else record sink { bytes = sink.bytes ++ piece; plan = called sink.plan }
+
+-- the bytes, how many of them were read, how many a read gives at most, and which calls are to fail
+pub record SourceInMemory : Type 0 where
+  pub bytes : List ℕ
+  pub place : ℕ
+  pub piece : ℕ
+  pub plan : Plan
+
+abbrev pub opening_source : List ℕ → ℕ → SourceInMemory
+opening_source bytes piece =
+    record { bytes = bytes; place = 0; piece = max piece 1; plan = empty_plan }
