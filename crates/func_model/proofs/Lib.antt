@@ -7,11 +7,13 @@ pub mod Concluded
 pub mod Counts
 pub mod Effects
 pub mod Evaluated
+pub mod Executing
 pub mod Fetching
 pub mod Going
 pub mod GoingOn
 pub mod Leading
 pub mod Loads
+pub mod Seeing
 pub mod Made
 pub mod Outputs
 pub mod Path

@@ -42,7 +42,7 @@ running end.Limit is = cc
 running end.OutputFull is = cc
 running end.Running is = refl
 
-place_running : (s : Setup) (made : ℕ) (e : End) → IsPlace s made e → has_ended e ≡ false → IsPlace s made end.Running
+pub place_running : (s : Setup) (made : ℕ) (e : End) → IsPlace s made e → has_ended e ≡ false → IsPlace s made end.Running
 place_running s made e place going = let P : End → Type 0 = λ x. IsPlace s made x in subst P (running e going) place
 
 -- what a step needs

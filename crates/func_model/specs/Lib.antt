@@ -8,3 +8,5 @@ pub mod History
 pub mod Walk
 pub mod Trail
 pub mod Side
+pub mod Position
+pub mod Told

@@ -188,7 +188,7 @@ impl<D: Device> Contents<D> {
     }
 
     /// Takes a pending timer interrupt, and gives what takes it back, where one was taken.
-    fn take_interrupt(&mut self, time: u64) -> Option<Interrupted>
+    pub fn take_interrupt(&mut self, time: u64) -> Option<Interrupted>
         ensures stands { (s : Setup) (a : Arch) → ContentsStandFor s a self.old
             → ContentsStandFor s (before time a) self.new }
         ensures pending { (s : Setup) (a : Arch) → ContentsStandFor s a self.old

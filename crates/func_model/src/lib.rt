@@ -6,12 +6,16 @@
 mod contents;
 mod found;
 mod hart;
+mod looking;
 mod memory;
 mod performed;
 mod side;
 mod take_back;
+mod told;
 mod trail;
 mod walk;
 
+pub use looking::Ahead;
 pub use side::{Arch, FuncSide};
+pub use told::{Executed, ToldRun};
 pub use trail::Trail;

@@ -13,7 +13,7 @@ use mono_model::{End, Setup, end_of};
 use std::alloc::Global;
 
 /// Whether a run that stands so has ended.
-fn has_ended(end: End) -> bool
+pub fn has_ended(end: End) -> bool
     ensures ended { result ≡ has_ended end }
 {
     !matches!(end, End::Running)
@@ -21,7 +21,7 @@ fn has_ended(end: End) -> bool
 
 /// How a run alone stands behind a step: the program ended it, or the step was the last one, or it
 /// goes on.
-fn end_behind(halt: Option<Halt>, is_last: bool) -> End
+pub(crate) fn end_behind(halt: Option<Halt>, is_last: bool) -> End
     ensures end { result ≡ end_by halt is_last }
 {
     match halt {
