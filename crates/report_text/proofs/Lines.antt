@@ -33,6 +33,11 @@ line_breaks lines i text {before} {middle} {after} {old} {mid} {new} inside is l
     let front : Breaks (joined (take (i + 1) lines)) before after old new = subst P (sym (joined-take lines i text inside is)) here in
     subst P (joined-split lines (i + 1)) (breaks_first (joined (drop (i + 1) lines)) (omega arith) front)
 
+-- the first `done` lines were written
+pub record WritesLines (lines : List (List ℕ)) (done before now : ℕ) (old new : Option (List ℕ)) : Type 0 where
+  pub count : before ≤ now
+  pub written : new ≡ grown old (joined (take done lines))
+
 -- whether a text ends open is seen at its last byte
 open_at : (byte : ℕ) → not (nat_eq byte 10) ≡ (if byte == 10 then false else true)
 open_at byte = elim (nat_eq byte 10) as (λ b. not b ≡ (if b then false else true)) [ true ↦ refl | false ↦ refl ]

@@ -13,7 +13,7 @@ use Rattle.report_text.specs.declared.status.Status.TheVariants.{Pass, Fail, Lim
 use Rattle.report_text.specs.declared.status.Status.TheVariants.{Running, Shown, Usage, Image}
 use Rattle.report_text.specs.declared.status.Status.TheVariants.{Machine, Missing, ReadFault}
 use Rattle.report_text.specs.declared.status.Status.TheVariants.{WriteFault, Memory, TooLong}
-use Rattle.report_text.specs.declared.status.Status.TheVariants.{BadPlan, BadScript, Sets}
+use Rattle.report_text.specs.declared.status.Status.TheVariants.{BadPlan, BadScript, Sets, TooMuchText}
 
 -- the exit status
 abbrev pub status_number : Status → ℕ
@@ -34,6 +34,7 @@ status_number (TooLong role limit) = 17
 status_number (BadPlan place) = 18
 status_number (BadScript line) = 21
 status_number (Sets named) = 22
+status_number (TooMuchText pages) = 23
 
 -- what is wrong with an image or a machine file has a line; want of memory is an answer of its own
 -- and no fault of theirs
@@ -64,6 +65,7 @@ role_text role.Machine = codes "machine"
 role_text role.Plan = codes "plan"
 role_text role.Input = codes "input"
 role_text role.Script = codes "script"
+role_text role.Packets = codes "packets"
 
 abbrev pub image_fault_text : ImageFault → List ℕ
 image_fault_text image.Short = codes "short"
@@ -95,8 +97,8 @@ machine_fault_text machine.Memory = []
 unfoldable pub usage_text : List ℕ
 usage_text =
     codes "fast: usage: fast func IMAGE, run IMAGE MACHINE, sched IMAGE MACHINE PLAN, "
-    ++ codes "soak SEED, back IMAGE SCRIPT, inorder IMAGE MACHINE PLAN, sweep IMAGE MACHINES"
-    ++ line_feed
+    ++ codes "soak SEED, back IMAGE SCRIPT, inorder IMAGE MACHINE PLAN, sweep IMAGE MACHINES, "
+    ++ codes "count IMAGE, gdb IMAGE" ++ line_feed
 
 -- the line of an answer that has one
 unfoldable pub fault_text : Status → List ℕ
@@ -111,4 +113,5 @@ fault_text (TooLong role limit) =
 fault_text (BadPlan place) = codes "fast: bad plan: " ++ decimal place ++ line_feed
 fault_text (BadScript line) = codes "fast: bad script: " ++ decimal line ++ line_feed
 fault_text (Sets named) = codes "fast: sets: " ++ decimal named ++ line_feed
+fault_text (TooMuchText pages) = codes "fast: too much text: " ++ decimal pages ++ line_feed
 fault_text status = []

@@ -3,3 +3,4 @@ pub mod FaultText
 pub mod FuncText
 pub mod SweepText
 pub mod DebugText
+pub mod RowText

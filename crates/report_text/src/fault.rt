@@ -29,6 +29,7 @@ fn role_head(head: &[u8], role: Role) -> Line
         Role::Plan => line.bytes(b"plan"),
         Role::Input => line.bytes(b"input"),
         Role::Script => line.bytes(b"script"),
+        Role::Packets => line.bytes(b"packets"),
     }
     line
 }
@@ -221,7 +222,8 @@ fn usage_line<K: Sink>(sink: &mut K) -> Result<(), WriteFault>
 {
     put_piece(
         b"fast: usage: fast func IMAGE, run IMAGE MACHINE, sched IMAGE MACHINE PLAN, \
-          soak SEED, back IMAGE SCRIPT, inorder IMAGE MACHINE PLAN, sweep IMAGE MACHINES\n",
+          soak SEED, back IMAGE SCRIPT, inorder IMAGE MACHINE PLAN, sweep IMAGE MACHINES, \
+          count IMAGE, gdb IMAGE\n",
         sink,
     )
 }
@@ -251,6 +253,9 @@ pub fn fault_line<K: Sink>(status: &Status, sink: &mut K) -> Result<(), WriteFau
         Status::BadPlan(place) => put_count(b"fast: bad plan: ", *place, sink),
         Status::BadScript(line) => put_count(b"fast: bad script: ", *line, sink),
         Status::Sets(named) => put_count(b"fast: sets: ", *named, sink),
+        Status::TooMuchText(pages) => {
+            put_count(b"fast: too much text: ", u64::from(*pages), sink)
+        }
         Status::Pass
         | Status::Fail(_)
         | Status::Limit

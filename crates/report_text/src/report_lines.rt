@@ -12,7 +12,7 @@ use mono_model::{End, Final};
 
 /// Appends how a run ended.
 pub fn end_words(line: &mut Line, end: End)
-    requires room { length line.old ≤ 40 }
+    requires room { length line.old ≤ 120 }
     ensures text { line.new ≡ line.old ++ status_text end }
     ensures len { length line.new ≤ length line.old + 25 }
 {

@@ -9,6 +9,8 @@ pub enum Role {
     Plan,
     Input,
     Script,
+    /// What a debugger writes on standard input.
+    Packets,
 }
 
 /// How the program answers; `number` is its exit status.
@@ -24,7 +26,7 @@ pub enum Status {
     OutputFull,
     /// The plan has left the run at a cycle where it has not ended.
     Running,
-    /// The whole answer to a debugger's script or to a sweep was written.
+    /// The whole answer to a debugger or to a sweep was written.
     Shown,
     /// The words are no command line.
     Usage,
@@ -48,6 +50,8 @@ pub enum Status {
     BadScript(u64),
     /// A sweep names this many machine files, and fewer sets of devices were handed in.
     Sets(u64),
+    /// So many pages hold text, and there is room for the rows of fewer.
+    TooMuchText(u32),
 }
 
 impl Status {
@@ -76,6 +80,7 @@ impl Status {
             Status::BadPlan(_) => 18,
             Status::BadScript(_) => 21,
             Status::Sets(_) => 22,
+            Status::TooMuchText(_) => 23,
         }
     }
 }

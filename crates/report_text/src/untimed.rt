@@ -13,7 +13,7 @@ use machine_csr::Csrs;
 use mono_model::Final;
 
 /// Whether the output isn't empty and doesn't end in a line feed.
-fn ends_open(output: &[u8]) -> bool
+pub fn ends_open(output: &[u8]) -> bool
     ensures open { result ≡ ends_open output.now }
 {
     !output.is_empty() && output[output.len() - 1] != b'\n'
