@@ -1,0 +1,9 @@
+pub mod Amounts
+pub mod Noted
+pub mod Runs
+pub mod Listed
+pub mod Counted
+pub mod Addresses
+pub mod Counting
+pub mod Written
+pub mod ColumnSums

@@ -1,0 +1,4 @@
+pub mod Reached
+pub mod Pages
+pub mod Rising
+pub mod Memory

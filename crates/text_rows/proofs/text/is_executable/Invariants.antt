@@ -1,0 +1,7 @@
+use Rattle.std.proofs.Common.{◌≡◌, false, take}
+use Rattle.std.specs.List.{list_any}
+use Rattle.text_rows.proofs.Reached.{has_exec}
+use Rattle.text_rows.proofs.text.is_executable.Given as goal
+
+abbrev pub invariant-loop-segment : goal.invariant-loop-segment
+invariant-loop-segment l = list_any (has_exec l.addr) (take l.segment-index l.image.segments) ≡ false
