@@ -36,7 +36,7 @@ pub enum RunTo {
 /// A debugger. It stands for a setup, and a position: how many steps of its run are made.
 #[derive(Drop)]
 pub struct Debugger<D: Device> {
-    trail: Trail<D>,
+    pub(crate) trail: Trail<D>,
 }
 
 impl<D: Device> Model for Debugger<D> {
@@ -56,7 +56,7 @@ impl<D: Device> Debugger<D> {
     ghost use Rattle.mono_model.specs.Setup.{is_setup};
     ghost use Rattle.func_model.specs.History.{walk};
     ghost use Rattle.func_model.specs.Side.{registers_at};
-    ghost use Rattle.func_model.specs.Trail.{TrailStandsFor, IsOpening, IsTold, IsBack};
+    ghost use Rattle.func_model.specs.Trail.{TrailStandsFor, IsOnTrail, IsOpening, IsTold, IsBack};
     ghost use Rattle.back_debug.specs.Debugger.{ended_in, has_moved, IsRunTo};
 
     /// A debugger at the start of a run, which can go back over so many steps. It takes all its
@@ -77,10 +77,11 @@ impl<D: Device> Debugger<D> {
     }
 
     /// Makes one step; Ended, and nothing changed, exactly where the run has none behind the
-    /// position.
+    /// position. A debugger always stands for some run, so its steps come to an end.
     pub fn step(&mut self) -> Stepped
         ensures told { (s : RunSetup) → TrailStandsFor s self.old
             → IsTold s self.old self.new (ended_in result) }
+        ensures run { IsOnTrail self.old }
     {
         match self.trail.step() {
             None => Stepped::Moved,

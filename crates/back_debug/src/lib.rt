@@ -4,6 +4,7 @@
 #![tactic(auto)]
 
 mod debugger;
+mod looking;
 mod script;
 mod session;
 

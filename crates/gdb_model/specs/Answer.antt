@@ -35,12 +35,10 @@ abbrev pub end_line : Text → End → Text
 end_line output end =
     (if ends_open output then line_feed else []) ++ codes "fast: " ++ status_text end ++ line_feed
 
-abbrev pub end_text : Setup → Stopped → Text
-end_text s stopped = by_reason stopped.reason
-  where
-    by_reason : Reason → Text
-    by_reason (ended end) = shown_text (end_line (walk s stopped.at).output end)
-    by_reason reason = []
+-- the same to GDB, if that is why a run stops
+abbrev pub end_text : Text → Reason → Text
+end_text output (ended end) = shown_text (end_line output end)
+end_text output reason = []
 
 -- the reply of a stop
 abbrev pub stop_reply : Reason → Text
@@ -51,8 +49,8 @@ stop_reply (watch byte) = codes "T05watch:" ++ digits 16 false byte ++ codes ";"
 
 abbrev pub forth_text : Setup → Session → Stopped → Text
 forth_text s session stopped =
-    shown_text (new_output s session stopped.at) ++ end_text s stopped
-    ++ frame (stop_reply stopped.reason)
+    shown_text (new_output s session stopped.at)
+    ++ end_text (walk s stopped.at).output stopped.reason ++ frame (stop_reply stopped.reason)
 
 abbrev pub back_text : Stopped → Text
 back_text stopped = frame (stop_reply stopped.reason)

@@ -4,7 +4,7 @@
 use Rattle.std.specs.Prelude.{ℕ, suc, List, [], ◌∷◌, ◌++◌, codes, decimal}
 use Rattle.std.specs.List.{flat_map}
 use Rattle.mono_model.specs.Report.{Text, line_feed}
-use Rattle.gdb_model.specs.Position.{csr_number}
+use Rattle.gdb_model.specs.Registers.{csr_number}
 
 -- a register: its number, its name, and what GDB takes its value for
 pub record Described : Type 0 where

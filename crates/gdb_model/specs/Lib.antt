@@ -1,4 +1,4 @@
-pub mod Position
+pub mod Registers
 pub mod Session
 pub mod Stops
 pub mod Description

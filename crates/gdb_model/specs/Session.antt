@@ -10,7 +10,7 @@ use Rattle.gdb_packets.specs.declared.packet.Point.{Point}
 use Rattle.gdb_packets.specs.declared.packet.PointKind.{PointKind}
 use Rattle.gdb_packets.specs.declared.packet.PointKind.TheVariants.{Software, Hardware, Written}
 use Rattle.gdb_packets.specs.declared.packet.PointKind.TheVariants.{Read, Accessed}
-use Rattle.gdb_model.specs.Position.{next_address, reach}
+use Rattle.func_model.specs.Position.{next_address, reach}
 
 pub record Session : Type 0 where
   -- the position, and the oldest that can be gone back to

@@ -7,7 +7,7 @@ use Rattle.mono_model.specs.declared.final_state.End.{End}
 use Rattle.mono_model.specs.declared.setup.Setup.{Setup}
 use Rattle.func_model.specs.History.{end_at, walk}
 use Rattle.back_debug.specs.Debugger.{floors}
-use Rattle.gdb_model.specs.Position.{next_address}
+use Rattle.func_model.specs.Position.{next_address}
 use Rattle.gdb_model.specs.Session.{Session, halts, watched}
 
 -- the addresses within which a run goes on: all, none, or those from one to below another

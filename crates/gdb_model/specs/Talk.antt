@@ -23,7 +23,8 @@ use Rattle.gdb_packets.specs.declared.packet.Packet.TheVariants as packet
 use Rattle.gdb_packets.specs.declared.packet.Point.{Point}
 use Rattle.gdb_packets.specs.declared.packet.PointKind.{PointKind}
 use Rattle.gdb_packets.specs.declared.packet.PointKind.TheVariants as kind
-use Rattle.gdb_model.specs.Position.{byte_at, register_at}
+use Rattle.func_model.specs.Position.{byte_at}
+use Rattle.gdb_model.specs.Registers.{register_at}
 use Rattle.gdb_model.specs.Session.{Session, start_session}
 use Rattle.gdb_model.specs.Stops.{Range, Stopped, all, back, forth, moved_to, none, within}
 use Rattle.gdb_model.specs.Description.{description}
@@ -54,7 +55,7 @@ features =
 
 -- registers
 
-abbrev little_or_bad : Option ℕ → Text
+abbrev pub little_or_bad : Option ℕ → Text
 little_or_bad None = bad
 little_or_bad (Some value) = little value
 
@@ -63,9 +64,13 @@ abbrev pub registers_text : Setup → ℕ → Text
 registers_text s at =
     flat_map (λ number. little (unwrap_or (register_at s at number) 0)) (range_with_len 0 33)
 
-abbrev has_bytes : List ℕ → Option ℕ → Bool
+-- the bytes of a value, the lowest first
+abbrev pub are_bytes_of : ℕ → List ℕ → Bool
+are_bytes_of value bytes = bytes_eq bytes (to_le_bytes w32 value)
+
+abbrev pub has_bytes : List ℕ → Option ℕ → Bool
 has_bytes bytes None = false
-has_bytes bytes (Some value) = bytes_eq bytes (to_le_bytes w32 value)
+has_bytes bytes (Some value) = are_bytes_of value bytes
 
 -- memory
 
@@ -82,7 +87,7 @@ bytes_from s at addr count = known (map (byte_at s at) (range_with_len addr coun
     known (None ∷ rest) = []
     known (Some byte ∷ rest) = byte ∷ known rest
 
-abbrev hex_or_bad : List ℕ → Text
+abbrev pub hex_or_bad : List ℕ → Text
 hex_or_bad [] = bad
 hex_or_bad (byte ∷ bytes) = encode_lower (byte ∷ bytes)
 
@@ -96,7 +101,7 @@ has_memory s at addr count bytes =
 
 -- points
 
-abbrev kind_number : PointKind → ℕ
+abbrev pub kind_number : PointKind → ℕ
 kind_number kind.Software = 0
 kind_number kind.Hardware = 1
 kind_number kind.Written = 2
@@ -145,7 +150,7 @@ position_in word =
     && nat_lt (digits_value 10 word) (2 ^ 64)
     then Some (digits_value 10 word) else None
 
-abbrev end_or_running : Option End → End
+abbrev pub end_or_running : Option End → End
 end_or_running None = Running
 end_or_running (Some end) = end
 
@@ -162,11 +167,11 @@ usage_line = codes "monitor where, output, stop, stop N" ++ line_feed
 abbrev pub told : Session → Text → Played
 told session text = record { session = session; text = shown_text text ++ frame good }
 
-abbrev marked_at : Option ℕ → Session → Played
+abbrev pub marked_at : Option ℕ → Session → Played
 marked_at None session = told session usage_line
 marked_at (Some at) session = told (record session { mark = Some at }) []
 
-abbrev by_position : Option (List ℕ) → Session → Played
+abbrev pub by_position : Option (List ℕ) → Session → Played
 by_position None session = told session usage_line
 by_position (Some word) session = marked_at (position_in word) session
 
@@ -187,10 +192,10 @@ abbrev pub went_back : Session → Stopped → Played
 went_back session stopped =
     record { session = record session { at = stopped.at }; text = back_text stopped }
 
-abbrev go_forth : ℕ → Setup → Range → Session → Played
+abbrev pub go_forth : ℕ → Setup → Range → Session → Played
 go_forth history s range session = went_forth history s session (forth s range session)
 
-abbrev go_back : Setup → Range → Session → Played
+abbrev pub go_back : Setup → Range → Session → Played
 go_back s range session = went_back session (back s range session)
 
 -- what a packet does
@@ -231,12 +236,12 @@ pub record Talk : Type 0 where
 abbrev pub start_talk : Talk
 start_talk = record { session = start_session; stream = opening }
 
-abbrev answered : ℕ → Setup → Bool → List ℕ → Session → Played
+abbrev pub answered : ℕ → Setup → Bool → List ℕ → Session → Played
 answered history s true content session = played history s (packet_of content) session
 answered history s false content session = record { session = session; text = [] }
 
 -- what a packet that has come leads to
-abbrev arrived : ℕ → Setup → List ℕ → Option Arrival → Session → Played
+abbrev pub arrived : ℕ → Setup → List ℕ → Option Arrival → Session → Played
 arrived history s content None session = record { session = session; text = [] }
 arrived history s content (Some arrival) session =
     let played = answered history s (is_answered session.quiet arrival) content session in
@@ -256,6 +261,12 @@ unfoldable pub talk_text : ℕ → Setup → Talk → List ℕ → Text
 talk_text history s talk [] = []
 talk_text history s talk (byte ∷ bytes) =
     (taken history s talk byte).text ++ talk_text history s (went_on history s talk byte) bytes
+
+-- the talk after bytes
+unfoldable pub after_bytes : ℕ → Setup → Talk → List ℕ → Talk
+after_bytes history s talk [] = talk
+after_bytes history s talk (byte ∷ bytes) =
+    after_bytes history s (went_on history s talk byte) bytes
 
 abbrev pub session_text : ℕ → Setup → List ℕ → Text
 session_text history s bytes = talk_text history s start_talk bytes
