@@ -1,0 +1,15 @@
+pub mod Watching
+pub mod Looking
+pub mod Forwards
+pub mod Backwards
+pub mod Telling
+pub mod Words
+pub mod Looked
+pub mod Narrow
+pub mod Numbered
+pub mod Commanding
+pub mod Sessions
+pub mod Talks
+pub mod Asked
+pub mod Served
+pub mod Playing
