@@ -12,7 +12,7 @@ use Rattle.clap.specs.Walk.{Row, Rule, default_rows, has_long, has_row, idle, no
 use Rattle.clap.specs.declared.error.kind.ErrorKind.TheVariants.{MissingRequiredArgument}
 use Rattle.fast_cli.specs.Words.{◌>>=◌, Form, Text, Values, has_names, rest_names, values_in}
 use Rattle.fast_cli.specs.Command.{ReadsAs, accepted, command_by, parsed, values_among}
-use Rattle.fast_cli.specs.Line.{back_form, func_form, inorder_form, run_form, sched_form, soak_form, sweep_form}
+use Rattle.fast_cli.specs.Line.{back_form, count_form, func_form, gdb_form, inorder_form, run_form, sched_form, soak_form, sweep_form}
 use Rattle.fast_cli.specs.Table.{command_in}
 use Rattle.fast_cli.specs.declared.table.CommandName.{CommandName}
 use Rattle.fast_cli.specs.declared.table.CommandName.TheVariants as names
@@ -216,6 +216,26 @@ sweep_rules = record {
   needs = λ rows. needs_two (is_given (codes "IMAGE") rows) (is_given (codes "MACHINES") rows);
 }
 
+count_rules : AreRulesOf count_form (rules_of count_form)
+count_rules = record {
+  long = λ name. long_options name count_form.options count_form.flags [] refl;
+  short = λ x. refl;
+  known = (refl, (refl, (refl, (refl, tt))));
+  places = (true, refl, refl, refl);
+  defaults = (refl, (refl, (refl, (refl, (refl, tt)))));
+  needs = λ rows. needs_one (is_given (codes "IMAGE") rows);
+}
+
+gdb_rules : AreRulesOf gdb_form (rules_of gdb_form)
+gdb_rules = record {
+  long = λ name. long_options name gdb_form.options gdb_form.flags [] refl;
+  short = λ x. refl;
+  known = (refl, (refl, (refl, (refl, (refl, tt)))));
+  places = (true, refl, refl, refl);
+  defaults = (refl, (refl, (refl, (refl, (refl, (refl, tt))))));
+  needs = λ rows. needs_one (is_given (codes "IMAGE") rows);
+}
+
 reads-free : (form : Form) → is_simple_and_free (command_by form) ≡ true → built (command_by form) ≡ record { top = built_shape form.word (rules_of form); subs = [] }
     → ((words : List Text) → argument_words (command_by form) words ≡ words) → AreRulesOf form (rules_of form) → ReadsAs form
 unfolding parsed
@@ -254,6 +274,14 @@ sweep_reads : ReadsAs sweep_form
 unfolding clap_on_literals
 sweep_reads = reads-free sweep_form refl refl (λ words. refl) sweep_rules
 
+count_reads : ReadsAs count_form
+unfolding clap_on_literals
+count_reads = reads-free count_form refl refl (λ words. refl) count_rules
+
+gdb_reads : ReadsAs gdb_form
+unfolding clap_on_literals
+gdb_reads = reads-free gdb_form refl refl (λ words. refl) gdb_rules
+
 pub command_reads : (name : CommandName) → ReadsAs (command_in name).form
 command_reads names.Func = func_reads
 command_reads names.Run = run_reads
@@ -262,3 +290,5 @@ command_reads names.Soak = soak_reads
 command_reads names.Back = back_reads
 command_reads names.Inorder = inorder_reads
 command_reads names.Sweep = sweep_reads
+command_reads names.Count = count_reads
+command_reads names.Gdb = gdb_reads

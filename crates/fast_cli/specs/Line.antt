@@ -5,8 +5,8 @@ use Rattle.fast_cli.specs.Words.{◌>>=◌, Form, Text, Values, values_in}
 use Rattle.fast_cli.specs.Values.{given_number_at, name_at, name_if_given, names_at, number_at}
 use Rattle.fast_cli.specs.Values.{options_at, pipeline_at}
 use Rattle.fast_cli.specs.declared.line.Line.{Line}
-use Rattle.fast_cli.specs.declared.line.Line.TheVariants.{Back, Func, Inorder, Run, Sched, Soak}
-use Rattle.fast_cli.specs.declared.line.Line.TheVariants.{Sweep}
+use Rattle.fast_cli.specs.declared.line.Line.TheVariants.{Back, Count, Func, Gdb, Inorder, Run}
+use Rattle.fast_cli.specs.declared.line.Line.TheVariants.{Sched, Soak, Sweep}
 
 -- a command: what its words are, and the line that they make
 pub record Command : Type 0 where
@@ -174,10 +174,53 @@ sweep_at values = do
 abbrev pub sweep_command : Command
 sweep_command = record { form = sweep_form; read = sweep_at }
 
+-- `count IMAGE`
+abbrev pub count_form : Form
+count_form = record {
+  word = codes "count";
+  names = codes "IMAGE" ∷ [];
+  optional = [];
+  rest = None;
+  options = codes "machine" ∷ limits;
+  flags = [];
+}
+
+unfoldable pub count_at : Values → Option Line
+count_at values = do
+  image ← name_at (codes "IMAGE") values
+  machine ← name_if_given (codes "machine") values
+  options ← options_at values
+  Some (Count image machine options)
+
+abbrev pub count_command : Command
+count_command = record { form = count_form; read = count_at }
+
+-- `gdb IMAGE`
+abbrev pub gdb_form : Form
+gdb_form = record {
+  word = codes "gdb";
+  names = codes "IMAGE" ∷ [];
+  optional = [];
+  rest = None;
+  options = codes "machine" ∷ codes "history" ∷ limits;
+  flags = [];
+}
+
+unfoldable pub gdb_at : Values → Option Line
+gdb_at values = do
+  image ← name_at (codes "IMAGE") values
+  machine ← name_if_given (codes "machine") values
+  history ← number_at (codes "history") 1 1048576 1048576 values
+  options ← options_at values
+  Some (Gdb image machine history options)
+
+abbrev pub gdb_command : Command
+gdb_command = record { form = gdb_form; read = gdb_at }
+
 abbrev pub commands : List Command
 commands =
     func_command ∷ run_command ∷ sched_command ∷ soak_command ∷ back_command ∷ inorder_command
-    ∷ sweep_command ∷ []
+    ∷ sweep_command ∷ count_command ∷ gdb_command ∷ []
 
 -- the command that a word names
 abbrev pub named_command : Text → Option Command

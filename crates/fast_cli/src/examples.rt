@@ -2,8 +2,8 @@
 //! of `line`, so it says of `read_words` what it answers at these words.
 ghost use Rattle.std.specs.Prelude.{◌≡◌, [], ◌∷◌, ◌++◌, Some, None, true, codes, replicate};
 ghost use Rattle.fast_cli.specs.Line.{line};
-ghost use Rattle.fast_cli.specs.declared.line.Line.TheVariants.{Back, Func, Inorder, Run, Sched};
-ghost use Rattle.fast_cli.specs.declared.line.Line.TheVariants.{Soak, Sweep};
+ghost use Rattle.fast_cli.specs.declared.line.Line.TheVariants.{Back, Count, Func, Gdb, Inorder};
+ghost use Rattle.fast_cli.specs.declared.line.Line.TheVariants.{Run, Sched, Soak, Sweep};
 ghost use Rattle.fast_cli.specs.declared.line.Pipeline.TheVariants.{Window};
 ghost use Rattle.fast_cli.specs.declared.line.Pipeline.TheVariants as pipeline;
 ghost use Rattle.fast_cli.specs.Examples.{defaults, words_of};
@@ -27,6 +27,9 @@ pub fn commands_with_names_alone()
         ≡ Some (Sweep (codes "a") (codes "m" ∷ []) Window defaults) }
     ensures sweep_three { line (words_of (codes "sweep a m n m"))
         ≡ Some (Sweep (codes "a") (codes "m" ∷ codes "n" ∷ codes "m" ∷ []) Window defaults) }
+    ensures count { line (words_of (codes "count a")) ≡ Some (Count (codes "a") None defaults) }
+    ensures gdb { line (words_of (codes "gdb a"))
+        ≡ Some (Gdb (codes "a") None 1048576 defaults) }
     ensures named_help { line (words_of (codes "func help")) ≡ Some (Func (codes "help") None defaults) }
 {}
 
@@ -68,6 +71,8 @@ pub fn each_option()
         ≡ Some (Func (codes "a") (Some (codes "m")) defaults) }
     ensures back_machine { line (words_of (codes "back a s --machine=m --history 1"))
         ≡ Some (Back (codes "a") (codes "s") (Some (codes "m")) 1 defaults) }
+    ensures count_options { line (words_of (codes "count a --output 3 --machine m"))
+        ≡ Some (Count (codes "a") (Some (codes "m")) (record defaults { output = 3 })) }
     ensures run_has_no_machine_option { line (words_of (codes "run a m --machine m")) ≡ None }
     ensures func_exit_code { line (words_of (codes "func a --exit-code"))
         ≡ Some (Func (codes "a") None (record defaults { exit_code = true })) }
@@ -84,8 +89,16 @@ pub fn each_option()
     ensures soak_has_no_exit_code { line (words_of (codes "soak 7 --exit-code")) ≡ None }
     ensures back_has_no_exit_code { line (words_of (codes "back a s --exit-code")) ≡ None }
     ensures sweep_has_no_exit_code { line (words_of (codes "sweep a m --exit-code")) ≡ None }
+    ensures count_has_no_exit_code { line (words_of (codes "count a --exit-code")) ≡ None }
+    ensures count_has_no_ring { line (words_of (codes "count a --ring 1")) ≡ None }
+    ensures gdb_has_no_exit_code { line (words_of (codes "gdb a --exit-code")) ≡ None }
+    ensures gdb { line (words_of (codes "gdb a --history 1 --cycles 2"))
+        ≡ Some (Gdb (codes "a") None 1 (record defaults { cycles = 2 })) }
+    ensures gdb_machine { line (words_of (codes "gdb a --machine m"))
+        ≡ Some (Gdb (codes "a") (Some (codes "m")) 1048576 defaults) }
     ensures func_has_no_ring { line (words_of (codes "func a --ring 1")) ≡ None }
     ensures back_has_no_ring { line (words_of (codes "back a s --ring 1")) ≡ None }
+    ensures gdb_has_no_ring { line (words_of (codes "gdb a --ring 1")) ≡ None }
     ensures soak_has_no_ring { line (words_of (codes "soak 7 --ring 1")) ≡ None }
     ensures soak_has_no_cycles { line (words_of (codes "soak 7 --cycles 1")) ≡ None }
     ensures run_has_no_history { line (words_of (codes "run a m --history 1")) ≡ None }

@@ -58,6 +58,21 @@ pub enum Line {
         pipeline: Pipeline,
         options: Options,
     },
+    /// Executes the image sequentially, and counts at each address how often. The machine file, if
+    /// there is one, places RAM.
+    Count {
+        image: Text,
+        machine: Option<Text>,
+        options: Options,
+    },
+    /// Answers GDB; at most `history` steps can be taken back, from 1 to 1,048,576. The machine
+    /// file, if there is one, places RAM.
+    Gdb {
+        image: Text,
+        machine: Option<Text>,
+        history: u32,
+        options: Options,
+    },
 }
 
 /// Which machine plays a run.

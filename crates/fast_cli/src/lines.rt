@@ -1,8 +1,8 @@
 //! The line of each command, from the values that a parse found.
 ghost use Rattle.std.specs.Prelude.{◌≡◌, ◌≢◌, IfOk, Some, None, Err, IsSome};
 ghost use Rattle.fast_cli.specs.Command.{values_of};
-ghost use Rattle.fast_cli.specs.Line.{back_at, func_at, inorder_at, run_at, sched_at, soak_at};
-ghost use Rattle.fast_cli.specs.Line.{sweep_at};
+ghost use Rattle.fast_cli.specs.Line.{back_at, count_at, func_at, gdb_at, inorder_at, run_at};
+ghost use Rattle.fast_cli.specs.Line.{sched_at, soak_at, sweep_at};
 ghost use Rattle.fast_cli.specs.Ranges.{IsInRange};
 ghost use Rattle.fast_cli.specs.Table.{command_in};
 
@@ -36,6 +36,8 @@ pub(crate) fn line_at(
         CommandName::Back => back_at(alloc, matches),
         CommandName::Inorder => inorder_at(alloc, matches),
         CommandName::Sweep => sweep_at(alloc, matches),
+        CommandName::Count => count_at(alloc, matches),
+        CommandName::Gdb => gdb_at(alloc, matches),
     }
 }
 
@@ -162,6 +164,42 @@ fn sweep_at(alloc: Global, matches: &ArgMatches<'_>) -> Result<Line, UsageFault>
         image: own_name(alloc, image)?,
         machines: own_names(alloc, machines)?,
         pipeline,
+        options: own_options(alloc, &options)?,
+    })
+}
+
+#[tactic(auto, unfolding(crate::specs::Line::count_at))]
+fn count_at(alloc: Global, matches: &ArgMatches<'_>) -> Result<Line, UsageFault>
+    ensures ok { IfOk result (λ l. count_at (values_of matches.now) ≡ Some l) }
+    ensures ranges { IfOk result IsInRange }
+    ensures words { result ≡ Err UsageFault.Words → count_at (values_of matches.now) ≡ None }
+    ensures memory { result ≡ Err UsageFault.Memory → IsSome (count_at (values_of matches.now)) }
+{
+    let image = name_at(matches, "IMAGE").ok_or(UsageFault::Words)?;
+    let machine = name_if_given(matches, "machine").ok_or(UsageFault::Words)?;
+    let options = options_at(matches).ok_or(UsageFault::Words)?;
+    Ok(Line::Count {
+        image: own_name(alloc, image)?,
+        machine: own_name_if_given(alloc, machine)?,
+        options: own_options(alloc, &options)?,
+    })
+}
+
+#[tactic(auto, unfolding(crate::specs::Line::gdb_at))]
+fn gdb_at(alloc: Global, matches: &ArgMatches<'_>) -> Result<Line, UsageFault>
+    ensures ok { IfOk result (λ l. gdb_at (values_of matches.now) ≡ Some l) }
+    ensures ranges { IfOk result IsInRange }
+    ensures words { result ≡ Err UsageFault.Words → gdb_at (values_of matches.now) ≡ None }
+    ensures memory { result ≡ Err UsageFault.Memory → IsSome (gdb_at (values_of matches.now)) }
+{
+    let image = name_at(matches, "IMAGE").ok_or(UsageFault::Words)?;
+    let machine = name_if_given(matches, "machine").ok_or(UsageFault::Words)?;
+    let history = number_at(matches, "history", 1, 1_048_576, 1_048_576).ok_or(UsageFault::Words)?;
+    let options = options_at(matches).ok_or(UsageFault::Words)?;
+    Ok(Line::Gdb {
+        image: own_name(alloc, image)?,
+        machine: own_name_if_given(alloc, machine)?,
+        history: history as u32,
         options: own_options(alloc, &options)?,
     })
 }

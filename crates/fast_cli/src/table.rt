@@ -16,6 +16,8 @@ pub(crate) enum CommandName {
     Back,
     Inorder,
     Sweep,
+    Count,
+    Gdb,
 }
 
 /// The command of a word, if it names one.
@@ -30,6 +32,8 @@ pub(crate) fn command_named(word: &str) -> Option<CommandName>
         "back" => Some(CommandName::Back),
         "inorder" => Some(CommandName::Inorder),
         "sweep" => Some(CommandName::Sweep),
+        "count" => Some(CommandName::Count),
+        "gdb" => Some(CommandName::Gdb),
         _ => None,
     }
 }
@@ -83,6 +87,16 @@ pub(crate) fn form_for(name: CommandName) -> Form<'static>
                 &["pipeline", "ring", "cycles", "input", "output"],
             )
         },
+        CommandName::Count => form(
+            "count",
+            &["IMAGE"],
+            &["machine", "cycles", "input", "output"],
+        ),
+        CommandName::Gdb => form(
+            "gdb",
+            &["IMAGE"],
+            &["machine", "history", "cycles", "input", "output"],
+        ),
     }
 }
 

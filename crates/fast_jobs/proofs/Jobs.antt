@@ -1,5 +1,5 @@
 -- What the console reads of a job's files, and what is left where a stage was refused.
-use Rattle.std.proofs.Common.{◌≡◌, ◌≢◌, ◌≤◌, ◌<◌, ◌+◌, ℕ, suc, true, List, [], ◌∷◌, ◌++◌, length, map, take, flat_map, get_or, append_assoc, append-nil, Option, Some, None, Result, Ok, Err, ap, sym, ◌∙◌, subst, arith}
+use Rattle.std.proofs.Common.{◌≡◌, ◌≢◌, ◌≤◌, ◌<◌, ◌+◌, ℕ, suc, true, false, List, [], ◌∷◌, ◌++◌, length, map, take, flat_map, get_or, append_assoc, append-nil, Option, Some, None, Result, Ok, Err, ap, sym, ◌∙◌, subst, arith}
 use Rattle.std.proofs.Math.Seq.{take-suc}
 use Rattle.std.proofs.lemmas.List.{length-map}
 use Rattle.std.proofs.lemmas.Grind.{flat_map-append}
@@ -12,12 +12,15 @@ use Rattle.fast_cli.specs.declared.line.Line.TheVariants as line
 use Rattle.fast_cli.specs.declared.line.Options.{Options}
 use Rattle.fast_jobs.specs.declared.files.NamedFile.{NamedFile}
 use Rattle.fast_jobs.specs.Files.{file, file_if_named, input_of}
-use Rattle.fast_jobs.specs.Gives.{Gives}
-use Rattle.fast_jobs.specs.declared.job.Job.TheVariants.{Sweep}
+use Rattle.fast_jobs.specs.Gives.{Gives, ◌>>=◌}
+use Rattle.mono_model.specs.declared.setup.Setup.{Setup}
+use Rattle.fast_jobs.specs.declared.job.Job.{Job}
+use Rattle.fast_jobs.specs.declared.job.Job.TheVariants.{Gdb, Single, Sweep}
 use Rattle.fast_jobs.specs.declared.job.SingleJob.{SingleJob}
 use Rattle.fast_jobs.specs.declared.job.SingleJob.TheVariants.{Run}
 use Rattle.fast_jobs.specs.declared.sweep_files.SweepFiles.{SweepFiles}
-use Rattle.fast_jobs.specs.Job.{back_job, behind_machine, bytes_at, func_job, inorder_job, inorder_run_job, is_still, job_of, pipeline_job, sched_job, single_job, soak_setup}
+use Rattle.fast_jobs.specs.SweepFiles.{swept}
+use Rattle.fast_jobs.specs.Job.{back_job, behind_machine, bytes_at, count_job, func_job, gdb_job, inorder_job, inorder_run_job, is_still, is_talk, job_of, pipeline_job, placed_setup, sched_job, single_job, soak_setup}
 use Rattle.fast_jobs.specs.Reading.{AreWithin}
 
 -- what the console reads, behind the other files, is within its limit
@@ -43,6 +46,13 @@ input-behind_machine image None more options contents within =
 input-behind_machine image (Some name) more options contents within =
     let place : length (image ∷ file role.Machine name ∷ more) ≡ 2 + length more = omega arith in
     subst (λ (n : ℕ). length (bytes_at contents n) ≤ input_limit) place (input-behind (image ∷ file role.Machine name ∷ more) options contents within)
+
+-- and where there are no others
+pub input-behind_machine_alone : (image : NamedFile) (machine : Option (List ℕ)) (options : Options) (contents : List (List ℕ))
+    → AreWithin (image ∷ file_if_named role.Machine machine ++ input_of options) contents → length (bytes_at contents (behind_machine machine)) ≤ input_limit
+input-behind_machine_alone image machine options contents within =
+    let place : behind_machine machine + 0 ≡ behind_machine machine = omega arith in
+    subst (λ (n : ℕ). length (bytes_at contents n) ≤ input_limit) place (input-behind_machine image machine [] options contents within)
 
 -- the same behind an image and so many machine files
 pub input-behind_machines : (image : NamedFile) (machines : List (List ℕ)) (named : List ℕ → NamedFile) (options : Options) (contents : List (List ℕ))
@@ -72,7 +82,12 @@ never-sweep : {P : Type 0} (wanted : Result SingleJob Status) (files : SweepFile
 never-sweep (Ok job) files same = cc
 never-sweep (Err status) files same = cc
 
+never-swept : {P : Type 0} (setup : Result Setup Status) (history : ℕ) (files : SweepFiles) → (setup >>= λ made. Ok (Gdb made history)) ≡ Ok (Sweep files) → P
+never-swept (Ok setup) history files same = cc
+never-swept (Err status) history files same = cc
+
 pub still-single : {P : Type 0} (asked : Line) (sets : ℕ) (contents : List (List ℕ)) (files : SweepFiles) → is_still asked ≡ true → job_of asked sets contents ≡ Ok (Sweep files) → P
+unfolding gdb_job
 still-single (line.Func image machine options) sets contents files still same = never-sweep (func_job machine options contents) files same
 still-single (line.Run image machine pipeline threads options) sets contents files still same = never-sweep (pipeline_job pipeline options contents) files same
 still-single (line.Sched image machine plan options) sets contents files still same = never-sweep (sched_job options contents) files same
@@ -81,3 +96,34 @@ still-single (line.Back image script machine history options) sets contents file
 still-single (line.Inorder image machine (Some plan) options) sets contents files still same = never-sweep (inorder_job options contents) files same
 still-single (line.Inorder image machine None options) sets contents files still same = never-sweep (inorder_run_job options contents) files same
 still-single (line.Sweep image machines pipeline options) sets contents files still same = cc
+still-single (line.Count image machine options) sets contents files still same = never-sweep (count_job machine options contents) files same
+still-single (line.Gdb image machine history options) sets contents files still same = never-swept (placed_setup machine options contents) history files same
+
+-- a line that isn't played on one thread asks for no talk
+same-job : (a b : Job) → ◌≡◌ {A = Result Job Status} (Ok a) (Ok b) → a ≡ b
+same-job a b same = cc
+
+no-job : {P : Type 0} (status : Status) (job : Job) → ◌≡◌ {A = Result Job Status} (Err status) (Ok job) → P
+no-job status job same = cc
+
+single-silent : (wanted : Result SingleJob Status) (job : Job) → single_job wanted ≡ Ok job → is_talk job ≡ false
+single-silent (Ok one) job same = ap is_talk (sym (same-job (Single one) job same))
+single-silent (Err status) job same = no-job status job same
+
+sweep-silent : (wanted : Result SweepFiles Status) (job : Job) → (wanted >>= λ files. Ok (Sweep files)) ≡ Ok job → is_talk job ≡ false
+sweep-silent (Ok files) job same = ap is_talk (sym (same-job (Sweep files) job same))
+sweep-silent (Err status) job same = no-job status job same
+
+never-moves : {P : Type 0} → true ≡ false → P
+never-moves is = cc
+
+pub moving-silent : (asked : Line) (sets : ℕ) (contents : List (List ℕ)) (job : Job) → is_still asked ≡ false → job_of asked sets contents ≡ Ok job → is_talk job ≡ false
+moving-silent (line.Func image machine options) sets contents job moves same = never-moves moves
+moving-silent (line.Run image machine pipeline threads options) sets contents job moves same = single-silent (pipeline_job pipeline options contents) job same
+moving-silent (line.Sched image machine plan options) sets contents job moves same = never-moves moves
+moving-silent (line.Soak seed) sets contents job moves same = single-silent (Ok (Run (soak_setup seed))) job same
+moving-silent (line.Back image script machine history options) sets contents job moves same = never-moves moves
+moving-silent (line.Inorder image machine plan options) sets contents job moves same = never-moves moves
+moving-silent (line.Sweep image machines pipeline options) sets contents job moves same = sweep-silent (swept machines pipeline options sets contents) job same
+moving-silent (line.Count image machine options) sets contents job moves same = never-moves moves
+moving-silent (line.Gdb image machine history options) sets contents job moves same = never-moves moves

@@ -1,5 +1,6 @@
 pub mod Setups
 pub mod Ends
+pub mod Counts
 pub mod Ending
 pub mod InorderEnding
 pub mod Plans
@@ -9,3 +10,4 @@ pub mod Outcomes
 pub mod Refusals
 pub mod Sweeps
 pub mod Scripts
+pub mod Talks

@@ -7,7 +7,7 @@ use Rattle.fast_jobs.specs.Gives.{unless}
 use Rattle.fast_jobs.specs.Job.{plan_in}
 use Rattle.fast_jobs.specs.Plan.{IsBadAt, event_of, is_bad, plan_events, first_bad}
 use Rattle.report_text.specs.declared.status.Status.{Status}
-use Rattle.report_text.specs.declared.status.Status.TheVariants.{Pass, Fail, Limit, OutputFull, Running, Shown, Usage, Image, Machine, Missing, ReadFault, WriteFault, Memory, TooLong, BadPlan, BadScript, Sets}
+use Rattle.report_text.specs.declared.status.Status.TheVariants.{Pass, Fail, Limit, OutputFull, Running, Shown, Usage, Image, Machine, Missing, ReadFault, WriteFault, Memory, TooLong, BadPlan, BadScript, Sets, TooMuchText}
 
 -- the first bad byte of what is left
 
@@ -51,3 +51,4 @@ bad-told bytes place WriteFault within bad is other = absurd is
 bad-told bytes place (TooLong role limit) within bad is other = absurd is
 bad-told bytes place (BadScript line) within bad is other = absurd is
 bad-told bytes place (Sets machine) within bad is other = absurd is
+bad-told bytes place (TooMuchText pages) within bad is other = absurd is

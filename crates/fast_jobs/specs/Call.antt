@@ -25,6 +25,13 @@ pub record Writing : Type 0 where
   pub after : Option (List ℕ)
   pub faults : Faults
 
+-- what was read of standard input, where that is told, before the call and after it, and its count of
+-- faults
+pub record Hearing : Type 0 where
+  pub before : Option (List ℕ)
+  pub after : Option (List ℕ)
+  pub faults : Faults
+
 -- a call that was handed the files as they were before, and left them as they were after
 abbrev pub reading_of : {F : Type 0} → (F → Option Names) → (F → ℕ) → F → F → Reading
 reading_of told faults before after = record {
@@ -37,6 +44,14 @@ abbrev pub writing_of : {K : Type 0} → (K → Option (List ℕ)) → (K → �
 writing_of written faults before after = record {
   before = written before;
   after = written after;
+  faults = record { before = faults before; after = faults after };
+}
+
+-- the same of standard input
+abbrev pub hearing_of : {S : Type 0} → (S → Option (List ℕ)) → (S → ℕ) → S → S → Hearing
+hearing_of heard faults before after = record {
+  before = heard before;
+  after = heard after;
   faults = record { before = faults before; after = faults after };
 }
 

@@ -4,8 +4,8 @@ use Rattle.mono_model.specs.Setup.{input_limit}
 use Rattle.report_text.specs.declared.status.Role.{Role}
 use Rattle.report_text.specs.declared.status.Role.TheVariants as role
 use Rattle.fast_cli.specs.declared.line.Line.{Line}
-use Rattle.fast_cli.specs.declared.line.Line.TheVariants.{Back, Func, Inorder, Run, Sched, Soak}
-use Rattle.fast_cli.specs.declared.line.Line.TheVariants.{Sweep}
+use Rattle.fast_cli.specs.declared.line.Line.TheVariants.{Back, Count, Func, Gdb, Inorder, Run}
+use Rattle.fast_cli.specs.declared.line.Line.TheVariants.{Sched, Soak, Sweep}
 use Rattle.fast_cli.specs.declared.line.Options.{Options}
 use Rattle.fast_jobs.specs.declared.files.NamedFile.{NamedFile}
 
@@ -36,11 +36,16 @@ files_of (Inorder image machine plan options) = file role.Image image ∷ file r
     ∷ file_if_named role.Plan plan ++ input_of options
 files_of (Sweep image machines pipeline options) =
     file role.Image image ∷ map (file role.Machine) machines ++ input_of options
+files_of (Count image machine options) =
+    file role.Image image ∷ file_if_named role.Machine machine ++ input_of options
+files_of (Gdb image machine history options) =
+    file role.Image image ∷ file_if_named role.Machine machine ++ input_of options
 
--- how many bytes a file of a role may have
+-- how many bytes a file of a role may have; what a debugger writes is no file
 abbrev pub limit_of : Role → ℕ
 limit_of role.Image = 67108864
 limit_of role.Machine = 65536
 limit_of role.Plan = 1048576
 limit_of role.Input = input_limit
 limit_of role.Script = 65536
+limit_of role.Packets = 0

@@ -1,11 +1,12 @@
 -- What a line and the bytes of its files ask for: a job, or the first refusal.
 use Rattle.std.specs.Prelude.{◌≡◌, ◌≤◌, ◌+◌, ℕ, true, false, Bool, List, [], length, Option}
 use Rattle.std.specs.Prelude.{option_map}
-use Rattle.std.specs.Prelude.{Some, None, Result, Ok, ◌==◌}
+use Rattle.std.specs.Prelude.{Some, None, Result, Ok, ◌==◌, nat_lt, if◌then◌else◌}
 use Rattle.mono_model.specs.declared.setup.Setup.{Setup}
-use Rattle.mono_model.specs.Setup.{input_limit, is_setup}
+use Rattle.mono_model.specs.Setup.{input_limit, is_setup, ram_range}
 use Rattle.machine_file.specs.File.{params_of}
 use Rattle.report_text.specs.declared.status.Status.{Status}
+use Rattle.report_text.specs.declared.status.Status.TheVariants.{TooMuchText}
 use Rattle.fast_cli.specs.declared.line.Line.{Line}
 use Rattle.fast_cli.specs.declared.line.Line.TheVariants as line
 use Rattle.fast_cli.specs.declared.line.Options.{Options}
@@ -16,13 +17,14 @@ use Rattle.fast_cli.specs.Values.{default_options}
 use Rattle.gen_image.specs.Soak.{soak_image}
 use Rattle.gen_image.specs.Machine.{soak_machine}
 use Rattle.inorder_machine.specs.Setup.{IsInorder}
+use Rattle.text_rows.specs.Pages.{text_pages}
 use Rattle.fast_jobs.specs.declared.job.Job.{Job}
-use Rattle.fast_jobs.specs.declared.job.Job.TheVariants.{Single, Sweep}
+use Rattle.fast_jobs.specs.declared.job.Job.TheVariants.{Gdb, Single, Sweep}
 use Rattle.fast_jobs.specs.declared.job.SingleJob.{SingleJob}
-use Rattle.fast_jobs.specs.declared.job.SingleJob.TheVariants.{Back, Func, Inorder, Run, Sched}
+use Rattle.fast_jobs.specs.declared.job.SingleJob.TheVariants.{Back, Count, Func, Inorder, Run, Sched}
 use Rattle.fast_jobs.specs.declared.job.PlannedRun.{PlannedRun}
 use Rattle.fast_jobs.specs.declared.sweep_files.SweepFiles.{SweepFiles}
-use Rattle.fast_jobs.specs.Gives.{◌>>=◌}
+use Rattle.fast_jobs.specs.Gives.{◌>>=◌, unless}
 pub use Rattle.fast_jobs.specs.Stages.{setup_for, inorder_setup, bytes_at}
 unfoldable pub use Rattle.fast_jobs.specs.Stages.{image_in, timed_image, placed_image}
 unfoldable pub use Rattle.fast_jobs.specs.Stages.{plan_in, script_in}
@@ -38,12 +40,38 @@ abbrev pub behind_machine : Option (List ℕ) → ℕ
 behind_machine None = 1
 behind_machine (Some name) = 2
 
--- the run without a pipeline
+-- the setup of a run without a pipeline
+unfoldable pub placed_setup : Option (List ℕ) → Options → List (List ℕ) → Result Setup Status
+placed_setup machine options contents = do
+  loaded ← placed_image (machine_at machine contents) (bytes_at contents 0)
+  Ok (setup_for loaded.params options loaded.image (bytes_at contents (behind_machine machine)))
+
+-- the run to its end
 unfoldable pub func_job : Option (List ℕ) → Options → List (List ℕ) → Result SingleJob Status
 func_job machine options contents = do
-  loaded ← placed_image (machine_at machine contents) (bytes_at contents 0)
-  Ok (Func (setup_for loaded.params options loaded.image
-      (bytes_at contents (behind_machine machine))))
+  s ← placed_setup machine options contents
+  Ok (Func s)
+
+-- the setup, if there are rows for the words of all pages that hold text
+abbrev pub row_pages : Setup → ℕ
+row_pages s = text_pages s.image (ram_range s.params)
+
+unfoldable pub with_rows : Setup → Result Setup Status
+with_rows s =
+    unless (if nat_lt 1024 (row_pages s) then Some (TooMuchText (row_pages s)) else None) s
+
+-- the same run, whose instructions are counted
+unfoldable pub count_job : Option (List ℕ) → Options → List (List ℕ) → Result SingleJob Status
+count_job machine options contents = do
+  s ← placed_setup machine options contents
+  counted ← with_rows s
+  Ok (Count counted)
+
+-- a talk with a debugger over that run
+unfoldable pub gdb_job : ℕ → Option (List ℕ) → Options → List (List ℕ) → Result Job Status
+gdb_job history machine options contents = do
+  s ← placed_setup machine options contents
+  Ok (Gdb s history)
 
 -- the run on the machine of a machine file
 unfoldable pub run_job : Options → List (List ℕ) → Result SingleJob Status
@@ -120,6 +148,10 @@ job_of (line.Inorder image machine None options) sets contents =
 job_of (line.Sweep image machines pipeline options) sets contents = do
   files ← swept machines pipeline options sets contents
   Ok (Sweep files)
+job_of (line.Count image machine options) sets contents =
+    single_job (count_job machine options contents)
+job_of (line.Gdb image machine history options) sets contents =
+    gdb_job history machine options contents
 
 -- the line is played on one thread, and the call that plays it returns
 abbrev pub is_still : Line → Bool
@@ -131,6 +163,8 @@ is_still (line.Soak seed) = false
 is_still (line.Back image script machine history options) = true
 is_still (line.Inorder image machine plan options) = true
 is_still (line.Sweep image machines pipeline options) = false
+is_still (line.Count image machine options) = true
+is_still (line.Gdb image machine history options) = true
 
 -- a sweep can open each of its machines: its limits are in their ranges, and the console can hold
 -- its input
@@ -145,13 +179,22 @@ CanStart (Run s) = is_setup s ≡ true
 CanStart (Sched s plan) = is_setup s ≡ true
 CanStart (Inorder s plan) = IsInorder s
 CanStart (Back s history script) = is_setup s ≡ true
+CanStart (Count s) = is_setup s ≡ true
 
 -- the job can be begun
 abbrev pub CanBegin : Job → Type 0
 CanBegin (Single job) = CanStart job
 CanBegin (Sweep files) = CanSweep files
+CanBegin (Gdb s history) = is_setup s ≡ true
 
 -- how many sets of devices a job takes
 abbrev pub sets_for : Job → ℕ
 sets_for (Single job) = 1
 sets_for (Sweep files) = length files.machines
+sets_for (Gdb s history) = 1
+
+-- it is a talk, which is answered by what is read of standard input
+abbrev pub is_talk : Job → Bool
+is_talk (Single job) = false
+is_talk (Sweep files) = false
+is_talk (Gdb s history) = true

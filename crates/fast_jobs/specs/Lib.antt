@@ -10,3 +10,4 @@ pub mod Call
 pub mod Reading
 pub mod Opening
 pub mod Ending
+pub mod Talking

@@ -24,6 +24,17 @@ pub fn files_of(alloc: Global, line: &Line) -> Result<Vec<NamedFile>, NoMemory>
             image,
             machine,
             options,
+        }
+        | Line::Count {
+            image,
+            machine,
+            options,
+        }
+        | Line::Gdb {
+            image,
+            machine,
+            options,
+            ..
         } => files_of_run(alloc, image, &[(Role::Machine, machine.as_ref())], options),
         Line::Run {
             image,

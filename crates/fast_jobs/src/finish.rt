@@ -1,4 +1,4 @@
-ghost use Rattle.std.specs.Prelude.{◌≡◌, ◌≤◌, ◌++◌};
+ghost use Rattle.std.specs.Prelude.{◌≡◌, ◌≤◌, ◌++◌, []};
 ghost use Rattle.mono_model.specs.Report.{closed_output, report_text, func_report_text};
 ghost use Rattle.fast_jobs.specs.declared.job.Job.{Job as AnyJob};
 ghost use Rattle.fast_jobs.specs.Ending.{Ends};
@@ -27,8 +27,8 @@ fn status_for(end: End) -> Status
 pub fn finish_alone<K: Sink>(last: &Final, output: &[u8], sink: &mut K) -> Status
     ensures count { K.faults sink.old ≤ K.faults sink.new }
     ensures ends { (job : AnyJob) → MayEnd job → job_status job ≡ status_for last.now.end
-        → job_text job ≡ closed_output output.now ++ func_report_text last.now
-        → Ends job (writing_of K.written K.faults sink.old sink.new) result }
+        → job_text job [] ≡ closed_output output.now ++ func_report_text last.now
+        → Ends job [] (writing_of K.written K.faults sink.old sink.new) result }
 {
     match func_report(last, output, sink) {
         Ok(()) => status_for(last.end),
@@ -40,8 +40,8 @@ pub fn finish_alone<K: Sink>(last: &Final, output: &[u8], sink: &mut K) -> Statu
 pub fn finish_timed<K: Sink>(last: &Final, output: &[u8], sink: &mut K) -> Status
     ensures count { K.faults sink.old ≤ K.faults sink.new }
     ensures ends { (job : AnyJob) → MayEnd job → job_status job ≡ status_for last.now.end
-        → job_text job ≡ closed_output output.now ++ report_text last.now
-        → Ends job (writing_of K.written K.faults sink.old sink.new) result }
+        → job_text job [] ≡ closed_output output.now ++ report_text last.now
+        → Ends job [] (writing_of K.written K.faults sink.old sink.new) result }
 {
     match report(last, output, sink) {
         Ok(()) => status_for(last.end),

@@ -1,5 +1,5 @@
 //! The in-order machine's run.
-ghost use Rattle.std.specs.Prelude.{◌≡◌, ◌≤◌, map};
+ghost use Rattle.std.specs.Prelude.{◌≡◌, ◌≤◌, [], map};
 ghost use Rattle.device_bus.specs.Bus.{device_order};
 ghost use Rattle.inorder_machine.specs.Setup.{IsInorder};
 ghost use Rattle.fast_jobs.specs.declared.job.Job.{Job as AnyJob};
@@ -29,7 +29,7 @@ pub fn run_inorder<K: Sink, D: Device>(
     requires sound { IsInorder setup.now }
     requires order { map D.kind devices.items ≡ device_order }
     ensures count { K.faults sink.old ≤ K.faults sink.new }
-    ensures ends { Ends (AnyJob.Single (AnyRun.Inorder setup.now plan.now))
+    ensures ends { Ends (AnyJob.Single (AnyRun.Inorder setup.now plan.now)) []
         (writing_of K.written K.faults sink.old sink.new) result }
 {
     let mut core = match InorderCore::new(alloc, setup, devices) {

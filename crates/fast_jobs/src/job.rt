@@ -5,8 +5,9 @@ ghost use Rattle.fast_jobs.specs.Files.{files_of};
 ghost use Rattle.fast_jobs.specs.Gives.{Gives};
 ghost use Rattle.fast_jobs.specs.declared.job.SingleJob.{SingleJob as AnyRun};
 ghost use Rattle.fast_jobs.specs.Job.{back_job, behind_machine, bytes_at, func_job, inorder_job};
-ghost use Rattle.fast_jobs.specs.Job.{inorder_run_job, job_of, machine_at, pipeline_job};
-ghost use Rattle.fast_jobs.specs.Job.{planned_run, run_job, sched_job};
+ghost use Rattle.fast_jobs.specs.Job.{count_job, gdb_job, inorder_run_job, job_of, machine_at};
+ghost use Rattle.fast_jobs.specs.Job.{pipeline_job, placed_setup, planned_run, run_job, sched_job};
+ghost use Rattle.fast_jobs.specs.Job.{with_rows};
 ghost use Rattle.fast_jobs.specs.Job.{CanBegin, CanStart, sets_for, soak_setup};
 ghost use Rattle.fast_jobs.specs.Reading.{AreWithin};
 
@@ -21,7 +22,9 @@ use fast_cli::{Line, Options, Pipeline, default_options};
 use fsim_base::{Bytes, Text};
 use gen_image::{soak_image, soak_params};
 use mono_model::Setup;
+use report_text::Status;
 use std::alloc::Global;
+use text_rows::{MOST_PAGES, text_pages};
 
 /// What is asked for, with all that it depends on.
 #[derive(Debug, Drop)]
@@ -30,6 +33,8 @@ pub enum Job {
     Single(SingleJob),
     /// The run on each of many machines to its end.
     Sweep(SweepFiles),
+    /// A talk with a debugger, over a run that remembers so many steps.
+    Gdb(Setup, u32),
 }
 
 /// What is asked for of one run.
@@ -45,6 +50,8 @@ pub enum SingleJob {
     Inorder(Setup, Plan),
     /// The commands of a debugger's script, over a run that remembers so many steps.
     Back(Setup, u32, Script),
+    /// How often the sequential run executes the instruction at each address.
+    Count(Setup),
 }
 
 /// The job of a line with the bytes of its files and so many sets of devices, or the first refusal:
@@ -95,12 +102,42 @@ pub fn job_of(alloc: Global, line: &Line, sets: usize, contents: Vec<Bytes>) -> 
             let files = sweep_files(alloc, machines, *pipeline, options, sets, contents)?;
             return Ok(Job::Sweep(files));
         }
+        Line::Count {
+            machine,
+            options,
+            ..
+        } => count_job(alloc, machine, options, contents)?,
+        Line::Gdb {
+            machine,
+            history,
+            options,
+            ..
+        } => return gdb_job(alloc, *history, machine, options, contents),
     };
     Ok(Job::Single(job))
 }
 
-/// The sequential run of an image; the files are image, machine file, if the line names one, and
-/// input.
+/// The setup of a run without a pipeline; the files are image, machine file, if the line names one,
+/// and input.
+#[tactic(auto, unfolding(crate::specs::Job::placed_setup))]
+fn placed_setup(
+    alloc: Global,
+    machine: &Option<Text>,
+    options: &Options,
+    contents: Vec<Bytes>,
+) -> Result<Setup, Refusal>
+    requires ranges { HasRanges options.now }
+    requires input { length (bytes_at contents.items (behind_machine machine.now)) ≤ input_limit }
+    ensures setup { Gives (placed_setup machine.now options.now contents.items) result }
+    ensures sound { IfOk result (λ setup. is_setup setup ≡ true) }
+{
+    let files = contents.as_slice();
+    let loaded = placed_image(alloc, machine_at(machine, files), bytes_at(files, 0))?;
+    let input = take_at(alloc, contents, behind_machine(machine));
+    Ok(setup_for(loaded.params, options, loaded.image, input))
+}
+
+/// That run to its end.
 #[tactic(auto, unfolding(crate::specs::Job::func_job))]
 fn func_job(
     alloc: Global,
@@ -113,10 +150,56 @@ fn func_job(
     ensures job { Gives (func_job machine.now options.now contents.items) result }
     ensures can { IfOk result (λ job. CanStart job) }
 {
-    let files = contents.as_slice();
-    let loaded = placed_image(alloc, machine_at(machine, files), bytes_at(files, 0))?;
-    let input = take_at(alloc, contents, behind_machine(machine));
-    Ok(SingleJob::Func(setup_for(loaded.params, options, loaded.image, input)))
+    Ok(SingleJob::Func(placed_setup(alloc, machine, options, contents)?))
+}
+
+/// The same run, whose instructions are counted.
+#[tactic(auto, unfolding(crate::specs::Job::count_job))]
+fn count_job(
+    alloc: Global,
+    machine: &Option<Text>,
+    options: &Options,
+    contents: Vec<Bytes>,
+) -> Result<SingleJob, Refusal>
+    requires ranges { HasRanges options.now }
+    requires input { length (bytes_at contents.items (behind_machine machine.now)) ≤ input_limit }
+    ensures job { Gives (count_job machine.now options.now contents.items) result }
+    ensures can { IfOk result (λ job. CanStart job) }
+{
+    let setup = with_rows(placed_setup(alloc, machine, options, contents)?)?;
+    Ok(SingleJob::Count(setup))
+}
+
+/// The setup, if there is room for the rows of its text.
+#[tactic(auto, unfolding(crate::specs::Job::with_rows))]
+fn with_rows(setup: Setup) -> Result<Setup, Refusal>
+    requires sound { is_setup setup ≡ true }
+    ensures rows { Gives (with_rows setup) result }
+    ensures same { IfOk result (λ s. s ≡ setup) }
+{
+    let pages = text_pages(&setup);
+    if pages > MOST_PAGES {
+        return Err(Refusal::new(Status::TooMuchText(pages)));
+    }
+    Ok(setup)
+}
+
+/// A talk with a debugger over that run, which remembers so many steps.
+#[tactic(auto, unfolding(crate::specs::Job::gdb_job))]
+fn gdb_job(
+    alloc: Global,
+    history: u32,
+    machine: &Option<Text>,
+    options: &Options,
+    contents: Vec<Bytes>,
+) -> Result<Job, Refusal>
+    requires ranges { HasRanges options.now }
+    requires input { length (bytes_at contents.items (behind_machine machine.now)) ≤ input_limit }
+    ensures job { Gives (gdb_job history machine.now options.now contents.items) result }
+    ensures can { IfOk result (λ job. CanBegin job) }
+    ensures room { IfOk result (λ job. sets_for job ≤ 1) }
+{
+    Ok(Job::Gdb(placed_setup(alloc, machine, options, contents)?, history))
 }
 
 /// The bytes of the machine file, which stands behind the image, if the line names one.

@@ -2,6 +2,8 @@
 //! written.
 #![tactic(auto)]
 
+mod counting;
+mod debugging;
 mod files;
 mod finish;
 mod grow;
@@ -22,6 +24,7 @@ mod sweep_files;
 mod sweep_setup;
 mod timed_image;
 
+pub use debugging::run_gdb;
 pub use job::{Job, SingleJob};
 pub use opening::open;
 pub use refusal::{Refusal, tell_want_of_memory};

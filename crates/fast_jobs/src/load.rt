@@ -20,6 +20,8 @@ fn limit_of(role: Role) -> u64
         Role::Plan => 1_048_576,
         Role::Input => INPUT_LIMIT as u64,
         Role::Script => 65_536,
+        // What a debugger writes is no file.
+        Role::Packets => 0,
     }
 }
 

@@ -1,10 +1,11 @@
-ghost use Rattle.std.specs.Prelude.{◌≡◌, ◌≤◌, ◌/◌, true, map, take, vec_len};
+ghost use Rattle.std.specs.Prelude.{◌≡◌, ◌≤◌, ◌/◌, [], true, false, map, take, vec_len};
 ghost use Rattle.device_bus.specs.Bus.{AreSets, device_order};
 ghost use Rattle.mono_model.specs.Setup.{is_setup};
 ghost use Rattle.fast_jobs.specs.Ending.{Ends};
 ghost use Rattle.fast_jobs.specs.Call.{writing_of};
-ghost use Rattle.fast_jobs.specs.Job.{CanBegin, CanStart, sets_for};
+ghost use Rattle.fast_jobs.specs.Job.{CanBegin, CanStart, is_talk, sets_for};
 
+use crate::counting::run_count;
 use crate::finish::{finish_alone, finish_timed};
 use crate::inorder::run_inorder;
 use crate::job::{Job, SingleJob};
@@ -35,7 +36,7 @@ pub fn run<K: Sink, D: Device>(
     requires can { CanStart job.now }
     requires order { map D.kind devices.items ≡ device_order }
     ensures count { K.faults sink.old ≤ K.faults sink.new }
-    ensures ends { Ends (Job.Single job.now)
+    ensures ends { Ends (Job.Single job.now) []
         (writing_of K.written K.faults sink.old sink.new) result }
 {
     match job {
@@ -46,6 +47,7 @@ pub fn run<K: Sink, D: Device>(
         SingleJob::Back(setup, history, script) => {
             run_script(alloc, setup, *history, script, devices, sink)
         }
+        SingleJob::Count(setup) => run_count(alloc, setup, devices, sink),
     }
 }
 
@@ -60,10 +62,11 @@ pub fn run_in_threads<R: Threads + Wait + Sync, K: Sink, G: Gate + Sync, D: Devi
     gate: &G,
 ) -> Status
     requires can { CanBegin job.now }
+    requires no_talk { is_talk job.now ≡ false }
     requires sets { AreSets (vec_len devices / 3) (map D.kind devices.items) }
     requires room { sets_for job.now ≤ vec_len devices / 3 }
     ensures count { K.faults sink.old ≤ K.faults sink.new }
-    ensures ends { Ends job.now (writing_of K.written K.faults sink.old sink.new) result }
+    ensures ends { Ends job.now [] (writing_of K.written K.faults sink.old sink.new) result }
 {
     match job {
         Job::Single(SingleJob::Run(setup)) => {
@@ -71,6 +74,8 @@ pub fn run_in_threads<R: Threads + Wait + Sync, K: Sink, G: Gate + Sync, D: Devi
         }
         Job::Single(job) => run(alloc, job, first_set(devices), sink),
         Job::Sweep(files) => run_sweep(rt, alloc, files, devices, sink),
+        // A talk is played on one thread.
+        Job::Gdb(_, _) => unreachable!(),
     }
 }
 
@@ -97,7 +102,7 @@ fn run_session<R: Threads + Wait + Sync, S: Sink, G: Gate + Sync, D: Device + Se
     requires sound { is_setup setup.now ≡ true }
     requires order { map D.kind devices.items ≡ device_order }
     ensures count { S.faults sink.old ≤ S.faults sink.new }
-    ensures ends { Ends (Job.Single (SingleJob.Run setup.now))
+    ensures ends { Ends (Job.Single (SingleJob.Run setup.now)) []
         (writing_of S.written S.faults sink.old sink.new) result }
 {
     let mut session = match Session::<D>::new(alloc, setup, devices) {
@@ -121,7 +126,7 @@ fn run_alone<K: Sink, D: Device>(
     requires sound { is_setup setup.now ≡ true }
     requires order { map D.kind devices.items ≡ device_order }
     ensures count { K.faults sink.old ≤ K.faults sink.new }
-    ensures ends { Ends (Job.Single (SingleJob.Func setup.now))
+    ensures ends { Ends (Job.Single (SingleJob.Func setup.now)) []
         (writing_of K.written K.faults sink.old sink.new) result }
 {
     let mut side = match FuncSide::new(alloc, setup, devices) {
@@ -142,7 +147,7 @@ fn run_to_end<K: Sink, D: Device>(
     requires sound { is_setup setup.now ≡ true }
     requires order { map D.kind devices.items ≡ device_order }
     ensures count { K.faults sink.old ≤ K.faults sink.new }
-    ensures ends { Ends (Job.Single (SingleJob.Run setup.now))
+    ensures ends { Ends (Job.Single (SingleJob.Run setup.now)) []
         (writing_of K.written K.faults sink.old sink.new) result }
 {
     let mut core = match SplitCore::new(alloc, setup, devices) {
@@ -165,7 +170,7 @@ fn run_plan<K: Sink, D: Device>(
     requires sound { is_setup setup.now ≡ true }
     requires order { map D.kind devices.items ≡ device_order }
     ensures count { K.faults sink.old ≤ K.faults sink.new }
-    ensures ends { Ends (Job.Single (SingleJob.Sched setup.now plan.now))
+    ensures ends { Ends (Job.Single (SingleJob.Sched setup.now plan.now)) []
         (writing_of K.written K.faults sink.old sink.new) result }
 {
     let mut core = match SplitCore::new(alloc, setup, devices) {

@@ -1,5 +1,5 @@
 //! A debugger's script: its commands, and what comes of them.
-ghost use Rattle.std.specs.Prelude.{◌≡◌, ◌≤◌, true, map};
+ghost use Rattle.std.specs.Prelude.{◌≡◌, ◌≤◌, [], true, map};
 ghost use Rattle.device_bus.specs.Bus.{device_order};
 ghost use Rattle.mono_model.specs.Setup.{is_setup};
 ghost use Rattle.fast_jobs.specs.declared.job.Job.{Job as AnyJob};
@@ -38,7 +38,7 @@ pub fn run_script<K: Sink, D: Device>(
     requires sound { is_setup setup.now ≡ true }
     requires order { map D.kind devices.items ≡ device_order }
     ensures count { K.faults sink.old ≤ K.faults sink.new }
-    ensures ends { Ends (AnyJob.Single (AnyRun.Back setup.now history script.now))
+    ensures ends { Ends (AnyJob.Single (AnyRun.Back setup.now history script.now)) []
         (writing_of K.written K.faults sink.old sink.new) result }
 {
     let mut debugger = match Debugger::new(alloc, setup, devices, history) {

@@ -1,6 +1,6 @@
 //! Runs an image on each of many machines, and writes a line of each.
 ghost use Rattle.std.specs.Prelude.{◌≡◌, ℕ, ◌+◌, ◌*◌, ◌≤◌, ◌/◌, ◌++◌, map, length};
-ghost use Rattle.std.specs.Prelude.{All, vec_len, IfOk, OnOk};
+ghost use Rattle.std.specs.Prelude.{[], All, vec_len, IfOk, OnOk};
 ghost use Rattle.std.specs.Vec.Iter.{into_iter_items, into_iter_len};
 ghost use Rattle.fsim_ports.specs.Sink.{Puts};
 ghost use Rattle.device_bus.specs.Bus.{AreSets, device_order};
@@ -54,7 +54,7 @@ pub fn run_sweep<R: Threads + Sync, K: Sink, D: Device + Send>(
     requires sets { AreSets (vec_len devices / 3) (map D.kind devices.items) }
     requires room { length files.now.machines ≤ vec_len devices / 3 }
     ensures count { K.faults sink.old ≤ K.faults sink.new }
-    ensures ends { Ends (AnyJob.Sweep files.now)
+    ensures ends { Ends (AnyJob.Sweep files.now) []
         (writing_of K.written K.faults sink.old sink.new) result }
 {
     let told = match tell_all(rt, alloc, files, devices) {

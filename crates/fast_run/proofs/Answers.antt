@@ -5,45 +5,45 @@ use Rattle.report_text.specs.declared.status.Status.{Status}
 use Rattle.report_text.specs.declared.status.Status.TheVariants.{Memory, Usage}
 use Rattle.fast_cli.specs.declared.line.Line.{Line}
 use Rattle.fast_jobs.specs.declared.job.Job.{Job}
-use Rattle.fast_jobs.specs.Call.{Reading, Writing, WroteTo}
-use Rattle.fast_jobs.specs.Ending.{Ends}
+use Rattle.fast_jobs.specs.Call.{Hearing, Reading, Writing, WroteTo}
+use Rattle.fast_jobs.specs.Ending.{HasTalked}
 use Rattle.fast_jobs.specs.Opening.{Asks, Closes, Starved}
-use Rattle.fast_run.specs.Answer.{IsAnswer}
+use Rattle.fast_run.specs.Answer.{IsAnswer, IsUnheard}
 use Rattle.fast_run.specs.Program.{asks_code, code_number, exit_number}
 
 -- there is no job, and the line of the answer was written
-pub answer-closed : (line : Line) (sets : ℕ) (files : Reading) (sink : Writing) (status answer : Status) → answer ≡ status → Closes line sets files status → WroteTo sink (fault_text status) →
-    IsAnswer (Some line) sets files sink answer
+pub answer-closed : (line : Line) (sets : ℕ) (files : Reading) (hearing : Hearing) (sink : Writing) (status answer : Status) → answer ≡ status → Closes line sets files status → IsUnheard hearing → WroteTo sink (fault_text status) →
+    IsAnswer (Some line) sets files hearing sink answer
 unfolding IsAnswer
-answer-closed line sets files sink status answer same cause written =
-    subst (λ (given : Status). IsAnswer (Some line) sets files sink given) (sym same) (inl (record { cause = cause; written = written }))
+answer-closed line sets files hearing sink status answer same cause unheard written =
+    subst (λ (given : Status). IsAnswer (Some line) sets files hearing sink given) (sym same) (inl (record { cause = cause; unheard = unheard; written = written }))
 
 -- the same, where the code counted the sets
-pub answer-refused : (line : Line) (counted sets : ℕ) (files : Reading) (sink : Writing) (status answer : Status) → counted ≡ sets → answer ≡ status → Closes line counted files status →
-    WroteTo sink (fault_text status) → IsAnswer (Some line) sets files sink answer
-answer-refused line counted sets files sink status answer count same cause written =
-    subst (λ (n : ℕ). IsAnswer (Some line) n files sink answer) count (answer-closed line counted files sink status answer same cause written)
+pub answer-refused : (line : Line) (counted sets : ℕ) (files : Reading) (hearing : Hearing) (sink : Writing) (status answer : Status) → counted ≡ sets → answer ≡ status → Closes line counted files status → IsUnheard hearing →
+    WroteTo sink (fault_text status) → IsAnswer (Some line) sets files hearing sink answer
+answer-refused line counted sets files hearing sink status answer count same cause unheard written =
+    subst (λ (n : ℕ). IsAnswer (Some line) n files hearing sink answer) count (answer-closed line counted files hearing sink status answer same cause unheard written)
 
 -- there is one, and this is the answer to it
-pub answer-ran : (line : Line) (sets : ℕ) (files : Reading) (sink : Writing) (job : Job) (status : Status) → Asks line sets files (Ok job) → Ends job sink status →
-    IsAnswer (Some line) sets files sink status
+pub answer-ran : (line : Line) (sets : ℕ) (files : Reading) (hearing : Hearing) (sink : Writing) (job : Job) (status : Status) → Asks line sets files (Ok job) → HasTalked job hearing sink status →
+    IsAnswer (Some line) sets files hearing sink status
 unfolding IsAnswer
-answer-ran line sets files sink job status asks ends = inr (record { job = job; asks = asks; ends = ends })
+answer-ran line sets files hearing sink job status asks talked = inr (record { job = job; asks = asks; talked = talked })
 
 -- memory was wanted, whatever the words are
-pub answer-starved : (asked : Option Line) (sets : ℕ) (files : Reading) (sink : Writing) (status : Status) → status ≡ Memory → WroteTo sink (fault_text Memory) → IsAnswer asked sets files sink status
+pub answer-starved : (asked : Option Line) (sets : ℕ) (files : Reading) (hearing : Hearing) (sink : Writing) (status : Status) → status ≡ Memory → IsUnheard hearing → WroteTo sink (fault_text Memory) → IsAnswer asked sets files hearing sink status
 unfolding IsAnswer
-answer-starved None sets files sink status memory written = inr (record { answer = memory; written = written })
-answer-starved (Some line) sets files sink status memory written = answer-closed line sets files sink Memory status memory (Starved refl) written
+answer-starved None sets files hearing sink status memory unheard written = inr (record { answer = memory; written = written })
+answer-starved (Some line) sets files hearing sink status memory unheard written = answer-closed line sets files hearing sink Memory status memory (Starved refl) unheard written
 
 -- the words are no line
-pub answer-usage : (asked : Option Line) (sets : ℕ) (files : Reading) (sink : Writing) (status : Status) → asked ≡ None → files.faults.after ≡ files.faults.before → status ≡ Usage →
-    WroteTo sink (fault_text Usage) → IsAnswer asked sets files sink status
+pub answer-usage : (asked : Option Line) (sets : ℕ) (files : Reading) (hearing : Hearing) (sink : Writing) (status : Status) → asked ≡ None → files.faults.after ≡ files.faults.before → IsUnheard hearing → status ≡ Usage →
+    WroteTo sink (fault_text Usage) → IsAnswer asked sets files hearing sink status
 unfolding IsAnswer
-answer-usage asked sets files sink status none unread usage written =
+answer-usage asked sets files hearing sink status none unread unheard usage written =
     let line : WroteTo sink (fault_text status) = subst (λ (given : Status). WroteTo sink (fault_text given)) (sym usage) written in
-    let answered : IsAnswer None sets files sink status = inl (record { answer = usage; unread = unread; written = line }) in
-    subst (λ (a : Option Line). IsAnswer a sets files sink status) (sym none) answered
+    let answered : IsAnswer None sets files hearing sink status = inl (record { answer = usage; unread = unread; unheard = unheard; written = line }) in
+    subst (λ (a : Option Line). IsAnswer a sets files hearing sink status) (sym none) answered
 
 -- an answer that has no code ends the process with its own number
 exit-plain : (asks : Bool) (code number : ℕ) → code ≡ number → number ≡ cond asks code number

@@ -5,17 +5,19 @@ mod counting;
 mod faults;
 mod gates;
 mod hostile;
+mod insight;
 mod journal;
 mod programs;
 mod reports;
 mod sessions;
 mod sweeps;
+mod talks;
 mod words;
 
 use crate::answer::fast_main;
 use crate::program::answer_texts;
 use device_bus::{Device, Finisher, Timer, sets_in_order};
-use fsim_ports::{Gate, MemoryFiles, MemorySink};
+use fsim_ports::{Gate, MemoryFiles, MemorySink, MemorySource};
 use std::alloc::Global;
 use std::process::Abort;
 use std::sync::Wait;
@@ -81,8 +83,21 @@ fn answer<R: Threads + Wait + Sync + Abort>(
     files: &mut MemoryFiles,
     sink: &mut MemorySink,
 ) -> Result<u8, Fail> {
+    let mut source = MemorySource::new(alloc, b"", 1)?;
+    answer_to(rt, alloc, line, files, &mut source, sink)
+}
+
+/// The same with this standard input.
+fn answer_to<R: Threads + Wait + Sync + Abort>(
+    rt: &R,
+    alloc: Global,
+    line: &str,
+    files: &mut MemoryFiles,
+    source: &mut MemorySource,
+    sink: &mut MemorySink,
+) -> Result<u8, Fail> {
     let texts = texts_of(alloc, line)?;
-    let answer = answer_texts(rt, alloc, texts.as_slice(), files, sink)?;
+    let answer = answer_texts(rt, alloc, texts.as_slice(), files, source, sink)?;
     Ok(answer.number)
 }
 
@@ -98,7 +113,17 @@ fn answer_with<R: Threads + Wait + Sync + Abort, G: Gate + Sync>(
 ) -> Result<u8, Fail> {
     let words = words_of(alloc, line)?;
     assert!(rt; sets_in_order(devices.as_slice()));
-    let answer = fast_main(rt, alloc, words.as_slice(), files, sink, devices, gate);
+    let mut source = MemorySource::new(alloc, b"", 1)?;
+    let answer = fast_main(
+        rt,
+        alloc,
+        words.as_slice(),
+        files,
+        &mut source,
+        sink,
+        devices,
+        gate,
+    );
     Ok(answer.number)
 }
 

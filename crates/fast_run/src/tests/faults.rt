@@ -67,7 +67,7 @@ fn files_of(alloc: Global) -> Result<MemoryFiles, Fail> {
 
 /// Lines and their refusals, in the order in which these are tested. `reference/out/reference`
 /// with a line's words writes them too.
-const REFUSED: [(&str, u8, &str); 51] = [
+const REFUSED: [(&str, u8, &str); 57] = [
     ("func none", 13, "fast: missing: image\n"),
     ("func none --input none", 13, "fast: missing: image\n"),
     ("func pass --input none", 13, "fast: missing: input\n"),
@@ -151,6 +151,13 @@ const REFUSED: [(&str, u8, &str); 51] = [
         12,
         "fast: machine: range core.window 0\n",
     ),
+    ("gdb short --input none", 13, "fast: missing: input\n"),
+    (
+        "gdb short --machine zero",
+        12,
+        "fast: machine: range core.window 0\n",
+    ),
+    ("gdb pass --machine low", 11, "fast: image: outside ram 0\n"),
     ("inorder pass empty bad", 18, "fast: bad plan: 2\n"),
     (
         "inorder short zero",
@@ -160,6 +167,13 @@ const REFUSED: [(&str, u8, &str); 51] = [
     ("inorder short empty", 11, "fast: image: short\n"),
     (
         "run short zero --pipeline inorder",
+        12,
+        "fast: machine: range core.window 0\n",
+    ),
+    ("count short --input none", 13, "fast: missing: input\n"),
+    ("count short", 11, "fast: image: short\n"),
+    (
+        "count short --machine zero",
         12,
         "fast: machine: range core.window 0\n",
     ),
@@ -201,6 +215,25 @@ fn image_may_fill_ram_to_its_last_byte(rt: HostRuntime) -> Result<(), Fail> {
     files.add("outside", &last_front(17))?;
     let told = "fast: image: outside ram 0\n";
     check(&rt, alloc, "func outside", &mut files, 11, told)
+}
+
+/// The front of an image whose text is so many bytes of 0 from 0x80000000 on.
+fn text_front(size: u32) -> [u8; 84] {
+    let mut front = super::FRONT;
+    front[72..76].copy_from_slice(&size.to_le_bytes());
+    front
+}
+
+#[test]
+fn text_of_more_than_1024_pages_is_not_counted(rt: HostRuntime) -> Result<(), Fail> {
+    let alloc = rt.alloc();
+    let mut files = MemoryFiles::new(alloc);
+    files.add("most", &text_front(4_194_304))?;
+    let told = "address,word,retired,exceptions,taken\n80000000,00000000,0,1,0\n";
+    check(&rt, alloc, "count most --cycles 1", &mut files, 5, told)?;
+    files.add("more", &text_front(4_194_308))?;
+    let told = "fast: too much text: 1025\n";
+    check(&rt, alloc, "count more --cycles 1", &mut files, 23, told)
 }
 
 /// Files of one byte, so many times.

@@ -1,15 +1,16 @@
 //! The words of the command line, cut at each space.
 use super::{SMALLEST_PASS, check, image_of};
 use crate::program::answer_texts;
-use fsim_ports::{MemoryFiles, MemorySink};
+use fsim_ports::{MemoryFiles, MemorySink, MemorySource};
 use std::test::Fail;
 
 const USAGE: &str = concat!(
     "fast: usage: fast func IMAGE, run IMAGE MACHINE, sched IMAGE MACHINE PLAN, soak SEED, ",
-    "back IMAGE SCRIPT, inorder IMAGE MACHINE PLAN, sweep IMAGE MACHINES\n",
+    "back IMAGE SCRIPT, inorder IMAGE MACHINE PLAN, sweep IMAGE MACHINES, ",
+    "count IMAGE, gdb IMAGE\n",
 );
 
-const REFUSED: [&str; 45] = [
+const REFUSED: [&str; 50] = [
     "",
     "--help",
     "walk a",
@@ -41,12 +42,17 @@ const REFUSED: [&str; 45] = [
     "soak 18446744073709551616",
     "soak -1",
     "sweep a",
+    "gdb",
+    "gdb a b",
+    "gdb a --history 1048577",
     "func a --ring 8",
     "func a --cycles 0",
     "func a --machine=",
     "func a --exit-code=1",
     "func a --exit-code --exit-code",
     "back a s --exit-code",
+    "count a --exit-code",
+    "gdb a --exit-code",
     "run a m --machine m",
     "func a --cycles 5 --cycles 5",
     "func a --output 16777217",
@@ -58,7 +64,7 @@ const REFUSED: [&str; 45] = [
 ];
 
 /// Lines by the file that they lack.
-const LINES: [(&str, &str); 19] = [
+const LINES: [(&str, &str); 21] = [
     ("run n m", "fast: missing: image\n"),
     ("run a n", "fast: missing: machine\n"),
     ("run --ring=8 a n", "fast: missing: machine\n"),
@@ -81,6 +87,8 @@ const LINES: [(&str, &str); 19] = [
     ("back a m --input i", "fast: missing: input\n"),
     ("inorder a m p", "fast: missing: plan\n"),
     ("inorder a m --input i", "fast: missing: input\n"),
+    ("gdb a --machine n", "fast: missing: machine\n"),
+    ("gdb a --input i", "fast: missing: input\n"),
 ];
 
 fn refused() -> &'static [&'static str] {
@@ -102,7 +110,8 @@ fn no_words_are_answered_by_the_usage(rt: HostRuntime) -> Result<(), Fail> {
     let alloc = rt.alloc();
     let mut files = MemoryFiles::new(alloc);
     let mut sink = MemorySink::new(alloc, 4096)?;
-    let answer = answer_texts(&rt, alloc, &[], &mut files, &mut sink)?;
+    let mut source = MemorySource::new(alloc, b"", 1)?;
+    let answer = answer_texts(&rt, alloc, &[], &mut files, &mut source, &mut sink)?;
     assert_eq!(rt; (answer.number, sink.bytes()), (10, USAGE.as_bytes()));
     Ok(())
 }

@@ -1,20 +1,28 @@
-use Rattle.std.proofs.Common.{◌≡◌, ◌≤◌, ◌+◌, ℕ, [], ◌∷◌, length, subst, arith}
-use Rattle.mono_model.specs.Setup.{input_limit}
+use Rattle.std.proofs.Common.{[], ◌∷◌, subst}
 use Rattle.report_text.specs.declared.status.Role.TheVariants as role
 use Rattle.fast_cli.specs.declared.line.Line.{Line}
 use Rattle.fast_jobs.specs.Files.{file, files_of}
-use Rattle.fast_jobs.specs.Job.{behind_machine, bytes_at}
 use Rattle.fast_jobs.specs.Reading.{AreWithin}
-use Rattle.fast_jobs.proofs.Jobs.{input-behind_machine, input-behind_machines}
+use Rattle.fast_jobs.proofs.Jobs.{input-behind_machine, input-behind_machine_alone, input-behind_machines}
 use Rattle.fast_jobs.proofs.job.job_of.Goals as goal
 
 pub func_job-requires-clause-input : goal.func_job-requires-clause-input
 func_job-requires-clause-input c =
     let contents = c.args.contents.items in
-    let machine = c.in-Func.machine in
     let within = subst (λ (line : Line). AreWithin (files_of line) contents) c.in-Func.is c.requires.within in
-    let place : behind_machine machine + 0 ≡ behind_machine machine = omega arith in
-    subst (λ (n : ℕ). length (bytes_at contents n) ≤ input_limit) place (input-behind_machine (file role.Image c.in-Func.image) machine [] c.in-Func.options contents within)
+    input-behind_machine_alone (file role.Image c.in-Func.image) c.in-Func.machine c.in-Func.options contents within
+
+pub count_job-requires-clause-input : goal.count_job-requires-clause-input
+count_job-requires-clause-input c =
+    let contents = c.args.contents.items in
+    let within = subst (λ (line : Line). AreWithin (files_of line) contents) c.in-Count.is c.requires.within in
+    input-behind_machine_alone (file role.Image c.in-Count.image) c.in-Count.machine c.in-Count.options contents within
+
+pub gdb_job-requires-clause-input : goal.gdb_job-requires-clause-input
+gdb_job-requires-clause-input c =
+    let contents = c.args.contents.items in
+    let within = subst (λ (line : Line). AreWithin (files_of line) contents) c.in-Gdb.is c.requires.within in
+    input-behind_machine_alone (file role.Image c.in-Gdb.image) c.in-Gdb.machine c.in-Gdb.options contents within
 
 pub back_job-requires-clause-input : goal.back_job-requires-clause-input
 back_job-requires-clause-input c =

@@ -1,7 +1,7 @@
 use Rattle.std.proofs.Common.{◌≡◌, ℕ, List, IfOk, subst}
 use Rattle.fast_cli.specs.Line.{line}
 use Rattle.fast_run.specs.Answer.{IsAnswer}
-use Rattle.fast_jobs.specs.Call.{reading_of, writing_of}
+use Rattle.fast_jobs.specs.Call.{hearing_of, reading_of, writing_of}
 use Rattle.fast_run.specs.Program.{exit_number}
 use Rattle.fast_run.proofs.Words.{words-all, words-next}
 use Rattle.fast_run.proofs.program.answer_texts.Goals as goal
@@ -16,6 +16,7 @@ pub returns-clause-answer : goal.returns-clause-answer
 returns-clause-answer g c =
     let P : List (List ℕ) → Type 0 = λ ws. IfOk c.answer_words.result (λ answer. IsAnswer (line ws) 64
     (reading_of g.F.Files.told g.F.Files.faults c.args.files.now c.answer_words.new.files)
+    (hearing_of g.S.Source.heard g.S.Source.faults c.args.source.now c.answer_words.new.source)
     (writing_of g.K.Sink.written g.K.Sink.faults c.args.sink.now c.answer_words.new.sink) answer.status) in
     subst P (words-all c.args.texts.now c.loop-text.words.items c.as_slice.result.now c.loop-text.text-index c.loop-text-test.false c.as_slice.ensures.value c.loop-text.invariant.words)
     c.answer_words.ensures.answer
