@@ -18,6 +18,8 @@ SEEDS = range(1, 51)
 CYCLES = "--cycles=100000"
 SECONDS = 120
 MOST_SHOWN = 5
+# What GDB writes to go to the end and back, and to see the registers; only `gdb` reads it.
+TALK = b"$QStartNoAckMode#b0$vCont;c#a8$g#67$bc#c5$g#67"
 REFUSED: list[list[str]] = [[], ["func"], ["func", "none"], ["run", __file__, __file__]]
 
 Answer = tuple[int, bytes, bytes]
@@ -29,9 +31,11 @@ def calls() -> Iterator[list[str]]:
     for path in sorted(EXAMPLES.glob("*/*.elf")):
         image = str(path)
         yield ["func", image, CYCLES]
+        yield ["count", image, CYCLES]
         yield ["sweep", image, CYCLES, *machines]
         yield ["inorder", image, machines[-1], "/dev/null", CYCLES]
         yield ["back", image, str(EXAMPLES / "back" / "session")]
+        yield ["gdb", image, CYCLES]
         for machine in machines:
             yield ["run", image, machine, CYCLES, "--threads=1"]
         yield ["run", image, machines[-1], CYCLES]
@@ -44,7 +48,7 @@ def answer(program: Path, words: list[str]) -> Answer:
     """What a program answers: its status, its output and what it says on standard error."""
     done = subprocess.run(
         [program, *words],
-        stdin=subprocess.DEVNULL,
+        input=TALK,
         capture_output=True,
         timeout=SECONDS,
         check=False,

@@ -8,7 +8,7 @@
 // Exit statuses beside those of a run.
 namespace status {
 constexpr int shown = 5, usage = 10, image = 11, machine = 12, missing = 13, read_fault = 14,
-              write_fault = 15, too_long = 17, bad_plan = 18, bad_script = 21;
+              write_fault = 15, too_long = 17, bad_plan = 18, bad_script = 21, too_much_text = 23;
 }
 
 struct Answer {

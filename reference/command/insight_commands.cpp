@@ -1,5 +1,6 @@
 #include "command/insight_commands.h"
 
+#include "base/text.h"
 #include "hart/report.h"
 #include "hart/run_alone.h"
 #include "insight/profile.h"
@@ -9,6 +10,16 @@ namespace {
 
 constexpr uint64_t usual_trace_length = 10000;
 constexpr size_t text_room = 1000000;
+constexpr uint32_t most_text_pages = 1024;
+
+// There are rows for so much text.
+void test_text(const Setup& setup) {
+    Memory memory;
+    memory.open(setup.parameters.ram_base, setup.parameters.ram_size, setup.image);
+    uint32_t pages = memory.text_pages();
+    if (pages > most_text_pages)
+        throw Refusal{status::too_much_text, formatted("too much text: %u", pages)};
+}
 
 // Calls `learn` with what each cycle did, up to a cycle or the end; the answer is the last sight.
 template <class Machine, class Learn>
@@ -76,6 +87,7 @@ Answer count(const Setup& setup) {
 }  // namespace
 
 Answer answer_insight(const Line& line, const Setup& setup) {
+    if (line.command == "count" || line.command == "profile") test_text(setup);
     if (line.command == "count") return count(setup);
     if (line.is_in_order) {
         const Setup own = in_order_setup(setup);

@@ -6,16 +6,18 @@
 
 const char* const usage =
     "usage: fast func IMAGE, run IMAGE MACHINE, sched IMAGE MACHINE PLAN, soak SEED, "
-    "back IMAGE SCRIPT, inorder IMAGE MACHINE PLAN, sweep IMAGE MACHINES";
+    "back IMAGE SCRIPT, inorder IMAGE MACHINE PLAN, sweep IMAGE MACHINES, count IMAGE, gdb IMAGE";
 
 namespace {
 
-// A command's form: how many names it takes, which options, and which flags, which have no value.
+// A command's form: how many names it takes, which options, and which flags, which have no value;
+// and how many steps can be taken back where the option is left out.
 struct Form {
     const char* command;
     size_t fewest, most;
     Words options;
     Words flags = {};
+    uint64_t history = 65536;
 };
 
 const Form forms[] = {
@@ -26,12 +28,12 @@ const Form forms[] = {
     {"back", 2, 2, {"machine", "history", "cycles", "input", "output"}},
     {"inorder", 2, 3, {"ring", "cycles", "input", "output"}, {"exit-code"}},
     {"sweep", 2, 65, {"pipeline", "ring", "cycles", "input", "output"}},
-    // Defined, but no words of `fast` yet: crates/insight_model and crates/gdb_model.
+    {"count", 1, 1, {"machine", "cycles", "input", "output"}},
+    {"gdb", 1, 1, {"machine", "history", "cycles", "input", "output"}, {}, 1048576},
+    // Defined, but no words of `fast` yet: crates/insight_model.
     {"trace", 2, 2, {"from", "to", "pipeline", "cycles", "input", "output"}},
     {"stack", 2, 2, {"pipeline", "cycles", "input", "output"}},
     {"profile", 2, 2, {"pipeline", "cycles", "input", "output"}},
-    {"count", 1, 1, {"cycles", "input", "output"}},
-    {"gdb", 1, 1, {"history", "cycles", "input", "output"}},
     // This program's own.
     {"splitrun", 2, 2, {"ring", "cycles", "input", "output"}},
 };
@@ -101,6 +103,7 @@ std::optional<Line> read_line(const Words& words) {
     auto form = std::find_if(std::begin(forms), std::end(forms),
                              [&](const Form& form) { return line.command == form.command; });
     if (form == std::end(forms)) return std::nullopt;
+    line.history = form->history;
     Words seen;
     bool only_names = false;
     for (size_t place = 1; place < words.size(); place++) {

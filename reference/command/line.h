@@ -11,7 +11,7 @@ using Words = std::vector<std::string>;
 struct Line {
     std::string command;
     std::vector<std::string> names;  // of files; of `soak` the seed
-    uint64_t threads = 2, ring = 64, cycles = 10000000, output = 16777216, history = 65536;
+    uint64_t threads = 2, ring = 64, cycles = 10000000, output = 16777216, history = 0;
     uint64_t seed = 0;
     std::optional<std::string> input;
     std::optional<std::string> machine;  // the option --machine

@@ -38,6 +38,18 @@ void Memory::open(uint32_t base, uint32_t size, const Image& image) {
     synchronise();
 }
 
+uint32_t Memory::text_pages() const {
+    constexpr uint32_t page_size = 4096;
+    uint32_t pages = 0;
+    for (uint32_t page = text_begin_ & ~(page_size - 1); page < text_end_; page += page_size) {
+        uint32_t word;
+        uint32_t place = page;
+        while (place < page + page_size && !fetch(base_ + place, word)) place += 4;
+        pages += place < page + page_size;
+    }
+    return pages;
+}
+
 void Memory::store(uint32_t address, uint8_t width, uint32_t value) {
     uint32_t place = address - base_;
     memcpy(&ram_[place], &value, width);

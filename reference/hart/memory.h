@@ -48,6 +48,9 @@ public:
         return true;
     }
 
+    // How many pages hold a word of text.
+    uint32_t text_pages() const;
+
     bool has(uint32_t address) const { return address - base_ < size_; }
     uint8_t byte(uint32_t address) const { return ram_[address - base_]; }
 

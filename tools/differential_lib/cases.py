@@ -80,7 +80,7 @@ class CaseDraw:
             case "func":
                 return [[kind, "p.elf", *self._place, *code, *options]]
             case "count":
-                return [[kind, "p.elf", *options]]
+                return [[kind, "p.elf", *self._place, *options]]
             case "run":
                 return self._runs(machine)
             case "sched":
@@ -91,7 +91,7 @@ class CaseDraw:
             case "back":
                 return [[kind, "p.elf", "script", *self._place, *self._history, *options]]
             case "gdb":
-                return [[kind, "p.elf", *self._history, *options]]
+                return [[kind, "p.elf", *self._place, *self._history, *options]]
             case "sweep":
                 machines = ["m.toml", "bad.toml", "m2.toml"]
                 whole = [kind, "p.elf", *machines, *self._pipeline, *options]

@@ -6,14 +6,15 @@ from pathlib import Path
 from .answers import ask
 
 USUAL_SECONDS = 60.0
-KINDS = ["func", "run", "sched", "inorder", "back", "sweep", "image", "machine", "words", "soak"]
+KINDS = [
+    *("func", "run", "sched", "inorder", "back", "sweep", "count", "gdb"),
+    *("image", "machine", "words", "soak"),
+]
 # Commands that are defined, and that a program may not know yet.
 LATER = {
     "trace": ["trace", "none", "none"],
     "stack": ["stack", "none", "none"],
     "profile": ["profile", "none", "none"],
-    "count": ["count", "none"],
-    "gdb": ["gdb", "none"],
 }
 # The reference alone, whose two machines and two ways through idle cycles are compared.
 ITSELF = "itself"

@@ -10,6 +10,8 @@ FORMS = [
     ["inorder", "p.elf", "m.toml", "plan"],
     ["back", "p.elf", "script"],
     ["sweep", "p.elf", "m.toml"],
+    ["count", "p.elf"],
+    ["gdb", "p.elf"],
 ]
 NO_COMMANDS = ["", "--help", "Func", "-", "--", "help", "-h"]
 POOL = [

@@ -17,7 +17,7 @@ OPTIONED = ["func", "run", "inorder", "back", "sweep"]
 
 # Programs that answer as the reference does, but for some words.
 PASSING = ""
-REFUSING = """case $1 in trace | gdb) echo "fast: usage: none"; exit 10 ;; esac"""
+REFUSING = """case $1 in trace | stack) echo "fast: usage: none"; exit 10 ;; esac"""
 COUNTING = """case $1 in
     run)
         text=$('{reference}' "$@"; echo "$?")
@@ -112,7 +112,7 @@ class SelfTest(Checks):
     def check_kinds(self) -> None:
         """Kinds that a program doesn't know are left out, and refused if they are named."""
         refusing = self.program("refusing", REFUSING)
-        others = [kind for kind in ALL_KINDS[:-1] if kind not in ("trace", "gdb")]
+        others = [kind for kind in ALL_KINDS[:-1] if kind not in ("trace", "stack")]
         self.expect("kinds: known", usual_kinds(refusing), others)
         self.expect("kinds", self.compare(refusing, "--count", "1"), (0, []))
         for kinds, text in {
