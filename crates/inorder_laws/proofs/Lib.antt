@@ -10,6 +10,7 @@ pub mod Telling
 pub mod Stepping
 pub mod Staying
 pub mod OutputRoom
+pub mod OutputGrows
 pub mod Counting
 pub mod Bounds
 mod Serving
@@ -20,6 +21,7 @@ pub mod Laws
 pub mod SplitRun
 mod SplitRising
 pub mod SplitStaying
+pub mod SplitGrowing
 pub mod Left
 pub mod Arriving
 pub mod Stopping

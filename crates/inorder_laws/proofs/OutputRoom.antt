@@ -12,9 +12,9 @@ use Rattle.machine_laws.proofs.OutputRoom.{same_output, cycle_end_arch}
 use Rattle.machine_laws.proofs.Phases.{interrupt_output, commits_from, by_kept, Tries, try_tries}
 use Rattle.inorder_machine.specs.InorderMachine.{InorderMachine, in_execute}
 use Rattle.inorder_machine.specs.Write.{write_width, inorder_commit}
-use Rattle.inorder_machine.specs.Execute.{moving_by, moving}
+use Rattle.inorder_machine.specs.Execute.{moving_by, moving, inorder_execute}
 use Rattle.inorder_machine.specs.Issue.{inorder_wants_time, issued, issue_machine}
-use Rattle.inorder_machine.specs.Demand.{InorderAt, interrupting, writing, accessing, executing, issuing, trying, ending, stopping, halted, inorder_in, demand_moved, inorder_turn_at, inorder_place}
+use Rattle.inorder_machine.specs.Demand.{InorderAt, interrupting, writing, accessing, executing, issuing, trying, ending, stopping, halted, inorder_in, inorder_turn_at, inorder_place}
 use Rattle.inorder_laws.proofs.Always.{always}
 use Rattle.inorder_laws.proofs.Leading.{moved_fewer}
 
@@ -30,22 +30,22 @@ try_output s (misses behind) d made within = same_output s d.machine.arch behind
 try_output s (appends behind) d made within = same_output s d.machine.arch behind.arch made.arch within
 try_output s (turns behind) d made within = same_output s d.machine.arch behind.arch made.arch within
 
-execute_arch : (s : Setup) (d : Demand) (memory : Option ℕ) → (demand_moved (moving s (inorder_in d memory)) d).machine.arch ≡ d.machine.arch
-unfolding moving
-execute_arch s d memory =
-    let x = moving_by s (in_execute d.machine.window) (inorder_in d memory) in
-    (by_kept x.completed.redirect x.completed.records (record d.machine { caches = x.caches }) (moved_fewer s (inorder_in d memory) (in_execute d.machine.window))).arch
+pub execute_arch : (s : Setup) (l : InorderMachine) → (inorder_execute s l).machine.arch ≡ l.machine.arch
+unfolding inorder_execute moving
+execute_arch s l =
+    let x = moving_by s (in_execute l.machine.window) l in
+    (by_kept x.completed.redirect x.completed.records (record l.machine { caches = x.caches }) (moved_fewer s l (in_execute l.machine.window))).arch
 
-issue_arch : (s : Setup) (l : InorderMachine) → (issue_machine s l).arch ≡ l.machine.arch
+pub issue_arch : (s : Setup) (l : InorderMachine) → (issue_machine s l).arch ≡ l.machine.arch
 unfolding flushed
 issue_arch s l = cond_both (inorder_wants_time s l.machine) (replayed l.machine) (issued s l) (λ x. x.arch ≡ l.machine.arch) (λ e. refl) (λ e. refl)
 
 turn_output : (s : Setup) (at : InorderAt) (d : Demand) (memory : Option ℕ) → HasOutput s d → HasOutput s (inorder_turn_at s at d memory).demand
-unfolding inorder_commit
+unfolding inorder_commit inorder_execute
 turn_output s interrupting d memory within = subst (λ (x : List ℕ). length x ≤ s.output) (sym (interrupt_output d.machine)) within
 turn_output s writing d memory within = (commits_from s (write_width (inorder_in d memory)) d.machine).output within
 turn_output s accessing d memory within = within
-turn_output s executing d memory within = same_output s d.machine.arch _ (execute_arch s d memory) within
+turn_output s executing d memory within = same_output s d.machine.arch _ (execute_arch s (inorder_in d memory)) within
 turn_output s issuing d memory within = same_output s d.machine.arch _ (issue_arch s (inorder_in d memory)) within
 turn_output s trying d memory within = try_output s (fetch_try s d.machine) d (try_tries s d.machine) within
 turn_output s ending d memory within = same_output s d.machine.arch _ (cycle_end_arch s d.machine) within

@@ -35,6 +35,7 @@ pub use split_run::{
     what_the_split_core_commits_in_order_stays,
 };
 pub use stays::{
-    committed_in_order_stays, output_told_in_order_stays_within_its_limit,
+    committed_in_order_stays, committed_output_in_order_begins_that_of_the_run,
+    output_in_order_only_grows, output_told_in_order_stays_within_its_limit,
     what_orders_in_order_commit_has_room,
 };

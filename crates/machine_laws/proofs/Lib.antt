@@ -2,6 +2,7 @@ pub mod Always
 mod DemandRun
 mod Epochs
 pub mod FirstEnd
+pub mod Growing
 pub mod Laws
 pub mod Making
 mod MonoRun
@@ -12,6 +13,7 @@ pub mod SplitBoundary
 pub mod SplitDropping
 pub mod SplitEvents
 pub mod SplitFull
+pub mod SplitGrowing
 mod SplitLeft
 pub mod SplitLists
 pub mod SplitNames
@@ -39,6 +41,7 @@ pub mod NextOrder
 pub mod Numbering
 pub mod Operands
 pub mod OrderSteps
+pub mod OutputGrows
 pub mod OutputRoom
 pub mod Owing
 pub mod Path

@@ -1,4 +1,4 @@
--- What each phase of a cycle leaves of the cycle number, of how many records the window has, and of the output's limit.
+-- What each phase of a cycle leaves of the cycle number, of how many records the window has, and of the output.
 use Rattle.std.proofs.Common.{◌≡◌, ℕ, ◌+◌, ◌≤◌, ◌<◌, nat_lt, ◌==◌, if◌then◌else◌, true, false, Option, Some, None, List, [], ◌∷◌, length, refl, ap, sym, ◌∙◌, subst, arith, length-append, leb-false}
 use Rattle.std.proofs.lemmas.Bool.{cond_both, cond-true}
 use Rattle.fsim_base.specs.declared.cause.Cause.{Cause}
@@ -21,6 +21,8 @@ use Rattle.mono_model.specs.Complete.{Completed, due, is_mispredicted, complete_
 use Rattle.mono_model.specs.Issue.{Passed, none_passed, turn_of, passed, walk, wants_time, replayed, issued, issue_phase}
 use Rattle.mono_model.specs.Fetch.{Try, misses, appends, turns, cache_read, missed, appended, new_record, predicted_next, tried, fetch_try}
 use Rattle.mono_model.proofs.Commits.{GoesOn, leaving_case, every_commit}
+use Rattle.machine_laws.specs.Output.{GrowsTo}
+use Rattle.machine_laws.proofs.Growing.{grows_none, grows_on, effect_grows}
 
 -- The interrupt.
 pub interrupt_cycle : (m : Machine) → (interrupt_phase m).cycle ≡ m.cycle
@@ -44,6 +46,7 @@ pub record GoneFrom (s : Setup) (m behind : Machine) : Type 0 where
   pub cycle : behind.cycle ≡ m.cycle
   pub window : length behind.window < length m.window
   pub output : length m.arch.output ≤ s.output → length behind.arch.output ≤ s.output
+  pub grows : GrowsTo m.arch.output behind.arch.output
 
 -- an instruction that has room for its byte keeps the output within its limit
 with_note_room : (s : Setup) (what : Note) (a : Arch) → has_no_room s what a ≡ false → length a.output ≤ s.output → length (with_note what a.output) ≤ s.output
@@ -73,6 +76,7 @@ committed_gone s rec rest r m is none room = record {
   cycle = refl;
   window = shorter m.window rest rec is;
   output = effect_room s r.cause rec.found r rec.time rec.addr m.arch none room;
+  grows = effect_grows rec.found r rec.time rec.addr m.arch;
 }
 
 faulted_gone : (s : Setup) (rec : Record) (rest : List Record) (r : Result) (why : Cause) (m : Machine) → m.window ≡ rec ∷ rest → r.cause ≡ Some why → GoneFrom s m (faulted rec rest r m)
@@ -81,11 +85,12 @@ faulted_gone s rec rest r why m is some = record {
   cycle = refl;
   window = omega (arith, shorter m.window rest rec is);
   output = λ within. subst (λ (x : List ℕ). length x ≤ s.output) (sym (fault_output r.cause why rec.found r rec.time rec.addr m.arch some)) within;
+  grows = effect_grows rec.found r rec.time rec.addr m.arch;
 }
 
 fenced_gone : (s : Setup) (m behind : Machine) → GoneFrom s m behind → GoneFrom s m (fenced s behind)
 unfolding flushed synced
-fenced_gone s m behind gone = record { cycle = gone.cycle; window = omega (arith, gone.window); output = gone.output }
+fenced_gone s m behind gone = record { cycle = gone.cycle; window = omega (arith, gone.window); output = gone.output; grows = gone.grows }
 
 faulted_empty : (rec : Record) (rest : List Record) (r : Result) (m : Machine) → length (faulted rec rest r m).window ≡ 0
 unfolding flushed
@@ -105,6 +110,7 @@ pub record CommittedFrom (s : Setup) (m : Machine) (c : Committed) : Type 0 wher
   pub cycle : c.machine.cycle ≡ m.cycle
   pub window : c.left + length c.machine.window ≤ length m.window
   pub output : length m.arch.output ≤ s.output → length c.machine.arch.output ≤ s.output
+  pub grows : GrowsTo m.arch.output c.machine.arch.output
   pub ending : EndingLeft c.ending c.left c.machine.window
 
 gone_on : (s : Setup) (m between behind : Machine) (left : ℕ) (ending : Ending) → CommittedFrom s m (ended_with between left plain) → GoneFrom s between behind →
@@ -113,6 +119,7 @@ gone_on s m between behind left ending on gone empty = record {
   cycle = gone.cycle ∙ on.cycle;
   window = omega (arith, on.window, gone.window);
   output = λ within. gone.output (on.output within);
+  grows = grows_on m.arch.output between.arch.output behind.arch.output on.grows gone.grows;
   ending = empty;
 }
 
@@ -127,10 +134,10 @@ one_from s m between left on =
     record {
       if_faults = λ cause why.
           gone_on s m between (faulted rec rest r between) left trap on (faulted_gone s rec rest r cause between is.window why) (omega arith, faulted_empty rec rest r between);
-      if_full = λ none room. record { cycle = on.cycle; window = on.window; output = on.output; ending = tt };
+      if_full = λ none room. record { cycle = on.cycle; window = on.window; output = on.output; grows = on.grows; ending = tt };
       if_ends = λ halt passes.
           let gone = committed_gone s rec rest r between is.window passes.cause passes.room in
-          gone_on s m between (record behind { end = end_of halt }) left plain on (record { cycle = gone.cycle; window = gone.window; output = gone.output }) tt;
+          gone_on s m between (record behind { end = end_of halt }) left plain on (record { cycle = gone.cycle; window = gone.window; output = gone.output; grows = gone.grows }) tt;
       if_syncs = λ passes fence. gone_on s m between (fenced s behind) left sync on (fenced_gone s between behind (committed_gone s rec rest r between is.window passes.cause passes.room)) (omega arith, fenced_empty s behind);
       if_leaves = λ passes fence. gone_on s m between behind left plain on (committed_gone s rec rest r between is.window passes.cause passes.room) tt;
     })
@@ -139,7 +146,7 @@ one_from s m between left on =
 pub commits_from : (s : Setup) (most : ℕ) (m : Machine) → CommittedFrom s m (commits s most 0 m)
 commits_from s most m =
     every_commit s (λ more. IsOn s m) (CommittedFrom s m) (λ left between on. on) (λ more left between on. one_from s m between left on)
-    most 0 m (record { cycle = refl; window = omega arith; output = λ within. within; ending = tt })
+    most 0 m (record { cycle = refl; window = omega arith; output = λ within. within; grows = grows_none m.arch.output; ending = tt })
 
 pub commit_from : (s : Setup) (m : Machine) → CommittedFrom s m (commit_phase s m)
 unfolding commit_phase

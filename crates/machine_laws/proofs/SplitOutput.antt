@@ -27,7 +27,7 @@ output_at s (Time m v) os = ap (λ (a : Arch). a.output) (path_at_time s m v os)
 output_at s (Stop m) os = ap (λ (a : Arch). a.output) (path-stop s m os m)
 output_at s (Sync m) os = ap (λ (a : Arch). a.output) (path_at_sync s m os)
 
-output_kept : (s : Setup) (o : Order) (os : List Order) (n : ℕ) → n ≤ number_of o → (path s (o ∷ os) n).output ≡ (path s os n).output
+pub output_kept : (s : Setup) (o : Order) (os : List Order) (n : ℕ) → n ≤ number_of o → (path s (o ∷ os) n).output ≡ (path s os n).output
 output_kept s o os n most = ⊎_elim here (λ other. ⊎_elim below (λ above. absurd (omega arith)) other) (cases_order n (number_of o))
   where
     here : n ≡ number_of o → (path s (o ∷ os) n).output ≡ (path s os n).output
@@ -36,7 +36,7 @@ output_kept s o os n most = ⊎_elim here (λ other. ⊎_elim below (λ above. a
     below : n < number_of o → (path s (o ∷ os) n).output ≡ (path s os n).output
     below under = ap (λ (a : Arch). a.output) (path_below s o os n under)
 
-told_kept : (s : Setup) (p : Place) → Owes p → (path s p.run.demand.orders p.run.demand.to_commit).output ≡ (path s (told p) p.run.demand.to_commit).output
+pub told_kept : (s : Setup) (p : Place) → Owes p → (path s p.run.demand.orders p.run.demand.to_commit).output ≡ (path s (told p) p.run.demand.to_commit).output
 told_kept s p (owes_none all) = ap (λ (k : ℕ). (path s (drop k p.run.demand.orders) p.run.demand.to_commit).output) (sym all)
 told_kept s p (owes_one all m o os is opening on) =
     let d = p.run.demand in

@@ -85,7 +85,7 @@ event_obeys s q take x = take_obeyed x.entries x
 event_obeys s q send x = send_obeyed x.hand x
 
 -- Orders obeyed behind others commit nothing below what these have committed.
-rises : (os later : List Order) → AreAtCommit (later ++ os) → last_commit os ≤ last_commit (later ++ os)
+pub rises : (os later : List Order) → AreAtCommit (later ++ os) → last_commit os ≤ last_commit (later ++ os)
 rises os [] are = omega arith
 rises os (Set m addr ∷ later) are = rises os later are.1
 rises os (Commit m ∷ later) are = omega (arith, rises os later are.1, are.0)
@@ -110,7 +110,7 @@ no_more more (o ∷ later) os is =
 
 module _ {s : Setup} {r : DemandRun} (laws : IsDemandRun s r) where
   -- the orders obeyed are the first of those told
-  obeyed_first : (x : Split) → (is : IsRunIn s r x) → Extends x.obeyed (told (r.places is.steps))
+  pub obeyed_first : (x : Split) → (is : IsRunIn s r x) → Extends x.obeyed (told (r.places is.steps))
   obeyed_first x is =
       let front = hand_list x.hand ++ reverse x.listed_orders in
       subst (λ (p : Place). Extends x.obeyed (told p)) is.at

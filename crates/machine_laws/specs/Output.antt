@@ -1,5 +1,5 @@
--- What an order commits has room in the output.
-use Rattle.std.specs.Prelude.{◌≤◌, List, [], ◌∷◌, length}
+-- What an order commits has room in the output, and the output only grows.
+use Rattle.std.specs.Prelude.{◌≡◌, ℕ, ◌≤◌, List, [], ◌∷◌, ◌++◌, length}
 use Rattle.rollback_cmds.specs.declared.order.Order.{Order}
 use Rattle.rollback_cmds.specs.declared.order.Order.TheVariants.{Set, Commit, Interrupt, Time, Stop, Sync}
 use Rattle.mono_model.specs.declared.setup.Setup.{Setup}
@@ -17,3 +17,9 @@ IsInRoom s os (Sync m) = length (path s os m).output ≤ s.output
 abbrev pub AreInRoom : Setup → List Order → Type 0
 AreInRoom s [] = Unit {0}
 AreInRoom s (o ∷ os) = IsInRoom s os o × AreInRoom s os
+
+-- An earlier output is the beginning of a later one.
+pub record GrowsTo (before after : List ℕ) : Type 0 where
+  -- the bytes sent since
+  pub sent : List ℕ
+  pub output : after ≡ before ++ sent

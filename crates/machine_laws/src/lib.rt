@@ -36,8 +36,8 @@ pub use split_run::{
     split_states_are_reached, what_the_split_core_commits_stays,
 };
 pub use stays::{
-    committed_stays, output_stays_within_its_limit, output_told_stays_within_its_limit,
-    what_orders_commit_has_room,
+    committed_output_begins_that_of_the_run, committed_stays, output_only_grows,
+    output_stays_within_its_limit, output_told_stays_within_its_limit, what_orders_commit_has_room,
 };
 pub use told::{
     each_order_is_told_by_a_step, needed_entry_goes_by_epoch_and_number, next_order_may_be_obeyed,
