@@ -17,6 +17,7 @@ pub mod Seeing
 pub mod Made
 pub mod Outputs
 pub mod Path
+pub mod Pieces
 pub mod Plain
 pub mod Reaching
 pub mod Reported

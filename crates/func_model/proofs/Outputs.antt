@@ -1,6 +1,7 @@
 -- How long the output is along a path: ahead by execution, and back by undo steps.
-use Rattle.std.proofs.Common.{◌≡◌, ◌<◌, ℕ, zero, suc, ◌+◌, ◌-◌, ◌≤◌, nat_le, if◌then◌else◌, Bool, true, false, Option, Some, None, List, [], ◌∷◌, ◌++◌, length, refl, ap, sym, ◌∙◌, subst, arith, inl, inr, length-append, length-take}
+use Rattle.std.proofs.Common.{◌≡◌, ◌<◌, ℕ, zero, suc, ◌+◌, ◌-◌, ◌≤◌, min, nat_le, if◌then◌else◌, Bool, true, false, Option, Some, None, List, [], ◌∷◌, ◌++◌, length, refl, ap, sym, ◌∙◌, subst, arith, inl, inr, length-append, length-take, take}
 use Rattle.std.specs.Prelude.{filter}
+use Rattle.std.proofs.lemmas.List.{take_all, take-take}
 use Rattle.std.proofs.lemmas.Bool.{le-leb, lt-leb, cond-true, cond-false, cases_lt}
 use Rattle.fsim_base.specs.declared.access.RamRange.{RamRange}
 use Rattle.fsim_base.specs.declared.cause.Cause.{Cause}
@@ -73,6 +74,20 @@ undone_length : (range : RamRange) (past : Past) (a : Arch) → length (undone r
 unfolding undone
 undone_length range past a = length_back past.out a.output
 
+-- what it leaves is the front of the output
+taken_by : (b : Bool) (output : List ℕ) → (if b then shortened output else output) ≡ take (length (if b then shortened output else output)) output
+taken_by true output =
+    let e : length (shortened output) ≡ length output - 1 = length-take (length output - 1) output ∙ omega arith in
+    ap (λ (k : ℕ). take k output) (sym e)
+taken_by false output = sym (take_all (length output) output (omega arith))
+
+undone_taken : (range : RamRange) (past : Past) (a : Arch) → (undone range past a).output ≡ take (length (undone range past a).output) a.output
+unfolding undone
+undone_taken range past a = taken_by past.out a.output
+
+undone_shorter : (range : RamRange) (past : Past) (a : Arch) → length (undone range past a).output ≤ length a.output
+undone_shorter range past a = omega (arith, undone_length range past a)
+
 sent_more : (b : Bool) (past : Past) (rest : List Past) → length (if b then past ∷ rest else rest) ≡ (if b then 1 else 0) + length rest
 sent_more true past rest = omega arith
 sent_more false past rest = omega arith
@@ -105,6 +120,44 @@ module _ (range : RamRange) (at : ℕ → Arch) where
       let e : n + length (from_number n steps) ≡ m + length steps = omega (arith, length_from range at m n steps leads from) in
       outputs_all n (from_number n steps) (leads_from range at m n steps leads from)
       ∙ ap (λ (k : ℕ). length (at k).output - bytes_sent (from_number n steps)) e
+
+  -- they are the last ones of the output
+  outputs_taken : (m : ℕ) (steps : List Past) → LeadsBack range at m steps → (at m).output ≡ take (length (at m).output) (at (m + length steps)).output
+  outputs_taken m [] leads =
+      let e : m ≡ m + 0 = omega arith in
+      sym (take_all (length (at m).output) (at m).output (omega arith)) ∙ ap (λ (k : ℕ). take (length (at m).output) (at k).output) e
+  outputs_taken m (past ∷ steps) leads =
+      let e : suc m + length steps ≡ m + length (past ∷ steps) = omega arith in
+      let next = (at (suc m)).output in
+      let last = (at (suc m + length steps)).output in
+      let fewer : length (at m).output ≤ length next =
+      subst (λ (a : Arch). length a.output ≤ length next) leads.0.back (undone_shorter range past (at (suc m))) in
+      let one : (at m).output ≡ take (length (at m).output) next =
+      subst (λ (a : Arch). a.output ≡ take (length a.output) next) leads.0.back (undone_taken range past (at (suc m))) in
+      one ∙ ap (λ (l : List ℕ). take (length (at m).output) l) (outputs_taken (suc m) steps leads.1)
+      ∙ take-take (length (at m).output) (length next) last fewer
+      ∙ ap (λ (k : ℕ). take (length (at m).output) (at k).output) e
+
+  pub outputs_front : (m n : ℕ) (steps : List Past) → LeadsBack range at m steps → n ≡ m + length steps → (at m).output ≡ take (length (at n).output - bytes_sent steps) (at n).output
+  outputs_front m n steps leads is =
+      let e : length (at m).output ≡ length (at n).output - bytes_sent steps =
+      outputs_all m steps leads ∙ ap (λ (k : ℕ). length (at k).output - bytes_sent steps) (sym is) in
+      outputs_taken m steps leads ∙ ap (λ (k : ℕ). take (length (at m).output) (at k).output) (sym is) ∙ ap (λ (k : ℕ). take k (at n).output) e
+
+  -- also where the path doesn't come so far, and nothing is to be taken back
+  pub outputs_up_to : (m p : ℕ) (steps : List Past) → LeadsBack range at m steps → length steps ≡ p - m → (at (min m p)).output ≡ take (length (at p).output - bytes_sent steps) (at p).output
+  outputs_up_to m p steps leads held = elim (cases_lt p m) [
+    | inl beyond ↦
+        let e : min m p ≡ p = omega arith in
+        ap (λ (k : ℕ). (at k).output) e ∙ by_none steps (omega (arith, held))
+    | inr within ↦
+        let e : min m p ≡ m = omega arith in
+        ap (λ (k : ℕ). (at k).output) e ∙ outputs_front m p steps leads (omega (arith, held))
+  ]
+    where
+      by_none : (l : List Past) → length l ≡ 0 → (at p).output ≡ take (length (at p).output - bytes_sent l) (at p).output
+      by_none [] none = sym (take_all (length (at p).output - 0) (at p).output (omega arith))
+      by_none (past ∷ l) none = absurd (omega (arith, none))
 
   -- no more bytes than steps
   pub outputs_within : (m : ℕ) (steps : List Past) → LeadsBack range at m steps → length (at (m + length steps)).output ≤ length (at m).output + length steps

@@ -1,10 +1,9 @@
 -- How far an order may take a walk.
-use Rattle.std.proofs.Common.{◌≡◌, ◌⊎◌, ℕ, ◌≤◌, ◌<◌, Bool, true, false, refl, sym, ◌∙◌, subst, arith, inl, inr}
+use Rattle.std.proofs.Common.{◌≡◌, ℕ, ◌≤◌, ◌<◌, Bool, true, false, refl, subst, arith}
 use Rattle.rollback_cmds.specs.declared.order.Order.{Order}
 use Rattle.rollback_cmds.specs.declared.order.Order.TheVariants.{Commit}
 use Rattle.mono_model.specs.Demand.{number_of}
 use Rattle.func_model.specs.declared.walk.Walk.{Walk}
-use Rattle.func_model.specs.Walk.{IsStanding, IsOver}
 
 -- beyond the position only a walk that isn't stopped goes
 pub runs_beyond : {D : Type 0} (n : ℕ) (walk : Walk D) → (walk.is_stopped ≡ true → n ≤ walk.position) → walk.position < n → walk.is_stopped ≡ false
@@ -18,10 +17,3 @@ pub commit_running : {D : Type 0} (order : Order) (n : ℕ) (walk : Walk D) → 
 commit_running order n walk is reach =
     let P : Order → Type 0 = λ o. (walk.is_stopped ≡ true → number_of o ≤ walk.position) in
     runs_beyond n walk (subst P is reach)
-
--- where it isn't stopped, it stands for a setup and orders
-pub running_stands : {D : Type 0} (walk : Walk D) → (IsStanding walk ⊎ IsOver walk) → walk.is_stopped ≡ false → IsStanding walk
-running_stands walk able running = elim able [
-  | inl standing ↦ standing
-  | inr over ↦ let e : true ≡ false = sym over.stopped ∙ running in cc
-]

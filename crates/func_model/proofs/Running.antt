@@ -7,36 +7,29 @@ use Rattle.device_bus.specs.declared.undo.Note.{Note}
 use Rattle.device_bus.specs.declared.undo.Note.TheVariants as note
 use Rattle.machine_csr.specs.Trap.{timer_pending}
 use Rattle.mono_model.specs.declared.final_state.End.{End}
-use Rattle.mono_model.specs.declared.final_state.Final.{Final}
 use Rattle.mono_model.specs.declared.final_state.End.TheVariants as end
 use Rattle.mono_model.specs.declared.setup.Setup.{Setup}
 use Rattle.mono_model.specs.Arch.{Arch, start, trapped, interrupted, synced, compare_of}
 use Rattle.mono_model.specs.Effect.{effect, note_of, is_fence_result}
 use Rattle.mono_model.specs.Sequence.{found_next, result_at, seq}
 use Rattle.mono_model.specs.Final.{end_of, has_ended}
-use Rattle.mono_model.specs.Alone.{Alone, alone, alone_final, alone_start, alone_step, after_interrupt, instruction, has_no_room, with_fence, end_after, count_cause, is_pending}
+use Rattle.mono_model.specs.Alone.{Alone, alone, alone_start, alone_step, after_interrupt, instruction, has_no_room, with_fence, end_after, count_cause, is_pending}
 use Rattle.mono_model.proofs.Next.{alone-suc}
 use Rattle.func_model.specs.declared.performed.Stepped.{Stepped}
 use Rattle.func_model.specs.declared.performed.Stepped.TheVariants as code
 use Rattle.func_model.specs.declared.contents.Contents.{Contents}
 use Rattle.func_model.specs.Steps.{is_full, stepped_by}
 use Rattle.func_model.specs.Contents.{ContentsStandFor, retired_in, after_instruction, before}
+use Rattle.func_model.specs.Alone.{IsAt, IsOnAt}
 use Rattle.func_model.specs.Hart.{arch_of}
 use Rattle.func_model.proofs.Counts.{effect_retired}
 
--- a side at a state of the run that goes on with step `made`, unless that is past the limit
-pub record RunsAt {D : Type 0} (s : Setup) (m : Alone) (made count : ℕ) (side : Contents D) : Type 0 where
-  pub stands : ContentsStandFor s m.arch side
-  pub steps : m.steps ≡ made
-  pub taken : m.interrupts ≡ count
-  pub end : m.end ≡ (if made == s.cycles then end.Limit else end.Running)
-
 -- what holds before each step
-pub record Invariant {D : Type 0} (limit most made count : ℕ) (opened side : Contents D) : Type 0 where
+pub record Invariant {D : Type 0} (limit from to before made count : ℕ) (opened side : Contents D) : Type 0 where
   pub retired_bound : retired_in side ≤ made
   pub count_bound : count ≤ made
   pub room : side.hart.room ≡ opened.hart.room
-  pub running : (s : Setup) → s.cycles ≡ limit → s.output ≡ most → ContentsStandFor s (start s) opened → RunsAt s (alone s made) made count side
+  pub running : (s : Setup) → s.output ≡ limit → to ≤ s.cycles → IsOnAt s (alone s from) from before opened → IsOnAt s (alone s made) made count side
 
 -- how the answer of a step tells of its note
 out_on : (full : Bool) → (if full then code.Full else code.On) ≡ code.On → full ≡ false
@@ -103,7 +96,7 @@ behind_next s m = after_instruction s (found_next s m.arch) (result_at s (Some m
 
 -- a step that goes on
 pub step_on : {D : Type 0} (s : Setup) (m : Alone) (count : ℕ) (side : Contents D) → m.interrupts ≡ count → stepped_by s.output m.arch.output (note_next s m) ≡ code.On →
-    ContentsStandFor s (behind_next s m) side → RunsAt s (instruction s m) (m.steps + 1) count side
+    ContentsStandFor s (behind_next s m) side → IsOnAt s (instruction s m) (m.steps + 1) count side
 unfolding seq
 step_on {D} s m count side taken on h =
     let room : has_no_room s (note_next s m) m.arch ≡ false = on_room s (note_next s m) m.arch on in
@@ -116,15 +109,8 @@ step_on {D} s m count side taken on h =
       end = rw room (on_end s (note_next s m) m.arch (m.steps + 1) on);
     }
 
--- a step that ends the run: the side stands behind it
-pub record Stopped {D : Type 0} (s : Setup) (m : Alone) (made count : ℕ) (how : End) (side : Contents D) : Type 0 where
-  pub stands : ContentsStandFor s m.arch side
-  pub steps : m.steps ≡ made
-  pub taken : m.interrupts ≡ count
-  pub end : m.end ≡ how
-
 pub step_full : {D : Type 0} (s : Setup) (m : Alone) (count : ℕ) (side : Contents D) → m.interrupts ≡ count → stepped_by s.output m.arch.output (note_next s m) ≡ code.Full →
-    ContentsStandFor s (behind_next s m) side → Stopped s (instruction s m) m.steps count end.OutputFull side
+    ContentsStandFor s (behind_next s m) side → IsAt s (instruction s m) m.steps count end.OutputFull side
 unfolding seq
 step_full {D} s m count side taken full h =
     let room : has_no_room s (note_next s m) m.arch ≡ true = full_room s (note_next s m) m.arch full in
@@ -132,7 +118,7 @@ step_full {D} s m count side taken full h =
     record { stands = rw room (rw space at h); steps = rw room refl; taken = rw room taken; end = rw room refl }
 
 pub step_ended : {D : Type 0} (s : Setup) (m : Alone) (count : ℕ) (halt : Halt) (side : Contents D) → m.interrupts ≡ count → stepped_by s.output m.arch.output (note_next s m) ≡ code.Ended halt →
-    ContentsStandFor s (behind_next s m) side → Stopped s (instruction s m) (m.steps + 1) count (end_of halt) side
+    ContentsStandFor s (behind_next s m) side → IsAt s (instruction s m) (m.steps + 1) count (end_of halt) side
 unfolding seq
 step_ended {D} s m count halt side taken ended h =
     let room : has_no_room s (note_next s m) m.arch ≡ false = ended_room s (note_next s m) m.arch halt ended in
@@ -238,23 +224,23 @@ stands_at {D} s m made side steps h =
 
 pub goes_on : {D : Type 0} (s : Setup) (m : Alone) (made count : ℕ) (answer : Stepped) (ready_side side : Contents D) → Ready s m made count ready_side →
     answer ≡ stepped_by s.output m.arch.output (note_of (result_at s (Some made) m.arch) m.arch) →
-    ContentsStandFor s (after_instruction s (found_next s m.arch) (result_at s (Some made) m.arch) made m.arch) side → answer ≡ code.On → RunsAt s (instruction s m) (made + 1) count side
+    ContentsStandFor s (after_instruction s (found_next s m.arch) (result_at s (Some made) m.arch) made m.arch) side → answer ≡ code.On → IsOnAt s (instruction s m) (made + 1) count side
 goes_on {D} s m made count answer ready_side side ready is h on =
-    let P : ℕ → Type 0 = λ k. RunsAt {D = D} s (instruction s m) (k + 1) count side in
+    let P : ℕ → Type 0 = λ k. IsOnAt {D = D} s (instruction s m) (k + 1) count side in
     subst P ready.steps (step_on s m count side ready.taken (sym (stepped_at s m made answer ready.steps is) ∙ on) (stands_at s m made side ready.steps h))
 
 pub stops_full : {D : Type 0} (s : Setup) (m : Alone) (made count : ℕ) (answer : Stepped) (ready_side side : Contents D) → Ready s m made count ready_side →
     answer ≡ stepped_by s.output m.arch.output (note_of (result_at s (Some made) m.arch) m.arch) →
-    ContentsStandFor s (after_instruction s (found_next s m.arch) (result_at s (Some made) m.arch) made m.arch) side → answer ≡ code.Full → Stopped s (instruction s m) made count end.OutputFull side
+    ContentsStandFor s (after_instruction s (found_next s m.arch) (result_at s (Some made) m.arch) made m.arch) side → answer ≡ code.Full → IsAt s (instruction s m) made count end.OutputFull side
 stops_full {D} s m made count answer ready_side side ready is h full =
-    let P : ℕ → Type 0 = λ k. Stopped {D = D} s (instruction s m) k count end.OutputFull side in
+    let P : ℕ → Type 0 = λ k. IsAt {D = D} s (instruction s m) k count end.OutputFull side in
     subst P ready.steps (step_full s m count side ready.taken (sym (stepped_at s m made answer ready.steps is) ∙ full) (stands_at s m made side ready.steps h))
 
 pub stops_ended : {D : Type 0} (s : Setup) (m : Alone) (made count : ℕ) (halt : Halt) (answer : Stepped) (ready_side side : Contents D) → Ready s m made count ready_side →
     answer ≡ stepped_by s.output m.arch.output (note_of (result_at s (Some made) m.arch) m.arch) →
-    ContentsStandFor s (after_instruction s (found_next s m.arch) (result_at s (Some made) m.arch) made m.arch) side → answer ≡ code.Ended halt → Stopped s (instruction s m) (made + 1) count (end_of halt) side
+    ContentsStandFor s (after_instruction s (found_next s m.arch) (result_at s (Some made) m.arch) made m.arch) side → answer ≡ code.Ended halt → IsAt s (instruction s m) (made + 1) count (end_of halt) side
 stops_ended {D} s m made count halt answer ready_side side ready is h ended =
-    let P : ℕ → Type 0 = λ k. Stopped {D = D} s (instruction s m) (k + 1) count (end_of halt) side in
+    let P : ℕ → Type 0 = λ k. IsAt {D = D} s (instruction s m) (k + 1) count (end_of halt) side in
     subst P ready.steps (step_ended s m count halt side ready.taken (sym (stepped_at s m made answer ready.steps is) ∙ ended) (stands_at s m made side ready.steps h))
 
 -- before the limit a run goes on
@@ -297,69 +283,44 @@ stays {D} s a old new same h =
 pub retires : {D : Type 0} {old new : Contents D} → new ≡ old → retired_in new ≡ retired_in old
 retires {D} same = ap (λ (side : Contents D). retired_in side) same
 
-pub starts : {D : Type 0} (s : Setup) (limit : ℕ) (side : Contents D) → 1 ≤ limit → s.cycles ≡ limit → ContentsStandFor s (start s) side → RunsAt s (alone s 0) 0 0 side
-unfolding alone alone_start
-starts s limit side some is h = record { stands = h; steps = refl; taken = refl; end = ap (λ (b : Bool). if b then end.Limit else end.Running) (sym off) }
-  where
-    off : (0 == s.cycles) ≡ false
-    off = grind (arith, common_steps)
-
-going : {D : Type 0} (s : Setup) (made count : ℕ) (now : Contents D) → made < s.cycles → RunsAt s (alone s made) made count now → has_ended (alone s made).end ≡ false
+going : {D : Type 0} (s : Setup) (made count : ℕ) (now : Contents D) → made < s.cycles → IsOnAt s (alone s made) made count now → has_ended (alone s made).end ≡ false
 going s made count now below at = below_limit s (alone s made) made below at.end
 
-readied : {D : Type 0} (s : Setup) (made count one : ℕ) (answer : Stepped) (now mid next : Contents D) → RunsAt s (alone s made) made count now →
+readied : {D : Type 0} (s : Setup) (made count one : ℕ) (answer : Stepped) (now mid next : Contents D) → IsOnAt s (alone s made) made count now →
     Steps s made one answer now mid next → Ready s (after_interrupt (alone s made)) made (count + one) mid
 readied s made count one answer now mid next at step =
     interrupt_ready s (alone s made) made count one mid at.steps at.taken (step.pending (alone s made).arch at.stands) (step.interrupted (alone s made).arch at.stands)
 
-pub runs_on : {D : Type 0} (s : Setup) (made count one : ℕ) (answer : Stepped) (now mid next : Contents D) → made < s.cycles → RunsAt s (alone s made) made count now →
-    Steps s made one answer now mid next → answer ≡ code.On → RunsAt s (alone s (made + 1)) (made + 1) (count + one) next
+pub runs_on : {D : Type 0} (s : Setup) (made count one : ℕ) (answer : Stepped) (now mid next : Contents D) → made < s.cycles → IsOnAt s (alone s made) made count now →
+    Steps s made one answer now mid next → answer ≡ code.On → IsOnAt s (alone s (made + 1)) (made + 1) (count + one) next
 runs_on {D} s made count one answer now mid next below at step on =
     let m : Alone = after_interrupt (alone s made) in
     let ready = readied s made count one answer now mid next at step in
-    let P : Alone → Type 0 = λ x. RunsAt {D = D} s x (made + 1) (count + one) next in
+    let P : Alone → Type 0 = λ x. IsOnAt {D = D} s x (made + 1) (count + one) next in
     subst P (sym (alone_goes_on s made (going s made count now below at)))
     (goes_on s m made (count + one) answer mid next ready (step.stepped m.arch ready.stands) (step.stands m.arch ready.stands) on)
 
-pub runs_full : {D : Type 0} (s : Setup) (made count one : ℕ) (answer : Stepped) (now mid next : Contents D) → made < s.cycles → RunsAt s (alone s made) made count now →
-    Steps s made one answer now mid next → answer ≡ code.Full → Stopped s (alone s (made + 1)) made (count + one) end.OutputFull next
+pub runs_full : {D : Type 0} (s : Setup) (made count one : ℕ) (answer : Stepped) (now mid next : Contents D) → made < s.cycles → IsOnAt s (alone s made) made count now →
+    Steps s made one answer now mid next → answer ≡ code.Full → IsAt s (alone s (made + 1)) made (count + one) end.OutputFull next
 runs_full {D} s made count one answer now mid next below at step full =
     let m : Alone = after_interrupt (alone s made) in
     let ready = readied s made count one answer now mid next at step in
-    let P : Alone → Type 0 = λ x. Stopped {D = D} s x made (count + one) end.OutputFull next in
+    let P : Alone → Type 0 = λ x. IsAt {D = D} s x made (count + one) end.OutputFull next in
     subst P (sym (alone_goes_on s made (going s made count now below at)))
     (stops_full s m made (count + one) answer mid next ready (step.stepped m.arch ready.stands) (step.stands m.arch ready.stands) full)
 
-pub runs_ended : {D : Type 0} (s : Setup) (made count one : ℕ) (halt : Halt) (answer : Stepped) (now mid next : Contents D) → made < s.cycles → RunsAt s (alone s made) made count now →
-    Steps s made one answer now mid next → answer ≡ code.Ended halt → Stopped s (alone s (made + 1)) (made + 1) (count + one) (end_of halt) next
+pub runs_ended : {D : Type 0} (s : Setup) (made count one : ℕ) (halt : Halt) (answer : Stepped) (now mid next : Contents D) → made < s.cycles → IsOnAt s (alone s made) made count now →
+    Steps s made one answer now mid next → answer ≡ code.Ended halt → IsAt s (alone s (made + 1)) (made + 1) (count + one) (end_of halt) next
 runs_ended {D} s made count one halt answer now mid next below at step ended =
     let m : Alone = after_interrupt (alone s made) in
     let ready = readied s made count one answer now mid next at step in
-    let P : Alone → Type 0 = λ x. Stopped {D = D} s x (made + 1) (count + one) (end_of halt) next in
+    let P : Alone → Type 0 = λ x. IsAt {D = D} s x (made + 1) (count + one) (end_of halt) next in
     subst P (sym (alone_goes_on s made (going s made count now below at)))
     (stops_ended s m made (count + one) halt answer mid next ready (step.stepped m.arch ready.stands) (step.stands m.arch ready.stands) ended)
 
--- what is reported of a run that stopped behind step `made`
-pub reports : {D : Type 0} (s : Setup) (limit made steps count : ℕ) (how : End) (result : Final) (side : Contents D) → made + 1 ≤ limit → has_ended how ≡ true →
-    Stopped s (alone s (made + 1)) steps count how side →
-    ((m : Alone) → ContentsStandFor s m.arch side → m.end ≡ how → m.interrupts ≡ count → m.exceptions ≡ steps - retired_in side → result ≡ alone_final m) → result ≡ alone_final (alone s limit)
-reports s limit made steps count how result side within ended at report =
-    let m : Alone = alone s (made + 1) in
-    report m at.stands at.end at.taken (exceptions_are m steps (retired_in side) (alone_adds s (made + 1)) at.steps (stands_retired s m.arch side at.stands))
-    ∙ sym (ap alone_final (whole_is s limit made within (ap has_ended at.end ∙ ended)))
-
-pub rests : {D : Type 0} (s : Setup) (limit made steps count : ℕ) (how : End) (side : Contents D) → made + 1 ≤ limit → has_ended how ≡ true →
-    Stopped s (alone s (made + 1)) steps count how side → ContentsStandFor s (alone s limit).arch side
-rests {D} s limit made steps count how side within ended at =
-    let P : Alone → Type 0 = λ m. ContentsStandFor {D = D} s m.arch side in
-    subst P (sym (whole_is s limit made within (ap has_ended at.end ∙ ended))) at.stands
-
--- a run that reached its limit
-pub limit_reports : {D : Type 0} (s : Setup) (limit made count : ℕ) (result : Final) (side : Contents D) → made ≡ limit → s.cycles ≡ limit → RunsAt s (alone s made) made count side →
-    ((m : Alone) → ContentsStandFor s m.arch side → m.end ≡ end.Limit → m.interrupts ≡ count → m.exceptions ≡ limit - retired_in side → result ≡ alone_final m) → result ≡ alone_final (alone s limit)
-limit_reports s limit made count result side all is at report =
-    let m : Alone = alone s made in
-    let same : (made == s.cycles) ≡ true = grind (arith, common_steps) in
-    report m at.stands (at.end ∙ ap (λ (b : Bool). if b then end.Limit else end.Running) same) at.taken
-    (exceptions_are m limit (retired_in side) (alone_adds s made) (at.steps ∙ all) (stands_retired s m.arch side at.stands))
-    ∙ ap (λ (k : ℕ). alone_final (alone s k)) all
+-- a run that stopped after step `made` stands so after any more steps
+pub rests : {D : Type 0} (s : Setup) (to made steps count : ℕ) (how : End) (side : Contents D) → made + 1 ≤ to → has_ended how ≡ true →
+    IsAt s (alone s (made + 1)) steps count how side → IsAt s (alone s to) steps count how side
+rests {D} s to made steps count how side within ended at =
+    let P : Alone → Type 0 = λ m. IsAt {D = D} s m steps count how side in
+    subst P (sym (whole_is s to made within (ap has_ended at.end ∙ ended))) at

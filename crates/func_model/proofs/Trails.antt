@@ -35,7 +35,7 @@ pub right_off : (b c : Bool) → c ≡ false → (b && c) ≡ false
 right_off true c off = off
 right_off false c off = refl
 
-running : (e : End) → has_ended e ≡ false → e ≡ end.Running
+pub running : (e : End) → has_ended e ≡ false → e ≡ end.Running
 running end.Pass is = cc
 running (end.Fail code) is = cc
 running end.Limit is = cc

@@ -230,9 +230,3 @@ opening_stands {D} s contents journal stands space empty =
       stopped = refl;
       on = λ still. tt;
     }
-
--- a fresh walk stands at the start
-pub fresh_start : {D : Type 0} (s : Setup) (walk : Walk D) → WalkStandsFor s [] walk → walk.position ≡ 0 → ContentsStandFor s (start s) walk.contents
-fresh_start {D} s walk h fresh =
-    let P : Arch → Type 0 = λ a. ContentsStandFor {D = D} s a walk.contents in
-    subst P (ap (path s []) fresh ∙ path_start s) h.holds.contents

@@ -7,6 +7,7 @@ pub mod Telling
 pub mod History
 pub mod Walk
 pub mod Trail
+pub mod Alone
 pub mod Side
 pub mod Position
 pub mod Told

@@ -1,6 +1,6 @@
 ghost use Rattle.std.specs.Prelude.{◌≡◌, ◌<◌, ◌≤◌, ◌+◌, ◌-◌, ◌^◌, Some, IfOk, is_none, length};
 ghost use Rattle.std.specs.Prelude.{ℕ, Option, IfSome, IfNone, ◌&&◌, map, true, is_some};
-ghost use Rattle.std.specs.Prelude.{if◌then◌else◌, None, false, drop};
+ghost use Rattle.std.specs.Prelude.{if◌then◌else◌, None, false, drop, ◌==◌};
 ghost use Rattle.std.specs.List.{All};
 ghost use Rattle.mono_model.specs.Result.{is_time_load, is_time_read};
 ghost use Rattle.func_model.specs.Hart.{found_in};
@@ -10,12 +10,12 @@ ghost use Rattle.func_model.specs.Undo.{ended_in, is_device};
 use crate::found::Fetched;
 use crate::hart::{Hart, StoreAccess, compare, plain};
 use crate::memory::Memory;
-use crate::performed::{Interrupted, Made, PastStep, Performed, Stepped};
+use crate::performed::{Interrupted, Made, PastStep, Performed, Piece, Stepped};
 use crate::take_back::trap_before;
 use device_bus::{Bus, Device};
 use fsim_base::{Access, Class, Halt, NoMemory, Spot, Width};
 use machine_csr::{Csrs, TIMER_INTERRUPT};
-use mono_model::{End, Final, Setup, Stats, end_of};
+use mono_model::{End, Final, Setup, Stats};
 use std::alloc::Global;
 use trace_entry::Entry;
 use undo_journal::{Change, Past};
@@ -105,6 +105,7 @@ impl<D: Device> Contents<D> {
     ghost use Rattle.mono_model.specs.Setup.{is_setup, ram_range};
     ghost use Rattle.mono_model.specs.Arch.{Arch, start, interrupted, synced};
     ghost use Rattle.mono_model.specs.Alone.{Alone, alone, alone_final};
+    ghost use Rattle.func_model.specs.Alone.{IsAt, IsOnAt, end_left};
     ghost use Rattle.mono_model.specs.Effect.{note_of};
     ghost use Rattle.mono_model.specs.Sequence.{found_next, result_at, entry_at, seq};
     ghost use Rattle.func_model.specs.Steps.{stepped_by};
@@ -117,7 +118,9 @@ impl<D: Device> Contents<D> {
     ghost use Rattle.func_model.specs.Hart.{FetchedFits, next_found, IsRegister};
     ghost use Rattle.func_model.specs.Telling.{named_by, entry_by, past_by};
 
-    /// Executes the next instruction with a time, and says how it leaves the run.
+    /// Executes the next instruction with a time, and says how it leaves the run. It stays a call,
+    /// since few instructions come to it.
+    #[inline(never)]
     fn advance(&mut self, time: u64, limit: u32) -> Stepped
         requires count { retired_in self.old < 2 ^ 64 - 1 }
         requires limit { limit ≤ self.old.hart.room }
@@ -211,7 +214,7 @@ impl<D: Device> Contents<D> {
     }
 
     /// What is reported of a run that ended so after `made` steps.
-    fn report(&self, end: End, made: u64, interrupts: u64) -> Final
+    pub fn report(&self, end: End, made: u64, interrupts: u64) -> Final
         ensures reported { (s : Setup) (m : Alone) → ContentsStandFor s m.arch self.now
             → m.end ≡ end → m.interrupts ≡ interrupts → m.exceptions ≡ made - retired_in self.now
             → result ≡ alone_final m }
@@ -246,22 +249,27 @@ impl<D: Device> Contents<D> {
         }
     }
 
-    /// Runs alone: one instruction a step, with the step's number as its time, until the program
-    /// ends the run, the output has no room for a byte, or so many steps were made. Nothing was
-    /// executed before.
-    pub fn alone(&mut self, steps: u64, limit: u32) -> Final
-        requires fresh { retired_in self.old ≡ 0 }
-        requires some { 1 ≤ steps }
-        requires bounded { steps < 2 ^ 63 }
+    /// Makes the steps from one number to another of a run alone: one instruction a step, with the
+    /// step's number as its time, until the program ends the run or the output has no room for a
+    /// byte. `taken` interrupts were taken before. It stays a call, one a piece: beside what its
+    /// caller does the loop would keep less in the host's registers.
+    #[inline(never)]
+    pub fn alone(&mut self, from: u64, taken: u64, to: u64, limit: u32) -> Piece
+        requires within { from ≤ to }
+        requires bounded { to < 2 ^ 63 }
+        requires retired { retired_in self.old ≤ from }
+        requires taken { taken ≤ from }
         requires limit { limit ≤ self.old.hart.room }
-        ensures reported { (s : Setup) → s.cycles ≡ steps → s.output ≡ limit
-            → ContentsStandFor s (start s) self.old → result ≡ alone_final (alone s steps) }
-        ensures contents { (s : Setup) → s.cycles ≡ steps → s.output ≡ limit
-            → ContentsStandFor s (start s) self.old
-            → ContentsStandFor s (alone s steps).arch self.new }
+        ensures stands { (s : Setup) → s.output ≡ limit → to ≤ s.cycles
+            → IsOnAt s (alone s from) from taken self.old
+            → IsAt s (alone s to) result.made result.taken
+            (end_left result.stepped (result.made == s.cycles)) self.new }
+        ensures whole { result.stepped ≡ Stepped.On → result.made ≡ to }
+        ensures few { result.stepped ≡ Stepped.On → result.taken ≤ result.made }
+        ensures room { self.new.hart.room ≡ self.old.hart.room }
     {
-        let mut interrupts = 0;
-        for made in 0..steps {
+        let mut interrupts = taken;
+        for made in from..to {
             interrupts += self.interrupt(made);
             // Most instructions need no frame of what all others need.
             if self.advance_plain(made) {
@@ -269,11 +277,27 @@ impl<D: Device> Contents<D> {
             }
             match self.advance(made, limit) {
                 Stepped::On => {}
-                Stepped::Full => return self.report(End::OutputFull, made, interrupts),
-                Stepped::Ended(halt) => return self.report(end_of(halt), made + 1, interrupts),
+                Stepped::Full => {
+                    return Piece {
+                        made,
+                        taken: interrupts,
+                        stepped: Stepped::Full,
+                    };
+                }
+                Stepped::Ended(halt) => {
+                    return Piece {
+                        made: made + 1,
+                        taken: interrupts,
+                        stepped: Stepped::Ended(halt),
+                    };
+                }
             }
         }
-        self.report(End::Limit, steps, interrupts)
+        Piece {
+            made: to,
+            taken: interrupts,
+            stepped: Stepped::On,
+        }
     }
 
     /// The output so far.

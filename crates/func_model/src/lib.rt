@@ -3,6 +3,7 @@
 //! by step with a history to go back over.
 #![tactic(auto)]
 
+mod alone;
 mod contents;
 mod found;
 mod hart;
@@ -15,6 +16,7 @@ mod told;
 mod trail;
 mod walk;
 
+pub use alone::AloneRun;
 pub use looking::Ahead;
 pub use side::{Arch, FuncSide};
 pub use told::{Executed, ToldRun};

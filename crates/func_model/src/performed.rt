@@ -12,6 +12,17 @@ pub enum Stepped {
     Ended(Halt),
 }
 
+/// How a piece of a run alone left it.
+#[derive(Clone, Copy, Debug, PartialEq, Eq)]
+pub struct Piece {
+    /// How many steps of the run were made.
+    pub made: u64,
+    /// How many timer interrupts were taken.
+    pub taken: u64,
+    /// How its last step left the run; it goes on where all steps of the piece were made.
+    pub stepped: Stepped,
+}
+
 /// What is told of an instruction once it is executed: how it leaves the run, what its entry needs,
 /// and what takes back what it changed beside its register.
 #[derive(Clone, Copy, Debug, PartialEq, Eq)]

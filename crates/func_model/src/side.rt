@@ -83,12 +83,12 @@ impl<D: Device> Model for FuncSide<D> {
 }
 
 impl<D: Device> FuncSide<D> {
-    ghost use Rattle.std.specs.Prelude.{List, ◌∷◌, []};
+    ghost use Rattle.std.specs.Prelude.{List, ◌∷◌, [], min};
     ghost use Rattle.rollback_cmds.specs.declared.order.Order.{Order as SpecOrder};
     ghost use Rattle.device_bus.specs.Bus.{device_order};
     ghost use Rattle.mono_model.specs.Setup.{is_setup};
+    ghost use Rattle.mono_model.specs.Path.{path};
     ghost use Rattle.mono_model.specs.Demand.{number_of};
-    ghost use Rattle.mono_model.specs.Alone.{alone, alone_final};
     ghost use Rattle.func_model.specs.Contents.{output_in};
     ghost use Rattle.func_model.specs.Walk.{WalkStandsFor, IsFresh, IsForward, IsAtRest};
     ghost use Rattle.func_model.specs.Walk.{IsProduced, IsObeyed, HasRoom, entry_if};
@@ -173,24 +173,6 @@ impl<D: Device> FuncSide<D> {
         }
     }
 
-    /// Runs alone, without a timing side: one instruction a step, with the step's number as its
-    /// time, until the program ends the run, the output has no room for a byte, or so many steps
-    /// were made. Nothing was produced or obeyed before; the side is stopped then.
-    pub fn alone(&mut self, steps: u64) -> Final
-        requires fresh { IsFresh self.old }
-        requires some { 1 ≤ steps }
-        requires bounded { steps < 2 ^ 63 }
-        ensures reported { (s : RunSetup) → s.cycles ≡ steps → WalkStandsFor s [] self.old
-            → result ≡ alone_final (alone s steps) }
-        ensures contents { (s : RunSetup) → s.cycles ≡ steps → WalkStandsFor s [] self.old
-            → ContentsStandFor s (alone s steps).arch self.new.contents }
-        ensures stopped { self.new.is_stopped ≡ true }
-    {
-        self.walk.is_stopped = true;
-        let limit = self.walk.limit;
-        self.walk.contents.alone(steps, limit)
-    }
-
     /// The registers.
     pub fn arch(&self) -> Arch
         ensures arch { result ≡ arch_in self.now }
@@ -203,6 +185,17 @@ impl<D: Device> FuncSide<D> {
         ensures output { result.now ≡ output_in self.now.contents }
     {
         self.walk.contents.output()
+    }
+
+    /// What is committed of the output, as far as the side has executed what is. None of these bytes
+    /// is ever taken back.
+    pub fn committed_output(&self) -> &[u8]
+        ensures output { (s : RunSetup) (os : List SpecOrder) → WalkStandsFor s os self.now
+            → result.now ≡ (path s os (min self.now.committed self.now.position)).output }
+    {
+        let output = self.walk.contents.output();
+        let ahead = self.walk.journal.sent() as usize;
+        &output[..output.len().saturating_sub(ahead)]
     }
 
     /// The word of RAM at an address; None exactly where the address isn't a multiple of 4 or is

@@ -1,11 +1,13 @@
 -- A list of steps with rising numbers: its newest step, one step more, and the steps from a number on.
-use Rattle.std.proofs.Common.{◌≡◌, ℕ, zero, suc, ◌+◌, ◌-◌, ◌<◌, ◌≤◌, nat_lt, nat_le, List, [], ◌∷◌, ◌++◌, length, get_or, take, drop, refl, arith, Some, IfSome, All, inl, inr}
+use Rattle.std.proofs.Common.{◌≡◌, ℕ, zero, suc, ◌+◌, ◌-◌, ◌<◌, ◌≤◌, nat_lt, nat_le, if◌then◌else◌, Bool, true, false, List, [], ◌∷◌, ◌++◌, length, get_or, take, drop, refl, ap, ◌∙◌, arith, Some, IfSome, All, inl, inr}
+use Rattle.std.specs.Prelude.{filter}
+use Rattle.std.specs.Int.{from_bool}
 use Rattle.std.specs.List.{prefix_len}
 use Rattle.std.proofs.lemmas.List.Quantifiers.{all_pairs_push}
 use Rattle.std.proofs.lemmas.Option.{slice_get-get_or}
 use Rattle.std.proofs.lemmas.Bool.{cases_lt}
-use Rattle.std.proofs.lemmas.List.{get_or_append_left, length-append, length-take, get_or-take}
-use Rattle.std.proofs.lemmas.List.Elements.{All-filter}
+use Rattle.std.proofs.lemmas.List.{get_or_append_left, length-append, length-take, get_or-take, take_more}
+use Rattle.std.proofs.lemmas.List.Elements.{All-filter, filter-append}
 use Rattle.undo_journal.specs.declared.past.Past.{Past}
 use Rattle.undo_journal.specs.Journal.{IsRising, newest, from_number}
 
@@ -73,3 +75,22 @@ below_from m n ps below = All-filter (λ p. nat_le m p.number) (λ p. p.number <
 pub below_front : (n : ℕ) (ps : List Past) (p : Past) → All (λ p. p.number < n) (ps ++ p ∷ []) → All (λ p. p.number < n) ps
 below_front n ps p below = λ k d within.
     rw (← get_or_append_left ps (p ∷ []) d k within) (below k d (omega (arith, length-append ps (p ∷ []))))
+
+-- the bytes that one step more takes back
+sent_one : (b : Bool) (p : Past) → length (if b then p ∷ [] else []) ≡ from_bool b
+sent_one true p = refl
+sent_one false p = refl
+
+pub sent_within : (b : Bool) → from_bool b ≤ 1
+sent_within true = omega arith
+sent_within false = omega arith
+
+pub sent_more : (steps : List Past) (k : ℕ) (p : Past) → k < length steps → get_or steps k p ≡ p
+    → length (filter (λ q. q.out) (take (k + 1) steps)) ≡ length (filter (λ q. q.out) (take k steps)) + from_bool p.out
+sent_more steps k p under read =
+    let out : Past → Bool = λ q. q.out in
+    let before = take k steps in
+    ap (λ (l : List Past). length (filter out l)) (take_more steps k p under ∙ ap (λ (q : Past). before ++ q ∷ []) read)
+    ∙ ap (λ (l : List Past). length l) (filter-append out before (p ∷ []))
+    ∙ length-append (filter out before) (filter out (p ∷ []))
+    ∙ ap (λ (n : ℕ). length (filter out before) + n) (sent_one p.out p)

@@ -36,7 +36,7 @@ impl Model for Journal {
 
 impl Journal {
     ghost use Rattle.std.specs.Prelude.{◌≡◌, ◌↔◌, ◌<◌, ◌≤◌, ◌++◌, ◌∷◌, [], length, IsTrue, IsNone};
-    ghost use Rattle.std.specs.Prelude.{IfOk, IfSome, IfNone, nat_lt, ◌-◌, take, drop};
+    ghost use Rattle.std.specs.Prelude.{IfOk, IfSome, IfNone, nat_lt, ◌-◌, take, drop, filter};
     ghost use Rattle.std.specs.List.{prefix_len};
     ghost use Rattle.undo_journal.specs.Journal.{IsRising, newest, from_number};
 
@@ -146,6 +146,18 @@ impl Journal {
         let gone = count.min(u64::from(self.count)) as u32;
         self.first = behind(self.first, gone, self.mask);
         self.count -= gone;
+    }
+
+    /// How many bytes of output the steps take back.
+    pub fn sent(&self) -> u32
+        ensures bytes { result ≡ length (filter (λ past. past.out) self.now.steps) }
+    {
+        let mut sent = 0;
+        for passed in 0..self.count {
+            let place = behind(self.first, passed, self.mask);
+            sent += u32::from(self.places[place as usize].out);
+        }
+        sent
     }
 
     /// How many steps have numbers below `n`. They stand first.

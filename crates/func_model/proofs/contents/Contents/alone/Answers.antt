@@ -1,22 +1,22 @@
-use Rattle.std.proofs.Common.{arith, refl, subst, ◌∙◌, ◌≡◌, ◌<◌, ◌≤◌, ◌+◌, ◌-◌, ℕ}
+use Rattle.std.proofs.Common.{arith, refl, subst, ◌∙◌, ◌≡◌, ◌<◌, ◌≤◌, ◌+◌, ℕ}
 use Rattle.mono_model.specs.Final.{end_of}
-use Rattle.mono_model.specs.declared.final_state.End.{End}
 use Rattle.mono_model.specs.declared.final_state.End.TheVariants as end
 use Rattle.mono_model.specs.declared.setup.Setup.{Setup}
-use Rattle.mono_model.specs.Alone.{Alone, alone, alone_final}
-use Rattle.func_model.specs.Contents.{ContentsStandFor, GoesOn, retired_in, before}
+use Rattle.mono_model.specs.Alone.{alone}
+use Rattle.func_model.specs.Contents.{GoesOn, before}
+use Rattle.func_model.specs.Alone.{IsOnAt}
 use Rattle.func_model.specs.declared.performed.Stepped.TheVariants.{On}
-use Rattle.func_model.proofs.Running.{Steps, starts, runs_on, runs_full, runs_ended, reports, rests, limit_reports, end_has_ended, stays, retires}
+use Rattle.func_model.proofs.Running.{Steps, runs_on, runs_full, runs_ended, rests, end_has_ended, stays, retires}
 use Rattle.func_model.proofs.contents.Contents.alone.Given as given
 use Rattle.func_model.proofs.contents.Contents.alone.Goals as goal
 
 -- src/side.rt:129:9
 pub loop-made-init : goal.loop-made-init
 loop-made-init g c = record {
-  retired_bound = omega (arith, c.requires.fresh);
-  count_bound = omega arith;
+  retired_bound = c.requires.retired;
+  count_bound = c.requires.taken;
   room = refl;
-  running = λ s is fits h. starts s c.args.steps c.args.self.now c.requires.some is h;
+  running = λ s fits within at. at;
 }
 
 -- src/side.rt:130:13
@@ -34,7 +34,7 @@ advance-requires g c = record {
 }
 
 -- the contracts of a step, in a run
-steps_full : (g : given.Over) (c : goal.After-report g) (s : Setup) → s.output ≡ c.args.limit → Steps s c.loop-made.made c.interrupt-interrupts.result c.advance.result c.loop-made.self c.advance_plain.new.self c.advance.new.self
+steps_full : (g : given.Over) (c : goal.In-Full g) (s : Setup) → s.output ≡ c.args.limit → Steps s c.loop-made.made c.interrupt-interrupts.result c.advance.result c.loop-made.self c.advance_plain.new.self c.advance.new.self
 steps_full g c s fits = record {
   pending = c.interrupt-interrupts.ensures.pending s;
   interrupted = λ a h. stays s (before c.loop-made.made a) c.interrupt-interrupts.new.self c.advance_plain.new.self (c.advance_plain.ensures.unchanged c.if-advance_plain.false) (c.interrupt-interrupts.ensures.stands s a h);
@@ -42,7 +42,7 @@ steps_full g c s fits = record {
   stands = λ a. c.advance.ensures.stands s a fits;
 }
 
-steps_ended : (g : given.Over) (c : goal.After-report-in-Ended g) (s : Setup) → s.output ≡ c.args.limit → Steps s c.loop-made.made c.interrupt-interrupts.result c.advance.result c.loop-made.self c.advance_plain.new.self c.advance.new.self
+steps_ended : (g : given.Over) (c : goal.In-Ended g) (s : Setup) → s.output ≡ c.args.limit → Steps s c.loop-made.made c.interrupt-interrupts.result c.advance.result c.loop-made.self c.advance_plain.new.self c.advance.new.self
 steps_ended g c s fits = record {
   pending = c.interrupt-interrupts.ensures.pending s;
   interrupted = λ a h. stays s (before c.loop-made.made a) c.interrupt-interrupts.new.self c.advance_plain.new.self (c.advance_plain.ensures.unchanged c.if-advance_plain.false) (c.interrupt-interrupts.ensures.stands s a h);
@@ -70,45 +70,41 @@ steps_plain g c s = record {
   stands = (goes g c).stands s;
 }
 
-below : (made steps cycles : ℕ) → made < steps → cycles ≡ steps → made < cycles
-below made steps cycles under is = omega arith
+below : (made to cycles : ℕ) → made < to → to ≤ cycles → made < cycles
+below made to cycles under within = omega arith
 
-one_more : (made steps : ℕ) → made < steps → made + 1 ≤ steps
-one_more made steps under = omega arith
-
--- src/side.rt:133:34
-pub returns-in-Full-clause-reported : goal.returns-in-Full-clause-reported
-returns-in-Full-clause-reported g c = λ s is fits h.
-    let at = runs_full s c.loop-made.made c.loop-made.interrupts c.interrupt-interrupts.result c.advance.result c.loop-made.self c.advance_plain.new.self c.advance.new.self
-    (below c.loop-made.made c.args.steps s.cycles c.loop-made-test.true is) (c.loop-made.invariant.running s is fits h) (steps_full g c s fits) c.in-Full.is in
-    reports s c.args.steps c.loop-made.made c.loop-made.made (c.loop-made.interrupts + c.interrupt-interrupts.result) end.OutputFull c.report.result c.advance.new.self
-    (one_more c.loop-made.made c.args.steps c.loop-made-test.true) refl at (c.report.ensures.reported s)
+one_more : (made to : ℕ) → made < to → made + 1 ≤ to
+one_more made to under = omega arith
 
 -- src/side.rt:133:34
-pub returns-in-Full-clause-contents : goal.returns-in-Full-clause-contents
-returns-in-Full-clause-contents g c = λ s is fits h.
-    let at = runs_full s c.loop-made.made c.loop-made.interrupts c.interrupt-interrupts.result c.advance.result c.loop-made.self c.advance_plain.new.self c.advance.new.self
-    (below c.loop-made.made c.args.steps s.cycles c.loop-made-test.true is) (c.loop-made.invariant.running s is fits h) (steps_full g c s fits) c.in-Full.is in
-    rests s c.args.steps c.loop-made.made c.loop-made.made (c.loop-made.interrupts + c.interrupt-interrupts.result) end.OutputFull c.advance.new.self
-    (one_more c.loop-made.made c.args.steps c.loop-made-test.true) refl at
+pub returns-in-Full-clause-stands : goal.returns-in-Full-clause-stands
+returns-in-Full-clause-stands g c = λ s fits within at.
+    let stopped = runs_full s c.loop-made.made c.loop-made.interrupts c.interrupt-interrupts.result c.advance.result c.loop-made.self c.advance_plain.new.self c.advance.new.self
+    (below c.loop-made.made c.args.to s.cycles c.loop-made-test.true within) (c.loop-made.invariant.running s fits within at) (steps_full g c s fits) c.in-Full.is in
+    rests s c.args.to c.loop-made.made c.loop-made.made (c.loop-made.interrupts + c.interrupt-interrupts.result) end.OutputFull c.advance.new.self
+    (one_more c.loop-made.made c.args.to c.loop-made-test.true) refl stopped
+
+pub returns-in-Full-clause-room : goal.returns-in-Full-clause-room
+returns-in-Full-clause-room g c =
+    c.advance.ensures.room ∙ c.advance_plain.ensures.room ∙ c.interrupt-interrupts.ensures.room ∙ c.loop-made.invariant.room
+
+pub returns-in-Full-clause-whole : goal.returns-in-Full-clause-whole
+returns-in-Full-clause-whole g c = λ on. cc
+
+pub returns-in-Full-clause-few : goal.returns-in-Full-clause-few
+returns-in-Full-clause-few g c = λ on. cc
 
 -- src/side.rt:134:41
-pub returns-in-Ended-clause-reported : goal.returns-in-Ended-clause-reported
-returns-in-Ended-clause-reported g c = λ s is fits h.
-    let P : End → Type 0 = λ how. (m : Alone) → ContentsStandFor s m.arch c.advance.new.self → m.end ≡ how → m.interrupts ≡ c.loop-made.interrupts + c.interrupt-interrupts.result →
-    m.exceptions ≡ (c.loop-made.made + 1) - retired_in c.advance.new.self → c.report-in-Ended.result ≡ alone_final m in
-    let at = runs_ended s c.loop-made.made c.loop-made.interrupts c.interrupt-interrupts.result c.in-Ended.halt c.advance.result c.loop-made.self c.advance_plain.new.self c.advance.new.self
-    (below c.loop-made.made c.args.steps s.cycles c.loop-made-test.true is) (c.loop-made.invariant.running s is fits h) (steps_ended g c s fits) c.in-Ended.is in
-    reports s c.args.steps c.loop-made.made (c.loop-made.made + 1) (c.loop-made.interrupts + c.interrupt-interrupts.result) (end_of c.in-Ended.halt) c.report-in-Ended.result c.advance.new.self
-    (one_more c.loop-made.made c.args.steps c.loop-made-test.true) (end_has_ended c.in-Ended.halt) at (subst P c.end_of.ensures.end (c.report-in-Ended.ensures.reported s))
+pub returns-in-Ended-clause-stands : goal.returns-in-Ended-clause-stands
+returns-in-Ended-clause-stands g c = λ s fits within at.
+    let stopped = runs_ended s c.loop-made.made c.loop-made.interrupts c.interrupt-interrupts.result c.in-Ended.halt c.advance.result c.loop-made.self c.advance_plain.new.self c.advance.new.self
+    (below c.loop-made.made c.args.to s.cycles c.loop-made-test.true within) (c.loop-made.invariant.running s fits within at) (steps_ended g c s fits) c.in-Ended.is in
+    rests s c.args.to c.loop-made.made (c.loop-made.made + 1) (c.loop-made.interrupts + c.interrupt-interrupts.result) (end_of c.in-Ended.halt) c.advance.new.self
+    (one_more c.loop-made.made c.args.to c.loop-made-test.true) (end_has_ended c.in-Ended.halt) stopped
 
--- src/side.rt:134:41
-pub returns-in-Ended-clause-contents : goal.returns-in-Ended-clause-contents
-returns-in-Ended-clause-contents g c = λ s is fits h.
-    let at = runs_ended s c.loop-made.made c.loop-made.interrupts c.interrupt-interrupts.result c.in-Ended.halt c.advance.result c.loop-made.self c.advance_plain.new.self c.advance.new.self
-    (below c.loop-made.made c.args.steps s.cycles c.loop-made-test.true is) (c.loop-made.invariant.running s is fits h) (steps_ended g c s fits) c.in-Ended.is in
-    rests s c.args.steps c.loop-made.made (c.loop-made.made + 1) (c.loop-made.interrupts + c.interrupt-interrupts.result) (end_of c.in-Ended.halt) c.advance.new.self
-    (one_more c.loop-made.made c.args.steps c.loop-made-test.true) (end_has_ended c.in-Ended.halt) at
+pub returns-in-Ended-clause-room : goal.returns-in-Ended-clause-room
+returns-in-Ended-clause-room g c =
+    c.advance.ensures.room ∙ c.advance_plain.ensures.room ∙ c.interrupt-interrupts.ensures.room ∙ c.loop-made.invariant.room
 
 -- src/side.rt:129:9
 pub loop-made-preserved : goal.loop-made-preserved
@@ -116,8 +112,8 @@ loop-made-preserved g c = record {
   retired_bound = omega (arith, retires (c.advance_plain.ensures.unchanged c.if-advance_plain.false), c.advance.ensures.bound, c.interrupt-interrupts.ensures.retired, c.loop-made.invariant.retired_bound);
   count_bound = omega (arith, c.loop-made.invariant.count_bound, c.interrupt-interrupts.ensures.one);
   room = c.advance.ensures.room ∙ c.advance_plain.ensures.room ∙ c.interrupt-interrupts.ensures.room ∙ c.loop-made.invariant.room;
-  running = λ s is fits h. runs_on s c.loop-made.made c.loop-made.interrupts c.interrupt-interrupts.result c.advance.result c.loop-made.self c.advance_plain.new.self c.advance.new.self
-      (below c.loop-made.made c.args.steps s.cycles c.loop-made-test.true is) (c.loop-made.invariant.running s is fits h) (steps_on g c s fits) c.in-On.is;
+  running = λ s fits within at. runs_on s c.loop-made.made c.loop-made.interrupts c.interrupt-interrupts.result c.advance.result c.loop-made.self c.advance_plain.new.self c.advance.new.self
+      (below c.loop-made.made c.args.to s.cycles c.loop-made-test.true within) (c.loop-made.invariant.running s fits within at) (steps_on g c s fits) c.in-On.is;
 }
 
 pub loop-made-preserved-then-advance_plain : goal.loop-made-preserved-then-advance_plain
@@ -125,22 +121,26 @@ loop-made-preserved-then-advance_plain g c = record {
   retired_bound = omega (arith, (goes g c).bound, c.interrupt-interrupts.ensures.retired, c.loop-made.invariant.retired_bound);
   count_bound = omega (arith, c.loop-made.invariant.count_bound, c.interrupt-interrupts.ensures.one);
   room = c.advance_plain.ensures.room ∙ c.interrupt-interrupts.ensures.room ∙ c.loop-made.invariant.room;
-  running = λ s is fits h. runs_on s c.loop-made.made c.loop-made.interrupts c.interrupt-interrupts.result On c.loop-made.self c.interrupt-interrupts.new.self c.advance_plain.new.self
-      (below c.loop-made.made c.args.steps s.cycles c.loop-made-test.true is) (c.loop-made.invariant.running s is fits h) (steps_plain g c s) refl;
+  running = λ s fits within at. runs_on s c.loop-made.made c.loop-made.interrupts c.interrupt-interrupts.result On c.loop-made.self c.interrupt-interrupts.new.self c.advance_plain.new.self
+      (below c.loop-made.made c.args.to s.cycles c.loop-made-test.true within) (c.loop-made.invariant.running s fits within at) (steps_plain g c s) refl;
 }
 
-reached : (made steps : ℕ) → made ≤ steps → steps ≤ made → made ≡ steps
-reached made steps most least = omega arith
+pub returns-in-Ended-clause-whole : goal.returns-in-Ended-clause-whole
+returns-in-Ended-clause-whole g c = λ on. cc
+
+pub returns-in-Ended-clause-few : goal.returns-in-Ended-clause-few
+returns-in-Ended-clause-few g c = λ on. cc
+
+reached : (made to : ℕ) → made ≤ to → to ≤ made → made ≡ to
+reached made to most least = omega arith
 
 -- src/side.rt:121:5
-pub returns-clause-reported : goal.returns-clause-reported
-returns-clause-reported g c = λ s is fits h.
-    limit_reports s c.args.steps c.loop-made.made c.loop-made.interrupts c.report-2.result c.loop-made.self
-    (reached c.loop-made.made c.args.steps c.loop-made.auto.made-end c.loop-made-test.false) is (c.loop-made.invariant.running s is fits h) (c.report-2.ensures.reported s)
+pub returns-clause-stands : goal.returns-clause-stands
+returns-clause-stands g c = λ s fits within at.
+    let all : c.loop-made.made ≡ c.args.to = reached c.loop-made.made c.args.to (c.loop-made.auto.made-end c.requires.within) c.loop-made-test.false in
+    let P : ℕ → Type 0 = λ k. IsOnAt s (alone s k) k c.loop-made.interrupts c.loop-made.self in
+    subst P all (c.loop-made.invariant.running s fits within at)
 
--- src/side.rt:121:5
-pub returns-clause-contents : goal.returns-clause-contents
-returns-clause-contents g c = λ s is fits h.
-    let all : c.loop-made.made ≡ c.args.steps = reached c.loop-made.made c.args.steps c.loop-made.auto.made-end c.loop-made-test.false in
-    let P : ℕ → Type 0 = λ k. ContentsStandFor s (alone s k).arch c.loop-made.self in
-    subst P all (c.loop-made.invariant.running s is fits h).stands
+pub returns-clause-few : goal.returns-clause-few
+returns-clause-few g c = λ on.
+    omega (arith, c.loop-made.invariant.count_bound, reached c.loop-made.made c.args.to (c.loop-made.auto.made-end c.requires.within) c.loop-made-test.false)
