@@ -1,3 +1,11 @@
 pub mod Counting
+pub mod Listed
+pub mod TextRows
+pub mod Growing
 pub mod Lengths
 pub mod RowSums
+pub mod Later
+pub mod Advancing
+pub mod Moving
+pub mod Staged
+pub mod Sights

@@ -5,6 +5,7 @@ use Rattle.std.proofs.lemmas.Bool.{eqb-true, eqb-false, eq-eqb, ne_eqb, ltb-true
 use Rattle.std.proofs.lemmas.List.Sums.{sum_by-cons}
 use Rattle.insight_model.specs.Profile.{Event, Column, column_place, amount_in, own_events, with_row, rows_of}
 use Rattle.insight_laws.proofs.Counting.{sum_by_nothing, sum_by_added}
+use Rattle.insight_laws.proofs.Listed.{After, AllStandIn, IsAbove, IsOrdered, Now, StandsIn, in_above}
 
 -- how often a row stands in a list
 abbrev times : ℕ → List ℕ → ℕ
@@ -16,15 +17,7 @@ one_if b = if b then 1 else 0
 times_next : (row first : ℕ) (rest : List ℕ) → times row (first ∷ rest) ≡ one_if (row == first) + times row rest
 times_next row first rest = sum_by-cons (λ other. one_if (row == other)) first rest
 
--- rows that rise, from above a number on
-abbrev IsAbove : ℕ → List ℕ → Type 0
-IsAbove low [] = Unit {0}
-IsAbove low (row ∷ rows) = (low < row) × IsAbove row rows
-
-abbrev IsOrdered : List ℕ → Type 0
-IsOrdered [] = Unit {0}
-IsOrdered (row ∷ rows) = IsAbove row rows
-
+-- rows that rise
 ordered_above : (low : ℕ) (rows : List ℕ) → IsAbove low rows → IsOrdered rows
 ordered_above low [] above = tt
 ordered_above low (row ∷ rows) above = above.1
@@ -105,7 +98,7 @@ once_by other row rows ordered once true e =
 once_by other row rows ordered once false e = other_times other row rows (eqb-false other row e) ∙ once
 
 -- the row of each event stands once among the rows
-abbrev AreOnce : List ℕ → List Event → Type 0
+abbrev pub AreOnce : List ℕ → List Event → Type 0
 AreOnce rows [] = Unit {0}
 AreOnce rows (event ∷ rest) = (times event.row rows ≡ 1) × AreOnce rows rest
 
@@ -122,6 +115,19 @@ rows_once : (all : List Event) → AreOnce (rows_of all) all
 rows_once [] = tt
 rows_once (event ∷ rest) =
     (own_times event.row (rows_of rest) (rows_ordered rest), once_with event.row (rows_of rest) (rows_ordered rest) rest (rows_once rest))
+
+-- each of rows that rise stands there once
+stands_once : (row : ℕ) (rows : List ℕ) → IsOrdered rows → StandsIn row rows → times row rows ≡ 1
+stands_once row [] ordered there = absurd there
+stands_once row (first ∷ rest) ordered (Now is) =
+    omega (arith, times_next row first rest, own_one row first is, none_below row first rest (omega (arith, is)) ordered)
+stands_once row (first ∷ rest) ordered (After later) =
+    let above = in_above row first rest ordered later in
+    omega (arith, times_next row first rest, no_one row first (λ e. omega (arith, e, above)), stands_once row rest (ordered_above first rest ordered) later)
+
+pub all_once : (rows : List ℕ) (all : List Event) → IsOrdered rows → AllStandIn rows all → AreOnce rows all
+all_once rows [] ordered there = tt
+all_once rows (event ∷ rest) ordered there = (stands_once event.row rows ordered there.0, all_once rows rest ordered there.1)
 
 -- so the sums of the rows add up
 abbrev value_if : Bool → ℕ → ℕ
@@ -151,7 +157,7 @@ own_by : (g : Event → ℕ) (event : Event) (own : List Event) (b : Bool) → s
 own_by g event own true = sum_by-cons g event own
 own_by g event own false = omega arith
 
-split_events : (g : Event → ℕ) (rows : List ℕ) (all : List Event) → AreOnce rows all → sum_by (λ row. sum_by g (own_events row all)) rows ≡ sum_by g all
+pub split_events : (g : Event → ℕ) (rows : List ℕ) (all : List Event) → AreOnce rows all → sum_by (λ row. sum_by g (own_events row all)) rows ≡ sum_by g all
 split_events g rows [] once = sum_by_nothing rows
 split_events g rows (event ∷ rest) once =
     omega (

@@ -2,6 +2,7 @@ pub mod Cause
 pub mod Sight
 pub mod OfState
 pub mod Facts
+pub mod Following
 pub mod Accesses
 pub mod Origin
 pub mod Hole

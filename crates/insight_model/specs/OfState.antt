@@ -11,10 +11,10 @@ use Rattle.inorder_machine.specs.InorderMachine.{InorderMachine, inorder_start, 
 use Rattle.inorder_machine.specs.Cycle.{inorder_cycled}
 use Rattle.insight_model.specs.declared.pipeline.Pipeline.{Pipeline}
 use Rattle.insight_model.specs.declared.pipeline.Pipeline.TheVariants.{Window, Inorder}
-use Rattle.insight_model.specs.Sight.{Outcome, Progress, waiting, executing, accessing, done, Shown, Sight}
+use Rattle.insight_model.specs.Sight.{Outcome, next_seen, Progress, waiting, executing, accessing, done, Shown, Sight}
 
 abbrev pub outcome_of : Result → Outcome
-outcome_of r = record { next = r.next; access = r.access; cause = r.cause }
+outcome_of r = record { next = next_seen r.cause r.next; access = r.access; cause = r.cause }
 
 abbrev pub progress_of : window.Stage → Progress
 progress_of window.waiting = waiting

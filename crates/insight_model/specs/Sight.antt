@@ -18,10 +18,15 @@ use Rattle.mono_model.specs.Window.{is_register}
 
 -- What an instruction came to.
 pub record Outcome : Type 0 where
+  -- the address of the instruction after it; 0 where it has a cause
   pub next : ℕ
   -- the load or store as it was attempted
   pub access : Access
   pub cause : Option Cause
+
+abbrev pub next_seen : Option Cause → ℕ → ℕ
+next_seen None next = next
+next_seen (Some cause) next = 0
 
 -- How far an instruction has come.
 pub data Progress : Type 0 where
