@@ -61,7 +61,7 @@ unfolding timing_inorder_interrupt
 inorder_interrupt_seen s d memory = flushed_phase s d (demand_interrupt d) memory (timing_interrupt (seen s d)) (interrupt_seen s d)
 
 -- Write: as many slots are done as records
-done_count_same : (s : Setup) (os : List Order) (n : ℕ) (window : List Record) → held.done_count (slots_of (entry s os) n window) ≡ inorder.done_count window
+pub done_count_same : (s : Setup) (os : List Order) (n : ℕ) (window : List Record) → held.done_count (slots_of (entry s os) n window) ≡ inorder.done_count window
 done_count_same s os n [] = refl
 done_count_same s os n (rec ∷ rest) =
     ap (λ (b : Bool). (if b then 1 else 0) + held.done_count (slots_of (entry s os) (suc n) rest)) (done_same rec.stage)

@@ -11,9 +11,9 @@ use Rattle.time_model.specs.declared.state.TimingState.{TimingState}
 use Rattle.time_model.specs.declared.side.Taken.TheVariants.{Used, Dropped}
 use Rattle.time_model.specs.declared.turn.Turn.{Turn}
 use Rattle.time_model.specs.declared.turn.Turn.TheVariants.{Want, Moved}
-use Rattle.time_model.specs.Turns.{turn_told, order_told}
+use Rattle.time_model.specs.Turns.{turn_told, order_told, is_ending}
 use Rattle.time_model.specs.Piped.{Piped, IsPiped, place_of, IsFetched}
-use Rattle.time_model.specs.Running.{IsRun, start, more, Steps, is_silent}
+use Rattle.time_model.specs.Running.{start, more, Steps, is_silent, IsRunInCycle}
 use Rattle.time_model.specs.Standing.{SideStandsFor, IsStanding, IsRight, wants_in, over_in}
 use Rattle.time_model.specs.Turning.{IsTold}
 use Rattle.time_model.specs.Feeding.{holding, IsFed}
@@ -64,6 +64,16 @@ told_turn None stopping = refl
 told_turn None halted = refl
 
 -- a try ends no cycle
+try_ends : (at : At) → is_try at ≡ true → is_ending at ≡ false
+try_ends interrupting try = refl
+try_ends committing try = refl
+try_ends completing try = refl
+try_ends issuing try = refl
+try_ends (trying tries) try = refl
+try_ends ending try = cc
+try_ends stopping try = refl
+try_ends halted try = refl
+
 pub try_untold : (at : At) → is_try at ≡ true → turn_told None at ≡ Moved
 try_untold interrupting try = refl
 try_untold committing try = refl
@@ -116,15 +126,18 @@ module _ {P A : Type 0} (piped : Piped P A) (laws : IsPiped piped) where
       fetched_due piped laws s k side h new e fetched allowed told needed made held
 
   -- a run of one step, or of one that is followed by one that wants an entry
-  pub run_once : (old new : TimingState P A) (turn : Turn) → Steps piped old new turn → IsRun (Steps piped) old new turn
+  pub run_once : (old new : TimingState P A) (turn : Turn) → Steps piped old new turn → IsRunInCycle piped old new turn
   run_once old new turn step = record { behind = old; silent = start; last = step }
 
-  pub run_wants : (old new : TimingState P A) (turn : Turn) → Steps piped old new turn → is_silent turn ≡ true → wants_in piped new ≡ true → IsRun (Steps piped) old new Want
-  run_wants old new turn step silent wants =
-      record { behind = new; silent = more old new turn start step silent; last = λ s k allowed h. waiting_step piped laws s k new h wants }
+  pub run_wants : (old new : TimingState P A) (turn : Turn) → is_try (piped.seen old.at) ≡ true → Steps piped old new turn → is_silent turn ≡ true → wants_in piped new ≡ true → IsRunInCycle piped old new Want
+  run_wants old new turn try step silent wants = record {
+    behind = new;
+    silent = more old new turn start (record { made = step; inner = and_not (is_none old.telling.owed) (is_ending (piped.seen old.at)) (try_ends (piped.seen old.at) try) }) silent;
+    last = λ s k allowed h. waiting_step piped laws s k new h wants;
+  }
 
   -- an entry of the side's epoch, and one of another
-  pub fed_used : (e : Entry) (old new : TimingState P A) (turn : Turn) → e.epoch ≡ old.telling.epoch → IsRun (Steps piped) (holding e old) new turn → IsFed piped e old new turn
+  pub fed_used : (e : Entry) (old new : TimingState P A) (turn : Turn) → e.epoch ≡ old.telling.epoch → IsRunInCycle piped (holding e old) new turn → IsFed piped e old new turn
   fed_used e old new turn same run = record {
     answer = Used;
     taken = holding e old;

@@ -20,7 +20,7 @@ use Rattle.time_model.specs.declared.at.At.TheVariants as code
 use Rattle.time_model.specs.At.{at_in}
 use Rattle.time_model.specs.Turns.{is_ending}
 use Rattle.time_model.specs.OutOfOrder.{core_piped}
-use Rattle.time_model.specs.Piped.{IsQuiet, start, more}
+use Rattle.time_model.specs.Piped.{IsPhase, IsQuiet, start, more}
 use Rattle.time_model.proofs.Striding.{quiet_on}
 use Rattle.time_model.proofs.Turns.{IsTurnOf, turned_by}
 
@@ -126,7 +126,7 @@ pass_cycle core idle =
     let three = pass_turn new code.Committing code.Completing refl refl idle turned_committing in
     let four = pass_turn new code.Completing code.Issuing refl refl idle turned_completing in
     let five = pass_turn new code.Issuing code.Ending refl refl idle turned_issuing in
-    quiet_on core_piped one (quiet_on core_piped two (quiet_on core_piped three (quiet_on core_piped four five)))
+    quiet_on (IsPhase core_piped) one (quiet_on (IsPhase core_piped) two (quiet_on (IsPhase core_piped) three (quiet_on (IsPhase core_piped) four five)))
 
 -- so many cycles, in each of which nothing happens
 pass_cycles : (count : ℕ) (core : TimingCore) → StandsIdleFor count core → Passes core code.Ending (in_cycle (core.cycle + count) core) code.Ending
@@ -141,7 +141,7 @@ pass_cycles (suc before) core idle =
     let first = pass_cycles before core (λ c after within. idle c after (omega (arith, within))) in
     let is : cycle + suc before ≡ cycle + before + 1 = omega arith in
     let last = pass_cycle mid (idle (cycle + before + 1) (omega arith) (omega arith)) in
-    subst (λ (c : ℕ). Passes core code.Ending (in_cycle c core) code.Ending) (sym is) (quiet_on core_piped first last)
+    subst (λ (c : ℕ). Passes core code.Ending (in_cycle c core) code.Ending) (sym is) (quiet_on (IsPhase core_piped) first last)
 
 -- the turn that ends a cycle
 ends_by : (at : declared.At) → is_ending (at_in at) ≡ true → at ≡ code.Ending

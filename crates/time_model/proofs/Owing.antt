@@ -8,7 +8,8 @@ use Rattle.mono_model.specs.Split.{is_halted, is_cycle_start, is_place_boundary}
 use Rattle.machine_laws.proofs.SplitSteps.{Owes, owes_none, owes_one}
 use Rattle.time_model.specs.declared.state.TimingState.{TimingState}
 use Rattle.time_model.specs.Piped.{Piped, IsPiped, place_of}
-use Rattle.time_model.specs.Standing.{SideStandsFor, owed_in, wants_in, is_told_out, over_in}
+use Rattle.time_model.specs.Standing.{SideStandsFor, owed_in, wants_in, is_told_out, over_in, ends_in}
+use Rattle.time_model.specs.Turns.{is_ending}
 use Rattle.time_model.proofs.Bool.{and_if, and_swap}
 
 pub owed_none : (p : Place) → Owes p → (o : Option Order) → owed_in o ≡ take p.owed p.run.demand.orders → is_none o ≡ (p.owed == 0)
@@ -43,3 +44,8 @@ module _ {P A : Type 0} (piped : Piped P A) (laws : IsPiped piped) (s : Setup) (
   pub stands_boundary : (is_none side.telling.owed && is_cycle_start (piped.seen side.at)) ≡ is_place_boundary (place_of piped s k)
   stands_boundary =
       ap (λ (b : Bool). b && is_cycle_start (piped.seen side.at)) stands_owed ∙ ap (λ (at : At). ((place_of piped s k).owed == 0) && is_cycle_start at) stands_at
+
+  -- the ends of cycles
+  pub stands_ends : ends_in piped side ≡ ((place_of piped s k).owed == 0 && is_ending (place_of piped s k).run.at)
+  stands_ends =
+      ap (λ (b : Bool). b && is_ending (piped.seen side.at)) stands_owed ∙ ap (λ (at : At). ((place_of piped s k).owed == 0) && is_ending at) stands_at

@@ -4,7 +4,9 @@ use Rattle.rollback_cmds.specs.declared.order.Order.{Order}
 use Rattle.time_model.specs.declared.turn.Turn.{Turn}
 use Rattle.time_model.specs.declared.turn.Turn.TheVariants.{Ordered}
 use Rattle.time_model.specs.Turns.{told_or, untold_by}
-use Rattle.time_model.specs.Running.{is_silent, IsSilent, start, more, IsRun}
+use Rattle.time_model.specs.declared.state.TimingState.{TimingState}
+use Rattle.time_model.specs.Piped.{Piped}
+use Rattle.time_model.specs.Running.{is_silent, IsSilent, start, more, IsRun, Steps, IsInner, IsRunInCycle}
 
 -- a turn that tells no order is silent
 pub untold_silent : (ends : Bool) → is_silent (untold_by ends) ≡ true
@@ -72,9 +74,21 @@ module _ {T : Type 0} (step : T → T → Turn → Type 0) (stands : T → Type 
 
 -- what holds of each step by itself holds of a run
 module _ {T : Type 0} (from to : T → T → Turn → Type 0) (each : (old new : T) (turn : Turn) → from old new turn → to old new turn) where
-  silent_by : (old new : T) → IsSilent from old new → IsSilent to old new
+  pub silent_by : (old new : T) → IsSilent from old new → IsSilent to old new
   silent_by old _ start = start
   silent_by old _ (more mid new turn rest made silent) = more mid new turn (silent_by old mid rest) (each mid new turn made) silent
 
   pub run_by : (old new : T) (turn : Turn) → IsRun from old new turn → IsRun to old new turn
   run_by old new turn is = record { behind = is.behind; silent = silent_by old is.behind is.silent; last = each is.behind new turn is.last }
+
+-- steps that end no cycle, as a run that may end one
+pub inner_run : {P A : Type 0} (piped : Piped P A) {old new : TimingState P A} {turn : Turn} → IsRun (IsInner piped) old new turn → IsRunInCycle piped old new turn
+inner_run piped run = let last : IsInner piped run.behind _ _ = run.last in record { behind = run.behind; silent = run.silent; last = last.made }
+
+-- and that as a run
+pub run_of_cycle : {P A : Type 0} (piped : Piped P A) (old new : TimingState P A) (turn : Turn) → IsRunInCycle piped old new turn → IsRun (Steps piped) old new turn
+run_of_cycle piped old new turn run = record {
+  behind = run.behind;
+  silent = silent_by (IsInner piped) (Steps piped) (λ a b t step. step.made) old run.behind run.silent;
+  last = run.last;
+}

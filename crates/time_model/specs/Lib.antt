@@ -10,3 +10,4 @@ pub mod OutOfOrder
 pub mod BoundedLaws
 pub mod SmallLaws
 pub mod OutOfOrderLaws
+pub mod Missing

@@ -15,6 +15,7 @@ use Rattle.timing_core.specs.Orders.{orders_in}
 use Rattle.timing_core.specs.CoreStandsFor.{CoreStandsFor}
 use Rattle.timing_core.specs.Small.{IsSmall}
 use Rattle.time_model.specs.declared.fetched.Fetched.{Fetched}
+use Rattle.time_model.specs.Turns.{is_ending}
 
 pub record Piped (P A : Type 0) : Type 1 where
   -- which setups it may have
@@ -73,22 +74,38 @@ pub record IsPhase {P A : Type 0} (piped : Piped P A) (old : P) (at : A) (new : 
   pub goes : is_halted (piped.seen at) ≡ false
   pub made : IsTurned piped old at new next due
 
--- some of these that made no order, one after the other
-pub data IsQuiet {P A : Type 0} (piped : Piped P A) (old : P) (at : A) : P → A → Type 0 where
-  start : IsQuiet piped old at old at
-  more : (mid new : P) (between next : A) (made : Orders) → IsQuiet piped old at mid between → IsPhase piped mid between new next made → made.first ≡ None → IsQuiet piped old at new next
+-- one that ends no cycle
+pub record IsInnerPhase {P A : Type 0} (piped : Piped P A) (old : P) (at : A) (new : P) (next : A) (due : Orders) : Type 0 where
+  pub phase : IsPhase piped old at new next due
+  pub inner : is_ending (piped.seen at) ≡ false
+
+-- some phases of a kind that made no order, one after the other
+pub data IsQuietBy {P A : Type 0} (phase : P → A → P → A → Orders → Type 0) (old : P) (at : A) : P → A → Type 0 where
+  start : IsQuietBy phase old at old at
+  more : (mid new : P) (between next : A) (made : Orders) → IsQuietBy phase old at mid between → phase mid between new next made → made.first ≡ None → IsQuietBy phase old at new next
 
 -- one at most, with its orders
-pub data IsMadeOnce {P A : Type 0} (piped : Piped P A) (old : P) (at : A) (made : Orders) : P → A → Type 0 where
-  nothing : made.first ≡ None → IsMadeOnce piped old at made old at
-  once : (new : P) (next : A) → IsPhase piped old at new next made → IsMadeOnce piped old at made new next
+pub data IsMadeOnce {P A : Type 0} (phase : P → A → P → A → Orders → Type 0) (old : P) (at : A) (made : Orders) : P → A → Type 0 where
+  nothing : made.first ≡ None → IsMadeOnce phase old at made old at
+  once : (new : P) (next : A) → phase old at new next made → IsMadeOnce phase old at made new next
 
 -- some that made no order, and one at most after these
-pub record IsStridden {P A : Type 0} (piped : Piped P A) (old : P) (at : A) (new : P) (next : A) (made : Orders) : Type 0 where
+pub record IsStriddenBy {P A : Type 0} (phase : P → A → P → A → Orders → Type 0) (old : P) (at : A) (new : P) (next : A) (made : Orders) : Type 0 where
   pub mid : P
   pub between : A
-  pub quiet : IsQuiet piped old at mid between
-  pub last : IsMadeOnce piped mid between made new next
+  pub quiet : IsQuietBy phase old at mid between
+  pub last : IsMadeOnce phase mid between made new next
+
+-- the same of phases of any kind
+abbrev pub IsQuiet : {P A : Type 0} → Piped P A → P → A → P → A → Type 0
+IsQuiet piped = IsQuietBy (IsPhase piped)
+
+abbrev pub IsStridden : {P A : Type 0} → Piped P A → P → A → P → A → Orders → Type 0
+IsStridden piped = IsStriddenBy (IsPhase piped)
+
+-- and of those that end no cycle
+abbrev pub IsInnerStride : {P A : Type 0} → Piped P A → P → A → P → A → Orders → Type 0
+IsInnerStride piped = IsStriddenBy (IsInnerPhase piped)
 
 -- What the frame needs of the demand run and of the pipeline.
 pub record IsPiped {P A : Type 0} (piped : Piped P A) : Type 0 where

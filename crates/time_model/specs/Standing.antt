@@ -9,7 +9,7 @@ use Rattle.mono_model.specs.Split.{is_halted, told_by, held_after}
 use Rattle.time_model.specs.declared.state.TimingState.{TimingState}
 use Rattle.time_model.specs.declared.turn.Turn.{Turn}
 use Rattle.time_model.specs.declared.turn.Turn.TheVariants.{Want, Halted}
-use Rattle.time_model.specs.Turns.{turn_told}
+use Rattle.time_model.specs.Turns.{is_ending, turn_told}
 use Rattle.time_model.specs.Piped.{Piped, place_of}
 
 -- an order that is owed, as a list
@@ -47,6 +47,10 @@ is_told_out p = is_halted p.run.at && p.owed == 0
 -- and as the side has it
 abbrev pub over_in : {P A : Type 0} → Piped P A → TimingState P A → Bool
 over_in piped side = is_none side.telling.owed && is_halted (piped.seen side.at)
+
+-- the next step ends a cycle
+abbrev pub ends_in : {P A : Type 0} → Piped P A → TimingState P A → Bool
+ends_in piped side = is_none side.telling.owed && is_ending (piped.seen side.at)
 
 -- one step of the demand run was made
 pub record IsMade {P A : Type 0} (piped : Piped P A) (s : Setup) (k : ℕ) (old new : TimingState P A) (turn : Turn) : Type 0 where

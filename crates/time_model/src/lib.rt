@@ -3,6 +3,7 @@
 #![tactic(auto)]
 
 mod at;
+mod cycle;
 mod fetched;
 mod out_of_order;
 mod phase;

@@ -272,6 +272,11 @@ impl Pipeline for TimingCore {
         if ended.first.is_some() {
             return ended;
         }
+        self.phases(next)
+    }
+
+    #[inline(always)]
+    fn phases(&mut self, next: &mut At) -> Orders {
         let interrupted = over::<TimingCore, At, Interrupting>(self, next);
         if interrupted.first.is_some() {
             return interrupted;

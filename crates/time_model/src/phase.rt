@@ -1,5 +1,6 @@
-ghost use Rattle.std.specs.Prelude.{◌≡◌, true};
-ghost use Rattle.time_model.specs.Piped.{IsStridden};
+ghost use Rattle.std.specs.Prelude.{◌≡◌, true, false};
+ghost use Rattle.time_model.specs.Piped.{IsStridden, IsInnerStride};
+ghost use Rattle.time_model.specs.Turns.{is_ending};
 
 use timing_core::Orders;
 
@@ -25,6 +26,8 @@ pub trait Phase<P, A> {
 #[inline(always)]
 pub fn over<P, A: Copy, H: Phase<P, A>>(pipeline: &mut P, next: &mut A) -> Orders
     ensures strode { IsStridden H.piped pipeline.old next.old pipeline.new next.new result }
+    ensures inner { is_ending (H.piped.seen H.turn) ≡ false
+        → IsInnerStride H.piped pipeline.old next.old pipeline.new next.new result }
 {
     if H::comes(*next) {
         H::make(pipeline, next)

@@ -14,7 +14,7 @@ pub trait Pipeline: Drop {
     ghost use Rattle.mono_model.specs.Split.{is_halted, is_cycle_start};
     ghost use Rattle.time_model.specs.Turns.{is_ending};
     ghost use Rattle.time_model.specs.Piped.{Piped, IsPiped, IsTurned, MayTry, IsFetched, IsGone};
-    ghost use Rattle.time_model.specs.Piped.{IsStridden, IsQuiet};
+    ghost use Rattle.time_model.specs.Piped.{IsStridden, IsInnerStride, IsQuiet};
 
     /// Which turn comes next.
     type At: Copy;
@@ -68,6 +68,11 @@ pub trait Pipeline: Drop {
     /// that makes an order. Which turns they are is known where they stand.
     fn stride(&mut self, next: &mut Self::At) -> Orders
         ensures strode { IsStridden piped self.old next.old self.new next.new result };
+
+    /// Makes the phases that come next, as far as they stand in their order, up to the first that
+    /// makes an order: none ends a cycle.
+    fn phases(&mut self, next: &mut Self::At) -> Orders
+        ensures strode { IsInnerStride piped self.old next.old self.new next.new result };
 
     /// Passes over cycles after this one in which nothing happens. Which it passes no clause says.
     fn pass_idle(&mut self, at: Self::At)

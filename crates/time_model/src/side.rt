@@ -25,7 +25,7 @@ pub enum Taken {
 /// FPGA-Accelerated Simulation Technologies, MICRO 2007, the timing model).
 #[derive(Drop)]
 pub struct TimingSide<P: Pipeline> {
-    state: TimingState<P, P::At>,
+    pub(crate) state: TimingState<P, P::At>,
 }
 
 /// The timing side of the monolithic machine.

@@ -41,8 +41,9 @@ where
     ghost use Rattle.time_model.specs.declared.turn.Turn.TheVariants.{Ordered, Want};
     ghost use Rattle.time_model.specs.Turns.{told_or, untold_by, is_ending};
     ghost use Rattle.time_model.specs.Standing.{SideStandsFor, IsStanding, wants_in, over_in};
+    ghost use Rattle.time_model.specs.Standing.{ends_in};
     ghost use Rattle.time_model.specs.Turning.{IsTold, placed};
-    ghost use Rattle.time_model.specs.Running.{IsRun, IsSilent, Steps};
+    ghost use Rattle.time_model.specs.Running.{IsRun, IsSilent, Steps, IsInner, IsRunInCycle};
     ghost use Rattle.time_model.specs.Feeding.{holding};
 
     /// Before the first step of a run. All memory is taken here.
@@ -220,6 +221,26 @@ where
         self.telling.tell(orders)
     }
 
+    /// The same, where the next step ends no cycle: it stays within the cycle.
+    #[inline(always)]
+    #[tactic(auto, unfolding(crate::specs::Standing::wants_in))]
+    fn stride_in_cycle(&mut self) -> Option<Order>
+        requires standing { IsStanding P.piped self.old }
+        requires inner { ends_in P.piped self.old ≡ false }
+        ensures told { IfSome result (λ order.
+            IsRun (IsInner P.piped) self.old self.new (Ordered order)) }
+        ensures untold { IfNone result (IsSilent (IsInner P.piped) self.old self.new) }
+        ensures standing { IsStanding P.piped self.new }
+    {
+        if self.telling.owed.is_some() {
+            return self.tell_owed();
+        }
+        let mut next = self.at;
+        let orders = self.pipeline.phases(&mut next);
+        self.at = next;
+        self.telling.tell(orders)
+    }
+
     /// Passes over cycles after this one in which nothing happens, where it stands at the end of
     /// one. It stays a call: inline a run would be so large that the kit's compiler leaves it a
     /// call.
@@ -305,13 +326,53 @@ where
         }
     }
 
+    /// Whether the next step ends a cycle.
+    fn ends_cycle(&self) -> bool
+        ensures ends { result ≡ ends_in P.piped self.now }
+    {
+        self.telling.owed.is_none() && P::ends_cycle(self.at)
+    }
+
+    /// Makes steps of the demand run as [`TimingState::run`] does, but none after the end of a
+    /// cycle.
+    #[inline(always)]
+    pub fn run_in_cycle(&mut self) -> Turn
+        requires standing { IsStanding P.piped self.old }
+        ensures made { IsRunInCycle P.piped self.old self.new result }
+        ensures waiting { result ≡ Want → wants_in P.piped self.new ≡ true }
+        ensures standing { IsStanding P.piped self.new }
+    {
+        if self.ends_cycle() {
+            return self.single_step();
+        }
+        if let Some(order) = self.stride_in_cycle() {
+            return Turn::Ordered(order);
+        }
+        self.single_step()
+    }
+
+    /// Makes one step of the demand run, if the entry that it needs is held. The result is what it
+    /// did.
+    fn single_step(&mut self) -> Turn
+        requires standing { IsStanding P.piped self.old }
+        ensures made { Steps P.piped self.old self.new result }
+        ensures waiting { result ≡ Want → wants_in P.piped self.new ≡ true }
+        ensures standing { IsStanding P.piped self.new }
+    {
+        let ends = P::ends_cycle(self.at);
+        if let Some(what) = self.step() {
+            return what;
+        }
+        if ends { Turn::CycleEnd } else { Turn::Moved }
+    }
+
     /// Makes the try that comes next with the entry that it needs, as if that were held; and tells
     /// that the step after it wants an entry where it does.
     #[inline(always)]
     pub fn feed(&mut self, entry: &Entry) -> Turn
         requires wants { wants_in P.piped self.old ≡ true }
         requires standing { IsStanding P.piped (holding entry.now self.old) }
-        ensures made { IsRun (Steps P.piped) (holding entry.now self.old) self.new result }
+        ensures made { IsRunInCycle P.piped (holding entry.now self.old) self.new result }
         ensures waiting { result ≡ Want → wants_in P.piped self.new ≡ true }
         ensures standing { IsStanding P.piped self.new }
     {

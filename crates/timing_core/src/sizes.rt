@@ -52,7 +52,7 @@ fn l2_params(p: &Params) -> CacheParams
 }
 
 /// The sizes and costs of the caches.
-pub(crate) fn caches_params(p: &Params) -> AllCaches
+pub fn caches_params(p: &Params) -> AllCaches
     ensures sizes { result ≡ caches_params p.now }
 {
     AllCaches {

@@ -82,6 +82,7 @@ impl TimingCore {
     pub fn cycle(&self) -> u64
         ensures cycle { (s : RunSetup) (t : Timing) → CoreStandsFor s t self.now
             → result ≡ t.cycle }
+        ensures value { result ≡ self.now.cycle }
     {
         self.cycle
     }
@@ -120,6 +121,7 @@ impl TimingCore {
     /// How the run stands or ended.
     pub fn end(&self) -> End
         ensures end { (s : RunSetup) (t : Timing) → CoreStandsFor s t self.now → result ≡ t.end }
+        ensures value { result ≡ self.now.end }
     {
         self.end
     }

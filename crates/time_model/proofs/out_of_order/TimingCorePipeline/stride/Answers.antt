@@ -2,33 +2,16 @@ use Rattle.std.proofs.Common.{◌≡◌, Bool, false, Option, Some, None, refl}
 use Rattle.std.specs.Option.{is_some}
 use Rattle.rollback_cmds.specs.declared.order.Order.{Order}
 use Rattle.time_model.specs.OutOfOrder.{core_piped}
-use Rattle.time_model.proofs.Striding.{quiet_on, stride_on, stride_quiet}
+use Rattle.time_model.specs.Piped.{IsPhase}
+use Rattle.time_model.proofs.Striding.{stride_on, stride_quiet, outer_stride}
 use Rattle.time_model.proofs.out_of_order.TimingCorePipeline.stride.Goals as goal
 
 none_first : (o : Option Order) (b : Bool) → b ≡ is_some o → b ≡ false → o ≡ None
 none_first None b is none = refl
 none_first (Some o) b is none = cc
 
-pub returns-then-is_some-2 : goal.returns-then-is_some-2
-returns-then-is_some-2 c = record { strode = stride_on core_piped (stride_quiet core_piped c.over-ended.ensures.strode (none_first c.over-ended.result.first c.is_some.result c.is_some.ensures c.if-is_some.false)) c.over-interrupted.ensures.strode }
-
-pub returns-then-is_some-3 : goal.returns-then-is_some-3
-returns-then-is_some-3 c = record {
-  strode = stride_on core_piped (quiet_on core_piped (stride_quiet core_piped c.over-ended.ensures.strode (none_first c.over-ended.result.first c.is_some.result c.is_some.ensures c.if-is_some.false))
-      (stride_quiet core_piped c.over-interrupted.ensures.strode (none_first c.over-interrupted.result.first c.is_some-2.result c.is_some-2.ensures c.if-is_some-2.false))) c.over-committed.ensures.strode;
-}
-
-pub returns-then-is_some-4 : goal.returns-then-is_some-4
-returns-then-is_some-4 c = record {
-  strode = stride_on core_piped (quiet_on core_piped (quiet_on core_piped (stride_quiet core_piped c.over-ended.ensures.strode (none_first c.over-ended.result.first c.is_some.result c.is_some.ensures c.if-is_some.false))
-      (stride_quiet core_piped c.over-interrupted.ensures.strode (none_first c.over-interrupted.result.first c.is_some-2.result c.is_some-2.ensures c.if-is_some-2.false)))
-      (stride_quiet core_piped c.over-committed.ensures.strode (none_first c.over-committed.result.first c.is_some-3.result c.is_some-3.ensures c.if-is_some-3.false))) c.over-completed.ensures.strode;
-}
-
 pub returns : goal.returns
 returns c = record {
-  strode = stride_on core_piped (quiet_on core_piped (quiet_on core_piped (quiet_on core_piped (stride_quiet core_piped c.over-ended.ensures.strode (none_first c.over-ended.result.first c.is_some.result c.is_some.ensures c.if-is_some.false))
-      (stride_quiet core_piped c.over-interrupted.ensures.strode (none_first c.over-interrupted.result.first c.is_some-2.result c.is_some-2.ensures c.if-is_some-2.false)))
-      (stride_quiet core_piped c.over-committed.ensures.strode (none_first c.over-committed.result.first c.is_some-3.result c.is_some-3.ensures c.if-is_some-3.false)))
-      (stride_quiet core_piped c.over-completed.ensures.strode (none_first c.over-completed.result.first c.is_some-4.result c.is_some-4.ensures c.if-is_some-4.false))) c.over.ensures.strode;
+  strode = stride_on (IsPhase core_piped) (stride_quiet (IsPhase core_piped) c.over-ended.ensures.strode (none_first c.over-ended.result.first c.is_some.result c.is_some.ensures c.if-is_some.false))
+      (outer_stride core_piped c.phases.ensures.strode);
 }

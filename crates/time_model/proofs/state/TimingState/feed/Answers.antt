@@ -50,7 +50,8 @@ wants_again g c =
 pub returns-in_default-clause-made : goal.returns-in_default-clause-made
 returns-in_default-clause-made g c =
     let d = (goal.at.returns-in_default-clause-made g c).In_default in
-    run_wants g.P.Pipeline.piped g.met.P.Pipeline.laws (holding c.args.entry.now c.args.self.now) c.attempt_at_once.new.self Moved (again g d) refl (wants_again g d)
+    let w = wanting g.P.Pipeline.piped g.met.P.Pipeline.laws c.args.self.now c.requires.wants in
+    run_wants g.P.Pipeline.piped g.met.P.Pipeline.laws (holding c.args.entry.now c.args.self.now) c.attempt_at_once.new.self Moved w.try (again g d) refl (wants_again g d)
 
 pub returns-in_default-clause-waiting : goal.returns-in_default-clause-waiting
 returns-in_default-clause-waiting g c = λ is. wants_again g (goal.at.returns-in_default-clause-waiting g c).In_default

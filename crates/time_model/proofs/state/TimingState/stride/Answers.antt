@@ -14,7 +14,7 @@ pub returns-then-is_some-clause-untold : goal.returns-then-is_some-clause-untold
 returns-then-is_some-clause-untold g c =
     step_untold (Steps g.P.Pipeline.piped) c.args.self.now c.tell_owed.new.self c.tell_owed.result (is_ending (g.P.Pipeline.piped.seen c.args.self.now.at)) c.tell_owed.ensures.made
 
-made : (g : given.Over) (c : goal.After-tell g) → HasStrode g.P.Pipeline.piped g.met.P.Pipeline.laws c.args.self.now (record { pipeline = c.stride-orders.new.self; at = c.stride-orders.new.next; telling = c.tell.new.self }) c.tell.result
+made : (g : given.Over) (c : goal.After-tell g) → HasStrode (Steps g.P.Pipeline.piped) c.args.self.now (record { pipeline = c.stride-orders.new.self; at = c.stride-orders.new.next; telling = c.tell.new.self }) c.tell.result
 made g c =
     strode g.P.Pipeline.piped g.met.P.Pipeline.laws c.args.self.now.telling c.tell.new.self c.tell.result c.args.self.now.pipeline c.args.self.now.at c.stride-orders.new.self c.stride-orders.new.next c.stride-orders.result
     (search rules) c.stride-orders.ensures.strode c.tell.ensures.told c.tell.ensures.behind
