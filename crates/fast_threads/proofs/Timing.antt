@@ -24,6 +24,7 @@ use Rattle.time_model.specs.Running.{is_silent, IsSilent, start, more, IsRun, St
 use Rattle.time_model.specs.declared.side.Taken.{Taken}
 use Rattle.time_model.specs.declared.side.Taken.TheVariants.{Used, Dropped}
 use Rattle.time_model.specs.Feeding.{holding, IsFed}
+use Rattle.time_model.proofs.Running.{run_of_cycle}
 use Rattle.time_model.proofs.Feeding.{holding_stands, told_turn}
 use Rattle.time_model.specs.Standing.{IsStep, IsMade, IsRight, is_told_out, wants_in}
 use Rattle.time_model.specs.OutOfOrder.{TimeState, TimeSideStandsFor, core_piped}
@@ -232,7 +233,7 @@ pub time_fed : (end behind : TimeAt) (side new : TimeState) (e : Entry) (hand to
     IsTimeAt behind new told is_halted
 time_fed end behind side new e hand told is_halted turn none is taken needs fed is_told =
     let stands = taken_stands end.setup is.steps e side fed.taken fed.answer fed.used fed.dropped fed.by_epoch is.stands needs in
-    run_told behind fed.taken new hand is_halted turn none (time_takes end behind side fed.taken e hand is_halted is taken stands) fed.run told is_told
+    run_told behind fed.taken new hand is_halted turn none (time_takes end behind side fed.taken e hand is_halted is taken stands) (run_of_cycle core_piped fed.taken new turn fed.run) told is_told
 
 -- an order was pushed, and comes no more than once
 pub time_sends : (end behind : TimeAt) (side : TimeState) (o : Order) (is_halted : Bool) (known waiting : ℕ) → IsTimeAt end side (Some o) is_halted → behind ≡ time_pushed end known waiting →

@@ -1,12 +1,15 @@
 -- What both sides with what is under way between them stand for: a state of the in-order machine's split run.
-use Rattle.std.specs.Prelude.{◌≡◌, Bool, true}
+use Rattle.std.specs.Prelude.{◌≡◌, ℕ, ◌+◌, Bool, true, false, List}
 use Rattle.mono_model.specs.declared.setup.Setup.{Setup}
 use Rattle.mono_model.specs.declared.final_state.Final.{Final}
-use Rattle.mono_model.specs.Split.{is_boundary}
+use Rattle.mono_model.specs.Final.{has_ended}
+use Rattle.mono_model.specs.Path.{path}
+use Rattle.mono_model.specs.Split.{Event, is_boundary, is_halted}
+use Rattle.machine_laws.specs.Output.{GrowsTo}
 use Rattle.func_model.specs.Contents.{ContentsStandFor}
 use Rattle.inorder_machine.specs.Cycle.{inorder, inorder_final}
 use Rattle.inorder_machine.specs.Demand.{inorder_in, inorder_place, inorder_step_bound}
-use Rattle.inorder_machine.specs.Split.{InorderSplit}
+use Rattle.inorder_machine.specs.Split.{InorderSplit, inorder_played}
 use Rattle.inorder_laws.specs.SplitLaw.{inorder_demand_run, IsInorderReached}
 use Rattle.split_core.specs.Along.{At, IsReachedOn}
 use Rattle.split_core.specs.Standing.{StandsOn, HoldsCommitted}
@@ -79,8 +82,51 @@ InorderKeeps follow old new =
     (s : Setup) (x : InorderSplit) → IsInorder s → IsInorderReached s x → InorderSplitStandsFor s x old
     → HoldsCommitted s x.split (follow s x).split old new
 
+-- Some events lead from a state to the one that it stands for, and what was committed there stays.
+pub record IsInorderPlayedFrom {D : Type 0} (s : Setup) (x : InorderSplit) (old new : SplitState D InorderState) : Type 0 where
+  pub events : List Event
+  pub stands : InorderSplitStandsFor s (inorder_played s events x) new
+  pub kept : HoldsCommitted s x.split (inorder_played s events x).split old new
+
+-- Whatever state of its run it stood for, some events were played from there.
+abbrev pub InorderPlaysOn : {D : Type 0} → SplitState D InorderState → SplitState D InorderState → Type 0
+InorderPlaysOn old new =
+    (s : Setup) (x : InorderSplit) → IsInorder s → IsInorderReached s x → InorderSplitStandsFor s x old
+    → IsInorderPlayedFrom s x old new
+
+-- It stands where the cycle after that of a state starts; where the run has ended, its last order is not told yet.
+pub record IsAtNextInorderCycle {D : Type 0} (s : Setup) (x : InorderSplit) (state : SplitState D InorderState) : Type 0 where
+  pub split : InorderSplit
+  pub reached : IsInorderReached s split
+  pub stands : InorderSplitStandsFor s split state
+  pub boundary : is_boundary split.split ≡ true
+  pub cycle : split.place.run.demand.machine.cycle ≡ x.place.run.demand.machine.cycle + 1
+  pub unstopped : is_halted split.split.place.run.at ≡ false
+
+-- From the start of a cycle of a run that goes on, it came to the start of the next.
+abbrev pub GoesToNextInorderCycle : {D : Type 0} → SplitState D InorderState → SplitState D InorderState → Type 0
+GoesToNextInorderCycle old new =
+    (s : Setup) (x : InorderSplit) → IsInorder s → IsInorderReached s x → InorderSplitStandsFor s x old
+    → is_boundary x.split ≡ true → has_ended x.place.run.demand.machine.end ≡ false
+    → IsAtNextInorderCycle s x new
+
 -- and at the end of the run
 abbrev pub InorderKeepsToEnd : {D : Type 0} → SplitState D InorderState → SplitState D InorderState → Type 0
 InorderKeepsToEnd old new =
     (s : Setup) (x : InorderSplit) → IsInorder s → IsInorderReached s x → InorderSplitStandsFor s x old
     → (end : IsInorderEnded s new) → HoldsCommitted s x.split end.split.split old new
+
+-- it stands for a state that events lead to
+pub record IsInorderUnderWay {D : Type 0} (s : Setup) (state : SplitState D InorderState) : Type 0 where
+  pub split : InorderSplit
+  pub reached : IsInorderReached s split
+  pub stands : InorderSplitStandsFor s split state
+
+-- these bytes are what the functional side has committed of the output, and so the beginning of the run's
+pub record IsInorderCommitted (s : Setup) (x : InorderSplit) (bytes : List ℕ) : Type 0 where
+  pub output : bytes ≡ (path s x.split.obeyed x.split.committed_number).output
+  pub begins : GrowsTo bytes (inorder s s.cycles).machine.arch.output
+
+abbrev pub TellsInorderCommitted : {D : Type 0} → SplitState D InorderState → List ℕ → Type 0
+TellsInorderCommitted state bytes =
+    (s : Setup) (x : InorderSplit) → IsInorder s → IsInorderReached s x → InorderSplitStandsFor s x state → IsInorderCommitted s x bytes

@@ -20,6 +20,7 @@ use Rattle.split_core.specs.Along.{At, start_at, stepped_to, event_on, played_on
 use Rattle.split_core.specs.Timed.{IsTimed, IsSplit}
 use Rattle.split_core.specs.TimedLaws.{timed_laws}
 use Rattle.inorder_machine.specs.Setup.{IsInorder}
+use Rattle.inorder_model.specs.CycleLaws.{inorder_cycles}
 use Rattle.inorder_model.specs.Standing.{inorder_piped}
 use Rattle.inorder_model.specs.StandingLaws.{inorder_laws}
 use Rattle.inorder_model.specs.InorderTimed.{inorder_timed, inorder_at}
@@ -104,7 +105,7 @@ halts s k sound most =
     ap (λ (p : InorderPlace). is_halted (seen_at p.run.at)) (is.still k most) ∙ ap (λ (at : InorderAt). is_halted (seen_at at)) is.at
 
 pub inorder_splits : IsSplit IsInorder inorder_demand_run inorder_boundary_rounds
-inorder_splits = record { law = law; ranged = ranged; arrives = arrives; stop = inorder_stop_told; halts = halts }
+inorder_splits = record { law = law; ranged = ranged; arrives = arrives; stop = inorder_stop_told; halts = halts; cycles = inorder_cycles }
 
 pub inorder_timed_laws : IsTimed inorder_timed
 inorder_timed_laws = timed_laws inorder_piped inorder_laws inorder_boundary_rounds inorder_splits

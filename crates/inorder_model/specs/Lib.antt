@@ -5,6 +5,7 @@ pub mod BoundedLaws
 pub mod SmallLaws
 pub mod StandingLaws
 pub mod Stages
+pub mod CycleLaws
 pub mod InorderTimed
 pub mod InorderTimedLaws
 pub mod Core

@@ -261,6 +261,11 @@ impl Pipeline for InorderTimingCore {
         if ended.first.is_some() {
             return ended;
         }
+        self.phases(next)
+    }
+
+    #[inline(always)]
+    fn phases(&mut self, next: &mut At) -> Orders {
         let interrupted = over::<InorderTimingCore, At, Interrupting>(self, next);
         if interrupted.first.is_some() {
             return interrupted;

@@ -8,6 +8,7 @@ mod in_order;
 mod split;
 mod stages;
 mod timing;
+mod watched;
 
 pub use in_order::InorderSide;
 pub use split::InorderCore;

@@ -18,7 +18,7 @@ use std::marker::Model;
 /// still of use.
 #[derive(Drop)]
 pub struct InorderCore<D: Device> {
-    state: SplitState<D, InorderSide>,
+    pub(crate) state: SplitState<D, InorderSide>,
 }
 
 impl<D: Device> Model for InorderCore<D> {
@@ -48,6 +48,7 @@ impl<D: Device> InorderCore<D> {
     ghost use Rattle.inorder_model.specs.Core.{TellsInorderBoundary, IsAtInorderBoundary};
     ghost use Rattle.inorder_model.specs.Core.{InorderReports};
     ghost use Rattle.inorder_model.specs.Core.{InorderGoesBack, InorderKeeps, InorderKeepsToEnd};
+    ghost use Rattle.inorder_model.specs.Core.{InorderPlaysOn, TellsInorderCommitted};
 
     /// The core at the start of a run: nothing was computed, and nothing is under way. All memory
     /// of the run is taken here; a refusal drops what it was given.
@@ -94,6 +95,31 @@ impl<D: Device> InorderCore<D> {
         self.state.to_boundary();
     }
 
+    /// Plays so many turns on the way to the end, as [`InorderCore::to_end`] plays them all, or
+    /// fewer where the run is over before. A turn is at least one step of the timing side.
+    pub fn go_on(&mut self, turns: u64)
+        requires going { self.old.is_reported ≡ false }
+        ensures played { InorderPlaysOn self.old self.new }
+        ensures going { self.new.is_reported ≡ false }
+    {
+        self.state.play_on_demand(turns);
+    }
+
+    /// Whether the functional side was stopped, by the last order of the run.
+    pub fn is_over(&self) -> bool
+        ensures over { result ≡ self.now.func.is_stopped }
+    {
+        self.state.func.stopped()
+    }
+
+    /// What is committed of the output: the first bytes of the run's output, none of which is ever
+    /// taken back.
+    pub fn committed_output(&self) -> &[u8]
+        ensures committed { TellsInorderCommitted self.now result.now }
+    {
+        self.state.committed_output()
+    }
+
     /// Plays events until the run is over: the timing side has told its last order, and the
     /// functional side has obeyed it. Entries are computed on demand; whatever state that leaves,
     /// the rounds behind it come to the end.
@@ -103,7 +129,8 @@ impl<D: Device> InorderCore<D> {
         ensures kept { InorderKeepsToEnd self.old self.new }
         ensures boundary { IsAtInorderBoundary self.new }
     {
-        self.state.play_on_demand();
+        let turns = self.state.steps;
+        self.state.play_on_demand(turns);
         self.state.to_end();
     }
 

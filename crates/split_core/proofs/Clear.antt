@@ -18,7 +18,7 @@ use Rattle.time_model.specs.Turns.{order_told}
 use Rattle.split_core.specs.Plays.{Plays, IsClear}
 use Rattle.split_core.specs.declared.state.SplitState.{SplitState}
 use Rattle.split_core.specs.Along.{At, event_on, IsReachedOn}
-use Rattle.split_core.specs.Timed.{Timed, IsTimed, StepsOn}
+use Rattle.split_core.specs.Timed.{Timed, IsTimed, StepsOn, IsInnerOn, IsRunInCycleOn}
 use Rattle.split_core.specs.Standing.{StandsOn, IsStandingOn}
 use Rattle.split_core.proofs.Listing.{order_sent}
 use Rattle.split_core.proofs.OnDemand.{plays_none, plays_on, plays_standing}
@@ -80,9 +80,10 @@ module _ {D T : Type 0} (timed : Timed T) (laws : IsTimed timed) (state : SplitS
         } in
         can_obey timed laws on_way order standing front
 
-    told_played : (func : Walk D) → ((s : Setup) (os : List Order) → WalkStandsFor s os state.func → WalkStandsFor s (order ∷ os) func) →
-        IsObeyed order state.func func → Plays timed state (record state { func = func; time = time })
-    told_played func stands moved = λ s x sound reached h.
+    pub told_stands : (func : Walk D) → ((s : Setup) (os : List Order) → WalkStandsFor s os state.func → WalkStandsFor s (order ∷ os) func) → IsObeyed order state.func func →
+        (s : Setup) (x : At) → timed.allows s → IsReachedOn s (timed.run s) x → StandsOn timed s x state →
+        StandsOn timed s (event_on s (timed.run s) obey (event_on s (timed.run s) send (event_on s (timed.run s) tick x))) (record state { func = func; time = time })
+    told_stands func stands moved s x sound reached h =
         let end = event_on s (timed.run s) obey (event_on s (timed.run s) send (event_on s (timed.run s) tick x)) in
         let B : Buffer Order → Type 0 = λ b. StandsOn timed s end (record on_way { func = func; listed_orders = b; computed = None }) in
         let C : Option Entry → Type 0 = λ o. StandsOn timed s end (record state { func = func; time = time; hand = None; computed = o }) in
@@ -92,10 +93,11 @@ module _ {D T : Type 0} (timed : Timed T) (laws : IsTimed timed) (state : SplitS
         let obeyed : B (buffer (drop 1 way.items) way.capacity) =
         order_obeyed timed laws s (event_on s (timed.run s) send (event_on s (timed.run s) tick x)) on_way (way_stands s x sound reached h) (buffer (drop 1 way.items) way.capacity) refl
         order func None front stands moved none in
-        record {
-          events = tick ∷ send ∷ obey ∷ [];
-          stands = subst H (sym clear.hand) (subst C (sym clear.computed) (subst B way_back obeyed));
-        }
+        subst H (sym clear.hand) (subst C (sym clear.computed) (subst B way_back obeyed))
+
+    told_played : (func : Walk D) → ((s : Setup) (os : List Order) → WalkStandsFor s os state.func → WalkStandsFor s (order ∷ os) func) →
+        IsObeyed order state.func func → Plays timed state (record state { func = func; time = time })
+    told_played func stands moved = λ s x sound reached h. record { events = tick ∷ send ∷ obey ∷ []; stands = told_stands func stands moved s x sound reached h }
 
 -- turns by whose names no order is told
 pub untold : (turn : Turn) → (turn ≡ Moved) ⊎ (turn ≡ CycleEnd) → order_told turn ≡ None
@@ -105,7 +107,7 @@ pub untold_or_over : (turn : Turn) → (turn ≡ Moved) ⊎ ((turn ≡ CycleEnd)
 untold_or_over turn is =
     ⊎_elim (λ moved. ap order_told moved) (λ rest. ⊎_elim (λ ended. ap order_told ended) (λ over. ap order_told over) rest) is
 
-silent_tells : (turn : Turn) → is_silent turn ≡ true → order_told turn ≡ None
+pub silent_tells : (turn : Turn) → is_silent turn ≡ true → order_told turn ≡ None
 silent_tells Moved silent = refl
 silent_tells (Ordered order) silent = cc
 silent_tells Want silent = refl
@@ -115,6 +117,14 @@ silent_tells Halted silent = refl
 -- whatever becomes of the sides, nothing is under way
 pub clear_at : {D T : Type 0} (state : SplitState D T) → IsClear state → (func : Walk D) (time : T) → IsClear (record state { func = func; time = time })
 clear_at state clear func time = record { computed = clear.computed; hand = clear.hand; entries = clear.entries; orders = clear.orders }
+
+-- a run within a cycle is a run
+inner_silent : {T : Type 0} (timed : Timed T) (old new : T) → IsSilent (IsInnerOn timed) old new → IsSilent (StepsOn timed) old new
+inner_silent timed old _ start = start
+inner_silent timed old _ (more mid new turn rest step silent) = more mid new turn (inner_silent timed old mid rest) step.made silent
+
+pub as_run : {T : Type 0} (timed : Timed T) (old new : T) (turn : Turn) → IsRunInCycleOn timed old new turn → IsRun (StepsOn timed) old new turn
+as_run timed old new turn run = record { behind = run.behind; silent = inner_silent timed old run.behind run.silent; last = run.last }
 
 -- silent steps, one after the other
 silent_run : {D T : Type 0} (timed : Timed T) (laws : IsTimed timed) (state : SplitState D T) → IsClear state → (time : T) → IsSilent (StepsOn timed) state.time time → Plays timed state (record state { time = time })

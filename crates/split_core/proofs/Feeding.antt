@@ -23,7 +23,7 @@ use Rattle.split_core.specs.Standing.{IsStandingOn}
 use Rattle.split_core.proofs.Standing.{sees}
 use Rattle.split_core.proofs.OnDemand.{plays_on, plays_standing}
 use Rattle.split_core.proofs.Handing.{Made, handed_right, handed_played}
-use Rattle.split_core.proofs.Clear.{clear_at, run_silent, run_may, run_obeyed}
+use Rattle.split_core.proofs.Clear.{clear_at, as_run, run_silent, run_may, run_obeyed}
 
 module _ {D T : Type 0} (timed : Timed T) (laws : IsTimed timed) (state : SplitState D T) (clear : IsClear state) (func : Walk D) (e : Entry) (written : Bool) (wrote : written ≡ true)
     (made : Made state.func func (entry_if written e)) (wants : (s : Setup) (k : ℕ) → timed.stands s k state.time → true ≡ (needs_entry ((timed.run s).places k) && is_none (timed.held state.time))) where
@@ -61,14 +61,14 @@ module _ {D T : Type 0} (timed : Timed T) (laws : IsTimed timed) (state : SplitS
 
     -- the steps behind it tell no order
     pub fed_silent : order_told turn ≡ None → Plays timed state (record state { func = func; time = time })
-    fed_silent none = plays_on timed laws state mid (record state { func = func; time = time }) comes (run_silent timed laws mid mid_clear time turn fed.run none)
+    fed_silent none = plays_on timed laws state mid (record state { func = func; time = time }) comes (run_silent timed laws mid mid_clear time turn (as_run timed fed.taken time turn fed.run) none)
 
     -- they tell one
     module _ (order : Order) (told : turn ≡ Ordered order) where
       pub fed_may : IsStandingOn timed state → MayObey order func
-      fed_may st = run_may timed laws mid mid_clear time turn fed.run order told (plays_standing timed laws state mid st comes)
+      fed_may st = run_may timed laws mid mid_clear time turn (as_run timed fed.taken time turn fed.run) order told (plays_standing timed laws state mid st comes)
 
       pub fed_obeyed : (after : Walk D) → ((s : Setup) (os : List Order) → WalkStandsFor s os func → WalkStandsFor s (order ∷ os) after) →
           IsObeyed order func after → Plays timed state (record state { func = after; time = time })
       fed_obeyed after stands moved =
-          plays_on timed laws state mid (record state { func = after; time = time }) comes (run_obeyed timed laws mid mid_clear time turn fed.run order told after stands moved)
+          plays_on timed laws state mid (record state { func = after; time = time }) comes (run_obeyed timed laws mid mid_clear time turn (as_run timed fed.taken time turn fed.run) order told after stands moved)

@@ -74,6 +74,20 @@ module _ {D T : Type 0} (timed : Timed T) (laws : IsTimed timed) (state : SplitS
       ap (λ (es : List Entry). buffer (drop 1 (es ++ e ∷ [])) state.entries.capacity) empty
       ∙ ap (λ (es : List Entry). buffer es state.entries.capacity) (sym empty)
 
+  pub handed_stands : (time : T) (answer : Taken) →
+      ((s : Setup) (k : ℕ) → timed.stands s k state.time → true ≡ (needs_entry ((timed.run s).places k) && is_none (timed.held state.time))) →
+      ((s : Setup) (k : ℕ) → timed.stands s k state.time → (e.epoch ≡ timed.epoch state.time → e ≡ needed_entry s ((timed.run s).places k)) → timed.stands s k time) →
+      (answer ≡ Used → timed.held time ≡ Some e) → (answer ≡ Dropped → time ≡ state.time) →
+      ((answer ≡ Used) ↔ (e.epoch ≡ timed.epoch state.time)) →
+      (s : Setup) (x : At) → timed.allows s → IsReachedOn s (timed.run s) x → StandsOn timed s x state →
+      StandsOn timed s (event_on s (timed.run s) take (event_on s (timed.run s) push (event_on s (timed.run s) compute x))) (record state { func = func; time = time })
+  handed_stands time answer wants stands used dropped by_epoch s x sound reached h =
+      let C : Option Entry → Type 0 = λ o. StandsOn timed s (event_on s (timed.run s) take (event_on s (timed.run s) push (event_on s (timed.run s) compute x))) (record state { func = func; time = time; computed = o; entries = buffer (drop 1 way.items) way.capacity }) in
+      let E : Buffer Entry → Type 0 = λ b. StandsOn timed s (event_on s (timed.run s) take (event_on s (timed.run s) push (event_on s (timed.run s) compute x))) (record state { func = func; time = time; entries = b }) in
+      let taken : C None = entry_taken timed laws s (event_on s (timed.run s) push (event_on s (timed.run s) compute x)) on_way (way_reached s x sound reached h) (way_stands s x sound reached h) (buffer (drop 1 way.items) way.capacity) refl
+      sound e front wants time answer stands used dropped by_epoch in
+      subst E way_back (subst C (sym (none_is state.computed free)) taken)
+
   pub handed_played : (time : T) (answer : Taken) →
       ((s : Setup) (k : ℕ) → timed.stands s k state.time → true ≡ (needs_entry ((timed.run s).places k) && is_none (timed.held state.time))) →
       ((s : Setup) (k : ℕ) → timed.stands s k state.time → (e.epoch ≡ timed.epoch state.time → e ≡ needed_entry s ((timed.run s).places k)) → timed.stands s k time) →
@@ -81,11 +95,4 @@ module _ {D T : Type 0} (timed : Timed T) (laws : IsTimed timed) (state : SplitS
       ((answer ≡ Used) ↔ (e.epoch ≡ timed.epoch state.time)) →
       (s : Setup) (x : At) → timed.allows s → IsReachedOn s (timed.run s) x → StandsOn timed s x state → IsPlayed timed s x (record state { func = func; time = time })
   handed_played time answer wants stands used dropped by_epoch s x sound reached h =
-      let C : Option Entry → Type 0 = λ o. StandsOn timed s (event_on s (timed.run s) take (event_on s (timed.run s) push (event_on s (timed.run s) compute x))) (record state { func = func; time = time; computed = o; entries = buffer (drop 1 way.items) way.capacity }) in
-      let E : Buffer Entry → Type 0 = λ b. StandsOn timed s (event_on s (timed.run s) take (event_on s (timed.run s) push (event_on s (timed.run s) compute x))) (record state { func = func; time = time; entries = b }) in
-      let taken : C None = entry_taken timed laws s (event_on s (timed.run s) push (event_on s (timed.run s) compute x)) on_way (way_reached s x sound reached h) (way_stands s x sound reached h) (buffer (drop 1 way.items) way.capacity) refl
-      sound e front wants time answer stands used dropped by_epoch in
-      record {
-        events = compute ∷ push ∷ take ∷ [];
-        stands = subst E way_back (subst C (sym (none_is state.computed free)) taken);
-      }
+      record { events = compute ∷ push ∷ take ∷ []; stands = handed_stands time answer wants stands used dropped by_epoch s x sound reached h }

@@ -14,3 +14,6 @@ pub mod Clear
 pub mod Feeding
 pub mod Sides
 pub mod Mono
+pub mod Cycling
+pub mod Crossing
+pub mod InCycle

@@ -10,12 +10,13 @@ use Rattle.time_model.specs.declared.side.Taken.TheVariants.{Used, Dropped}
 use Rattle.time_model.specs.declared.turn.Turn.{Turn}
 use Rattle.time_model.specs.Piped.{Piped, IsPiped, place_of}
 use Rattle.time_model.specs.Standing.{SideStandsFor, IsStep, IsMade, IsRight}
-use Rattle.time_model.specs.Running.{Steps, IsRun}
+use Rattle.time_model.specs.Running.{Steps, IsRun, IsInner, IsRunInCycle}
 use Rattle.time_model.specs.Feeding.{holding, IsFed}
 use Rattle.time_model.specs.Turns.{order_told}
-use Rattle.time_model.proofs.Running.{run_by}
+use Rattle.time_model.proofs.Owing.{stands_ends}
+use Rattle.time_model.proofs.Running.{run_by, silent_by}
 use Rattle.time_model.proofs.Feeding.{holding_stands, told_turn}
-use Rattle.split_core.specs.Timed.{timed_of, IsStepOn, StepsOn, IsRightOn, IsFedOn}
+use Rattle.split_core.specs.Timed.{timed_of, IsStepOn, StepsOn, IsInnerOn, IsRunInCycleOn, IsRightOn, IsFedOn}
 
 module _ {P A : Type 0} (piped : Piped P A) (laws : IsPiped piped) (rounds : Setup → ℕ) where
   step_on : (s : Setup) (k : ℕ) (old new : TimingState P A) (turn : Turn) → IsStep piped s k old new turn → IsStepOn (timed_of piped rounds) s k old new turn
@@ -32,6 +33,20 @@ module _ {P A : Type 0} (piped : Piped P A) (laws : IsPiped piped) (rounds : Set
 
   pub runs_on : (old new : TimingState P A) (turn : Turn) → IsRun (Steps piped) old new turn → IsRun (StepsOn (timed_of piped rounds)) old new turn
   runs_on = run_by (Steps piped) (StepsOn (timed_of piped rounds)) steps_on
+
+  -- steps within a cycle
+  inner_on : (old new : TimingState P A) (turn : Turn) → IsInner piped old new turn → IsInnerOn (timed_of piped rounds) old new turn
+  inner_on old new turn is = record {
+    made = steps_on old new turn is.made;
+    inner = λ s k h. sym (stands_ends piped laws s k old h) ∙ is.inner;
+  }
+
+  pub cycle_runs_on : (old new : TimingState P A) (turn : Turn) → IsRunInCycle piped old new turn → IsRunInCycleOn (timed_of piped rounds) old new turn
+  cycle_runs_on old new turn is = record {
+    behind = is.behind;
+    silent = silent_by (IsInner piped) (IsInnerOn (timed_of piped rounds)) inner_on old is.behind is.silent;
+    last = steps_on is.behind new turn is.last;
+  }
 
   pub right_on : (entry : Entry) (side : TimingState P A) → IsRightOn (timed_of piped rounds) entry side → IsRight piped entry side
   right_on entry side is = record { setup = is.setup; sound = is.allowed; steps = is.steps; stands = is.stands; needed = is.needed }
@@ -51,5 +66,5 @@ module _ {P A : Type 0} (piped : Piped P A) (laws : IsPiped piped) (rounds : Set
     used = λ answer. ap (λ (side : TimingState P A). side.telling.held) (is.used answer);
     dropped = is.dropped;
     by_epoch = is.by_epoch;
-    run = runs_on is.taken new turn is.run;
+    run = cycle_runs_on is.taken new turn is.run;
   }

@@ -24,7 +24,7 @@ tick_is : (s : Setup) (r : DemandRun) (x : At) → may_tick x.split ≡ true →
 unfolding event_on
 tick_is s r x may = cond-true (may_tick x.split) _ _ may
 
-may_by : (hand over lack : Bool) → hand ≡ true → over ≡ false → lack ≡ false → (hand && not over && not lack) ≡ true
+pub may_by : (hand over lack : Bool) → hand ≡ true → over ≡ false → lack ≡ false → (hand && not over && not lack) ≡ true
 may_by true false false e f g = refl
 may_by true false true e f g = cc
 may_by true true lack e f g = cc

@@ -1,9 +1,12 @@
 pub mod Events
 pub mod Along
 pub mod AlongLaws
+pub mod Cycles
+pub mod CycleLaws
 pub mod Timed
 pub mod TimedLaws
 pub mod TimeSide
 pub mod TimeSideLaws
 pub mod Standing
 pub mod Plays
+pub mod InCycle

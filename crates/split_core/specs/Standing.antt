@@ -1,14 +1,17 @@
 -- What the two sides with what is under way between them stand for: a state of the split machine.
-use Rattle.std.specs.Prelude.{◌≡◌, ◌≤◌, Bool, true, false}
+use Rattle.std.specs.Prelude.{◌≡◌, ℕ, ◌+◌, ◌≤◌, Bool, true, false, List}
 use Rattle.circular_buffer.specs.Buffer.{buffer}
 use Rattle.mono_model.specs.declared.setup.Setup.{Setup}
 use Rattle.mono_model.specs.Setup.{is_setup}
 use Rattle.mono_model.specs.declared.final_state.Final.{Final}
+use Rattle.mono_model.specs.Final.{has_ended}
 use Rattle.mono_model.specs.Machine.{machine_final}
 use Rattle.mono_model.specs.Demand.{place, step_bound}
 use Rattle.mono_model.specs.Cycle.{final, mono}
-use Rattle.mono_model.specs.Split.{Split, is_boundary, is_halted}
+use Rattle.mono_model.specs.Path.{path}
+use Rattle.mono_model.specs.Split.{Split, Event, played, is_boundary, is_halted}
 use Rattle.machine_laws.specs.DemandRun.{mono_run}
+use Rattle.machine_laws.specs.Output.{GrowsTo}
 use Rattle.machine_laws.specs.Reached.{IsReached}
 use Rattle.machine_laws.specs.Stays.{CommittedStays}
 use Rattle.func_model.specs.Contents.{ContentsStandFor}
@@ -155,8 +158,50 @@ Keeps follow old new =
     (s : Setup) (x : Split) → is_setup s ≡ true → IsReached s x → SplitStandsFor s x old
     → HoldsCommitted s x (follow s x) old new
 
+-- Some events lead from a state to the one that it stands for, and what was committed there stays.
+pub record IsPlayedFrom {D : Type 0} (s : Setup) (x : Split) (old new : SplitState D TimeState) : Type 0 where
+  pub events : List Event
+  pub stands : SplitStandsFor s (played s events x) new
+  pub kept : HoldsCommitted s x (played s events x) old new
+
+-- Whatever state of its run it stood for, some events were played from there.
+abbrev pub PlaysOn : {D : Type 0} → SplitState D TimeState → SplitState D TimeState → Type 0
+PlaysOn old new =
+    (s : Setup) (x : Split) → is_setup s ≡ true → IsReached s x → SplitStandsFor s x old
+    → IsPlayedFrom s x old new
+
+-- It stands where the cycle after that of a state starts; where the run has ended, its last order is not told yet.
+pub record IsAtNextCycle {D : Type 0} (s : Setup) (x : Split) (state : SplitState D TimeState) : Type 0 where
+  pub split : Split
+  pub reached : IsReached s split
+  pub stands : SplitStandsFor s split state
+  pub boundary : is_boundary split ≡ true
+  pub cycle : split.place.run.demand.machine.cycle ≡ x.place.run.demand.machine.cycle + 1
+  pub unstopped : is_halted split.place.run.at ≡ false
+
+-- From the start of a cycle of a run that goes on, it came to the start of the next.
+abbrev pub GoesToNextCycle : {D : Type 0} → SplitState D TimeState → SplitState D TimeState → Type 0
+GoesToNextCycle old new =
+    (s : Setup) (x : Split) → is_setup s ≡ true → IsReached s x → SplitStandsFor s x old
+    → is_boundary x ≡ true → has_ended x.place.run.demand.machine.end ≡ false → IsAtNextCycle s x new
+
 -- and at the end of the run
 abbrev pub KeepsToEnd : {D : Type 0} → SplitState D TimeState → SplitState D TimeState → Type 0
 KeepsToEnd old new =
     (s : Setup) (x : Split) → is_setup s ≡ true → IsReached s x → SplitStandsFor s x old
     → (end : IsEnded s new) → HoldsCommitted s x end.split old new
+
+-- it stands for a state that events lead to
+pub record IsUnderWay {D : Type 0} (s : Setup) (state : SplitState D TimeState) : Type 0 where
+  pub split : Split
+  pub reached : IsReached s split
+  pub stands : SplitStandsFor s split state
+
+-- these bytes are what the functional side has committed of the output, and so the beginning of the run's
+pub record IsCommitted (s : Setup) (x : Split) (bytes : List ℕ) : Type 0 where
+  pub output : bytes ≡ (path s x.obeyed x.committed_number).output
+  pub begins : GrowsTo bytes (mono s s.cycles).arch.output
+
+abbrev pub TellsCommitted : {D : Type 0} → SplitState D TimeState → List ℕ → Type 0
+TellsCommitted state bytes =
+    (s : Setup) (x : Split) → is_setup s ≡ true → IsReached s x → SplitStandsFor s x state → IsCommitted s x bytes

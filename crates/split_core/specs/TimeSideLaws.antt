@@ -23,6 +23,7 @@ use Rattle.split_core.specs.Along.{At, start_at, stepped_to, event_on, played_on
 use Rattle.split_core.specs.AlongLaws.{Sees, event_sees, played_sees, start_sees}
 use Rattle.split_core.specs.Timed.{IsTimed, IsSplit}
 use Rattle.split_core.specs.TimedLaws.{timed_laws}
+use Rattle.split_core.specs.CycleLaws.{mono_cycles}
 use Rattle.split_core.specs.TimeSide.{mono_timed}
 
 -- Along the monolithic machine's demand run the split state is that of its split run.
@@ -131,6 +132,7 @@ mono_splits = record {
   arrives = arrives;
   stop = stop_told;
   halts = halts;
+  cycles = mono_cycles;
 }
 
 pub mono_laws : IsTimed mono_timed

@@ -15,8 +15,9 @@ use Rattle.time_model.specs.declared.state.TimingState.{TimingState}
 use Rattle.time_model.specs.Piped.{Piped}
 use Rattle.time_model.specs.Standing.{SideStandsFor, wants_in, is_told_out}
 use Rattle.time_model.specs.Turns.{order_told}
-use Rattle.time_model.specs.Running.{IsRun}
+use Rattle.time_model.specs.Running.{IsSilent}
 use Rattle.split_core.specs.Along.{At, rounds_on, IsReachedOn}
+use Rattle.split_core.specs.Cycles.{Cycles, ends_place}
 
 pub record Timed (T : Type 0) : Type 1 where
   -- which setups it may have
@@ -61,6 +62,17 @@ pub record IsStepOn {T : Type 0} (timed : Timed T) (s : Setup) (k : ℕ) (old ne
 abbrev pub StepsOn : {T : Type 0} → Timed T → T → T → Turn → Type 0
 StepsOn timed old new turn = (s : Setup) (k : ℕ) → timed.allows s → timed.stands s k old → IsStepOn timed s k old new turn
 
+-- one that ends no cycle
+pub record IsInnerOn {T : Type 0} (timed : Timed T) (old new : T) (turn : Turn) : Type 0 where
+  pub made : StepsOn timed old new turn
+  pub inner : (s : Setup) (k : ℕ) → timed.stands s k old → ends_place ((timed.run s).places k) ≡ false
+
+-- Some steps were made that told no order and ended no cycle, and after them one that did this; it may have ended one.
+pub record IsRunInCycleOn {T : Type 0} (timed : Timed T) (old new : T) (turn : Turn) : Type 0 where
+  pub behind : T
+  pub silent : IsSilent (IsInnerOn timed) old behind
+  pub last : StepsOn timed behind new turn
+
 -- an entry may be handed to a side: where it is of the side's epoch, it is the one that the side's place needs
 pub record IsRightOn {T : Type 0} (timed : Timed T) (entry : Entry) (side : T) : Type 0 where
   pub setup : Setup
@@ -70,7 +82,7 @@ pub record IsRightOn {T : Type 0} (timed : Timed T) (entry : Entry) (side : T) :
   pub needed : entry.epoch ≡ timed.epoch side → entry ≡ needed_entry setup ((timed.run setup).places steps)
 
 -- An entry of the side's epoch was held and any other dropped, and from the side behind that some steps were made, the
--- last of which did this.
+-- last of which did this and alone may have ended a cycle.
 pub record IsFedOn {T : Type 0} (timed : Timed T) (entry : Entry) (old new : T) (turn : Turn) : Type 0 where
   pub answer : Taken
   pub taken : T
@@ -78,7 +90,7 @@ pub record IsFedOn {T : Type 0} (timed : Timed T) (entry : Entry) (old new : T) 
   pub used : answer ≡ Used → timed.held taken ≡ Some entry
   pub dropped : answer ≡ Dropped → taken ≡ old
   pub by_epoch : (answer ≡ Used) ↔ (entry.epoch ≡ timed.epoch old)
-  pub run : IsRun (StepsOn timed) taken new turn
+  pub run : IsRunInCycleOn timed taken new turn
 
 -- what it needs of the demand run alone
 pub record IsSplit (allows : Setup → Type 0) (run : Setup → DemandRun) (rounds : Setup → ℕ) : Type 0 where
@@ -90,6 +102,8 @@ pub record IsSplit (allows : Setup → Type 0) (run : Setup → DemandRun) (roun
   -- the last order is told by the last step, within the bound
   pub stop : (s : Setup) (k : ℕ) → has_stop (told ((run s).places k)) ≡ is_halted ((run s).places k).run.at
   pub halts : (s : Setup) (k : ℕ) → allows s → (run s).bound ≤ k → is_halted ((run s).places k).run.at ≡ true
+  -- it goes from cycle to cycle
+  pub cycles : (s : Setup) → Cycles (run s)
 
 -- What the split state needs of the demand run and of the side.
 pub record IsTimed {T : Type 0} (timed : Timed T) : Type 0 where
@@ -106,3 +120,5 @@ pub record IsTimed {T : Type 0} (timed : Timed T) : Type 0 where
   -- the last order is told by the last step, within the bound
   pub stop : (s : Setup) (k : ℕ) → has_stop (told ((timed.run s).places k)) ≡ is_halted ((timed.run s).places k).run.at
   pub halts : (s : Setup) (k : ℕ) → timed.allows s → (timed.run s).bound ≤ k → is_halted ((timed.run s).places k).run.at ≡ true
+  -- it goes from cycle to cycle
+  pub cycles : (s : Setup) → Cycles (timed.run s)

@@ -16,4 +16,5 @@ timed_laws piped laws rounds split = record {
   arrives = split.arrives;
   stop = split.stop;
   halts = split.halts;
+  cycles = split.cycles;
 }

@@ -1,5 +1,6 @@
 ghost use Rattle.std.specs.Prelude.{◌≡◌};
 ghost use Rattle.split_core.specs.Plays.{Plays, IsClear};
+ghost use Rattle.split_core.specs.InCycle.{ComesOut};
 ghost use Rattle.split_core.specs.Standing.{IsStandingOn};
 
 use crate::state::SplitState;
@@ -14,18 +15,19 @@ use trace_entry::Entry;
 impl<D: Device, T: Timing> SplitState<D, T> {
     ghost use Rattle.std.specs.Prelude.{true};
 
-    /// Plays until the functional side has obeyed the last order, or the timing side has made as
-    /// many steps as a run has at most.
-    pub fn play_on_demand(&mut self)
+    /// Plays so many turns, or fewer where the functional side has obeyed the last order before. A
+    /// turn is at least one step of the timing side, up to one that tells an order or wants an
+    /// entry.
+    pub fn play_on_demand(&mut self, turns: u64)
         requires standing { IsStandingOn T.timed self.old }
         ensures plays { Plays T.timed self.old self.new }
     {
-        for _ in 0..self.steps {
+        for _ in 0..turns {
             if self.func.stopped() {
                 return;
             }
             if self.is_clear() {
-                self.play_clear();
+                self.play_clear(turns);
                 return;
             }
             self.play_step();
@@ -33,7 +35,7 @@ impl<D: Device, T: Timing> SplitState<D, T> {
     }
 
     /// Whether nothing is under way between the sides.
-    fn is_clear(&self) -> bool
+    pub(crate) fn is_clear(&self) -> bool
         ensures clear { result ≡ true → IsClear self.now }
     {
         self.computed.is_none()
@@ -76,15 +78,16 @@ impl<D: Device, T: Timing> SplitState<D, T> {
         }
     }
 
-    /// Plays on with nothing under way, until the run is over. An order is obeyed right where its
-    /// turn is told apart from the others, so that no turn is looked at twice.
-    fn play_clear(&mut self)
+    /// Plays so many turns with nothing under way, or fewer where the run is over before. An order
+    /// is obeyed right where its turn is told apart from the others, so that no turn is looked at
+    /// twice.
+    fn play_clear(&mut self, turns: u64)
         requires standing { IsStandingOn T.timed self.old }
         requires clear { IsClear self.old }
         ensures plays { Plays T.timed self.old self.new }
     {
         let mut entry = Entry::BLANK;
-        for _ in 0..self.steps {
+        for _ in 0..turns {
             match self.time.run() {
                 Turn::Halted => return,
                 Turn::Want => self.hand_over_wanted(&mut entry),
@@ -97,11 +100,12 @@ impl<D: Device, T: Timing> SplitState<D, T> {
     /// Hands the timing side one entry after the other as it is computed, each written over the one
     /// before it, as long as it wants the next one: as where they go through the list of entries,
     /// with none before them. An order that the steps with an entry tell is obeyed at once.
-    fn hand_over_wanted(&mut self, entry: &mut Entry)
+    pub(crate) fn hand_over_wanted(&mut self, entry: &mut Entry)
         requires standing { IsStandingOn T.timed self.old }
         requires clear { IsClear self.old }
         requires wants { T.timed.wants self.old.time ≡ true }
         ensures plays { Plays T.timed self.old self.new }
+        ensures out { ComesOut T.timed self.old self.new }
         ensures clear { IsClear self.new }
     {
         for _ in 0..self.steps {

@@ -4,11 +4,13 @@
 #![tactic(auto)]
 
 mod bounds;
+mod cycle;
 mod demand;
 mod event;
 mod split;
 mod state;
 mod timing;
+mod watched;
 
 pub use event::Event;
 pub use split::SplitCore;

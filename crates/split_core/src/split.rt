@@ -18,7 +18,7 @@ use time_model::TimeSide;
 /// more: it stands for no state of the run then, and only its output is still of use.
 #[derive(Drop)]
 pub struct SplitCore<D: Device> {
-    state: SplitState<D, TimeSide>,
+    pub(crate) state: SplitState<D, TimeSide>,
 }
 
 impl<D: Device> Model for SplitCore<D> {
@@ -45,6 +45,7 @@ impl<D: Device> SplitCore<D> {
     ghost use Rattle.split_core.specs.Events.{event_in};
     ghost use Rattle.split_core.specs.Standing.{SplitStandsFor, Leads, LeadsToEnd, TellsBoundary};
     ghost use Rattle.split_core.specs.Standing.{IsAtBoundary, Reports, GoesBack, Keeps, KeepsToEnd};
+    ghost use Rattle.split_core.specs.Standing.{PlaysOn, TellsCommitted};
 
     /// The core at the start of a run: nothing was computed, and nothing is under way. All memory
     /// of the run is taken here; a refusal drops what it was given.
@@ -88,6 +89,31 @@ impl<D: Device> SplitCore<D> {
         self.state.to_boundary();
     }
 
+    /// Plays so many turns on the way to the end, as [`SplitCore::to_end`] plays them all, or fewer
+    /// where the run is over before. A turn is at least one step of the timing side.
+    pub fn go_on(&mut self, turns: u64)
+        requires going { self.old.is_reported ≡ false }
+        ensures played { PlaysOn self.old self.new }
+        ensures going { self.new.is_reported ≡ false }
+    {
+        self.state.play_on_demand(turns);
+    }
+
+    /// Whether the functional side was stopped, by the last order of the run.
+    pub fn is_over(&self) -> bool
+        ensures over { result ≡ self.now.func.is_stopped }
+    {
+        self.state.func.stopped()
+    }
+
+    /// What is committed of the output: the first bytes of the run's output, none of which is ever
+    /// taken back.
+    pub fn committed_output(&self) -> &[u8]
+        ensures committed { TellsCommitted self.now result.now }
+    {
+        self.state.committed_output()
+    }
+
     /// Plays events until the run is over: the timing side has told its last order, and the
     /// functional side has obeyed it. Entries are computed on demand; whatever state that leaves,
     /// the rounds behind it come to the end.
@@ -97,7 +123,8 @@ impl<D: Device> SplitCore<D> {
         ensures kept { KeepsToEnd self.old self.new }
         ensures boundary { IsAtBoundary self.new }
     {
-        self.state.play_on_demand();
+        let turns = self.state.steps;
+        self.state.play_on_demand(turns);
         self.state.to_end();
     }
 

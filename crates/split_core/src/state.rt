@@ -40,6 +40,9 @@ impl<D: Device, T: Timing> SplitState<D, T> {
     ghost use Rattle.mono_model.specs.Split.{compute, push, obey, tick, take, send};
     ghost use Rattle.mono_model.specs.Split.{is_place_boundary};
     ghost use Rattle.split_core.specs.Events.{event_in};
+    ghost use Rattle.mono_model.specs.declared.setup.Setup.{Setup as RunSetup};
+    ghost use Rattle.mono_model.specs.Path.{path};
+    ghost use Rattle.split_core.specs.Along.{At, IsReachedOn};
     ghost use Rattle.split_core.specs.Along.{start_at, event_on, played_on, round_on, rounds_on};
     ghost use Rattle.split_core.specs.Standing.{StandsOn, LeadsOn, EndsOn, TellsBoundaryOn};
     ghost use Rattle.split_core.specs.Standing.{IsStandingOn, IsAtBoundaryOn, ReportsOn};
@@ -238,6 +241,15 @@ impl<D: Device, T: Timing> SplitState<D, T> {
             self.tick();
         }
         self.to_boundary();
+    }
+
+    /// What is committed of the output.
+    pub fn committed_output(&self) -> &[u8]
+        ensures output { (s : RunSetup) (x : At) → T.timed.allows s
+            → IsReachedOn s (T.timed.run s) x → StandsOn T.timed s x self.now
+            → result.now ≡ (path s x.split.obeyed x.split.committed_number).output }
+    {
+        self.func.committed_output()
     }
 
     /// What is reported at a boundary: the functional side goes back to what is committed, and

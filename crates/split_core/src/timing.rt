@@ -17,6 +17,7 @@ pub trait Timing: Drop {
     ghost use Rattle.mono_model.specs.Split.{is_place_boundary};
     ghost use Rattle.time_model.specs.Running.{IsRun};
     ghost use Rattle.split_core.specs.Timed.{Timed, IsTimed, StepsOn, IsRightOn, IsFedOn};
+    ghost use Rattle.split_core.specs.Timed.{IsRunInCycleOn};
 
     ghost timed: { Timed Self };
 
@@ -46,6 +47,11 @@ pub trait Timing: Drop {
     /// over; or fewer. The result is what the last one did.
     fn run(&mut self) -> Turn
         ensures made { IsRun (StepsOn timed) self.old self.new result }
+        ensures waiting { result ≡ Turn.Want → timed.wants self.new ≡ true };
+
+    /// The same, but none after the end of a cycle.
+    fn run_in_cycle(&mut self) -> Turn
+        ensures made { IsRunInCycleOn timed self.old self.new result }
         ensures waiting { result ≡ Turn.Want → timed.wants self.new ≡ true };
 
     /// Whether the next step needs the entry of the instruction to fetch next, and none is held.
@@ -158,6 +164,11 @@ impl<P: Bounded> Timing for TimingSide<P> {
     #[inline(always)]
     fn run(&mut self) -> Turn {
         TimingSide::run(self)
+    }
+
+    #[inline(always)]
+    fn run_in_cycle(&mut self) -> Turn {
+        TimingSide::run_in_cycle(self)
     }
 
     fn wants(&self) -> bool {

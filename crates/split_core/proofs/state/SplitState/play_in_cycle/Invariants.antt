@@ -1,0 +1,7 @@
+use Rattle.split_core.specs.Plays.{IsClear}
+use Rattle.split_core.specs.InCycle.{StaysIn}
+use Rattle.split_core.proofs.OnDemand.{OnDemand}
+use Rattle.split_core.proofs.state.SplitState.play_in_cycle.Given as goal
+
+abbrev pub invariant-loop : goal.invariant-loop
+invariant-loop g l = record { far : OnDemand g.T.Timing.timed l.fn.self l.self; clear : IsClear l.self; inside : StaysIn g.T.Timing.timed l.fn.self l.self }
