@@ -10,7 +10,7 @@ use Rattle.insight_model.specs.Count.{Executed, executed_events}
 use Rattle.insight_model.specs.Profile.{Column, Event, amount_in, column_place, goes_on, own_events, retired, row_of, trapped}
 use Rattle.instruction_count.specs.Counted.{run_events}
 use Rattle.instruction_count.proofs.Amounts.{events_by, other_row, own_row, retired_amount, retired_by, trapped_amount, trapped_by}
-use Rattle.instruction_count.proofs.Listed.{has_row}
+use Rattle.insight_laws.proofs.Listed.{has_row}
 
 has_one : (trap on : Bool) (own row : ℕ) (b : Bool) → (own == row) ≡ b → has_row row (events_by trap on own) ≡ b
 has_one true on own row true is = rw is refl

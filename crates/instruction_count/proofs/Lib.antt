@@ -1,7 +1,6 @@
 pub mod Amounts
 pub mod Noted
 pub mod Runs
-pub mod Listed
 pub mod Counted
 pub mod Addresses
 pub mod Counting

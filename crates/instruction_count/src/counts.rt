@@ -106,7 +106,7 @@ impl InstructionCounts {
 }
 
 /// Writes the row of an address, if something was counted in it.
-#[tactic(auto, using(crate::proofs::Written::grown_nothing))]
+#[tactic(auto, using(report_text::proofs::RowLines::grown_nothing))]
 fn write_row<K: Sink>(addr: Option<u32>, row: &CountRow, sink: &mut K) -> Result<(), WriteFault>
     ensures count { K.faults sink.old ≤ K.faults sink.new }
     ensures written { Puts (row_text addr row.now) (K.faults sink.old) (K.faults sink.new)

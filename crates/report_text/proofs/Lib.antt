@@ -1,3 +1,6 @@
 pub mod Lines
+pub mod RowLines
 pub mod RowTexts
 pub mod Told
+pub mod StackTexts
+pub mod Gathered

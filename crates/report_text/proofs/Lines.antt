@@ -1,9 +1,9 @@
 -- Lines that are joined, and the pieces of one line.
 use Rattle.std.proofs.Common.{slice_index_or, not, nat_eq, codes, if◌then◌else◌, ◌==◌, true, false, ◌≡◌, ℕ, ◌+◌, ◌-◌, ◌≤◌, ◌<◌, List, [], ◌∷◌, ◌++◌, length, take, drop, get_or, Option, refl, ap, sym, ◌∙◌, subst, append_assoc, add-one, arith}
 use Rattle.std.proofs.Math.Seq.{take-suc}
-use Rattle.std.proofs.lemmas.List.{take-append-drop, append-nil}
+use Rattle.std.proofs.lemmas.List.{take-append-drop, take_all, append-nil}
 use Rattle.fsim_ports.specs.Sink.{grown, Breaks}
-use Rattle.fsim_ports.proofs.Writing.{breaks_first, breaks_second}
+use Rattle.fsim_ports.proofs.Writing.{breaks_first, breaks_second, grown_twice}
 use Rattle.mono_model.specs.declared.final_state.Final.{Final}
 use Rattle.mono_model.specs.Report.{line, line_feed, joined, status_text, retired_lines, register_lines, csr_lines, ends_open, func_lines, func_report_text, pipeline_lines, first_level_lines, second_level_lines, state_lines, count_line, misses_line, report_lines, report_text}
 use Rattle.report_text.specs.Lines.{output_line, pc_line, counts_text, progress_text, costs_text, second_level_text, place_text, registers_text, csrs_text}
@@ -37,6 +37,16 @@ line_breaks lines i text {before} {middle} {after} {old} {mid} {new} inside is l
 pub record WritesLines (lines : List (List ℕ)) (done before now : ℕ) (old new : Option (List ℕ)) : Type 0 where
   pub count : before ≤ now
   pub written : new ≡ grown old (joined (take done lines))
+
+pub line_written : (lines : List (List ℕ)) (i : ℕ) (text : List ℕ) {before middle after : ℕ} {old mid new : Option (List ℕ)} → i < length lines → text ≡ get_or lines i text → WritesLines lines i before middle old mid → middle ≤ after → new ≡ grown mid text
+    → WritesLines lines (i + 1) before after old new
+line_written lines i text {old = old} inside is done later written = record {
+  count = omega (arith, done.count, later);
+  written = written ∙ ap (λ w. grown w text) done.written ∙ grown_twice old (joined (take i lines)) text ∙ ap (grown old) (sym (joined-take lines i text inside is));
+}
+
+pub all_written : (lines : List (List ℕ)) (i : ℕ) {before now : ℕ} {old new : Option (List ℕ)} → length lines ≤ i → WritesLines lines i before now old new → new ≡ grown old (joined lines)
+all_written lines i {old = old} all done = done.written ∙ ap (λ ls. grown old (joined ls)) (take_all i lines all)
 
 -- whether a text ends open is seen at its last byte
 open_at : (byte : ℕ) → not (nat_eq byte 10) ≡ (if byte == 10 then false else true)

@@ -98,6 +98,7 @@ unfoldable pub usage_text : List ℕ
 usage_text =
     codes "fast: usage: fast func IMAGE, run IMAGE MACHINE, sched IMAGE MACHINE PLAN, "
     ++ codes "soak SEED, back IMAGE SCRIPT, inorder IMAGE MACHINE PLAN, sweep IMAGE MACHINES, "
+    ++ codes "trace IMAGE MACHINE, stack IMAGE MACHINE, profile IMAGE MACHINE, "
     ++ codes "count IMAGE, gdb IMAGE" ++ line_feed
 
 -- the line of an answer that has one

@@ -4,3 +4,6 @@ pub mod FuncText
 pub mod SweepText
 pub mod DebugText
 pub mod RowText
+pub mod Rest
+pub mod StackText
+pub mod Buffered

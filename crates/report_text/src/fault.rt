@@ -223,6 +223,7 @@ fn usage_line<K: Sink>(sink: &mut K) -> Result<(), WriteFault>
     put_piece(
         b"fast: usage: fast func IMAGE, run IMAGE MACHINE, sched IMAGE MACHINE PLAN, \
           soak SEED, back IMAGE SCRIPT, inorder IMAGE MACHINE PLAN, sweep IMAGE MACHINES, \
+          trace IMAGE MACHINE, stack IMAGE MACHINE, profile IMAGE MACHINE, \
           count IMAGE, gdb IMAGE\n",
         sink,
     )

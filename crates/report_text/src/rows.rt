@@ -3,7 +3,7 @@ ghost use Rattle.std.specs.Prelude.{◌≡◌, ◌≤◌, ◌++◌, codes};
 ghost use Rattle.fsim_ports.specs.Sink.{Puts};
 ghost use Rattle.mono_model.specs.Report.{hex};
 ghost use Rattle.insight_model.specs.Count.{count_header};
-ghost use Rattle.insight_model.specs.Profile.{numbers_line, row_name};
+ghost use Rattle.insight_model.specs.Profile.{numbers_line, profile_header, row_name};
 ghost use Rattle.report_text.specs.RowText.{number_text, numbers_text, row_number};
 
 use crate::line::Line;
@@ -88,4 +88,20 @@ pub fn count_header<K: Sink>(sink: &mut K) -> Result<(), WriteFault>
         (K.written sink.old) (K.written sink.new) result }
 {
     put_piece(b"address,word,retired,exceptions,taken\n", sink)
+}
+
+/// Writes the names of the columns that a profile has.
+#[tactic(auto, unfolding(insight_model::specs::Profile::profile_header))]
+pub fn profile_header<K: Sink>(sink: &mut K) -> Result<(), WriteFault>
+    ensures count { K.faults sink.old ≤ K.faults sink.new }
+    ensures written { Puts profile_header (K.faults sink.old) (K.faults sink.new)
+        (K.written sink.old) (K.written sink.new) result }
+{
+    put_piece(
+        b"address,word,retired,exceptions,taken,fetched,squashed,mispredicted,\
+          icache_accesses,icache_misses,dcache_accesses,dcache_misses,l2_accesses,l2_misses,\
+          writebacks,cycles,commit,alu,mul,div,load,store,device,serial,operand,dcache,icache,\
+          window,stations,mispredict,trap,interrupt,replay,fence,start\n",
+        sink,
+    )
 }

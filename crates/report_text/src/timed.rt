@@ -1,8 +1,9 @@
 ghost use Rattle.std.specs.Prelude.{◌≡◌, ◌≤◌, ◌++◌};
 ghost use Rattle.fsim_ports.specs.Sink.{Puts};
-ghost use Rattle.mono_model.specs.Report.{closed_output, report_text};
+ghost use Rattle.mono_model.specs.Report.{report_text};
 ghost use Rattle.report_text.specs.Lines.{progress_text, costs_text, second_level_text, place_text};
 ghost use Rattle.report_text.specs.Lines.{values_text};
+ghost use Rattle.report_text.specs.Rest.{output_rest};
 
 use crate::put::{WriteFault, put_lines, put_piece};
 use crate::report_lines::{count_line, misses_line, output_line, pc_line, status_line};
@@ -113,15 +114,16 @@ fn put_report<K: Sink>(f: &Final, sink: &mut K) -> Result<(), WriteFault>
     put_rest(f, sink)
 }
 
-/// Writes the output and the report of a run under a machine file, each line by itself.
+/// Writes the output from so many bytes on, and the report of a run under a machine file, each line
+/// by itself.
 ///
 /// Ok says that the whole text was written. A fault comes only where the sink's count of faults
 /// rose, and then a proper prefix of the text was written. It takes no memory.
-pub fn report<K: Sink>(f: &Final, output: &[u8], sink: &mut K) -> Result<(), WriteFault>
+pub fn report<K: Sink>(f: &Final, output: &[u8], put: usize, sink: &mut K) -> Result<(), WriteFault>
     ensures count { K.faults sink.old ≤ K.faults sink.new }
-    ensures written { Puts (closed_output output.now ++ report_text f.now) (K.faults sink.old)
+    ensures written { Puts (output_rest put output.now ++ report_text f.now) (K.faults sink.old)
         (K.faults sink.new) (K.written sink.old) (K.written sink.new) result }
 {
-    put_output(output, sink)?;
+    put_output(output, put, sink)?;
     put_report(f, sink)
 }

@@ -1,7 +1,8 @@
 ghost use Rattle.std.specs.Prelude.{◌≡◌, ◌≤◌, ◌++◌};
 ghost use Rattle.fsim_ports.specs.Sink.{Puts};
-ghost use Rattle.mono_model.specs.Report.{ends_open, closed_output, func_report_text};
+ghost use Rattle.mono_model.specs.Report.{ends_open, func_report_text};
 ghost use Rattle.report_text.specs.Lines.{counts_text, registers_text, csrs_text, values_text};
+ghost use Rattle.report_text.specs.Rest.{output_rest};
 
 use crate::put::{WriteFault, put_lines, put_piece, put_two};
 use crate::report_lines::{
@@ -19,16 +20,18 @@ pub fn ends_open(output: &[u8]) -> bool
     !output.is_empty() && output[output.len() - 1] != b'\n'
 }
 
-/// The output, with a line feed behind it where it isn't empty and doesn't end in one.
-pub fn put_output<K: Sink>(output: &[u8], sink: &mut K) -> Result<(), WriteFault>
+/// The output from so many bytes on, with a line feed after it where the whole isn't empty and
+/// doesn't end in one.
+pub fn put_output<K: Sink>(output: &[u8], put: usize, sink: &mut K) -> Result<(), WriteFault>
     ensures count { K.faults sink.old ≤ K.faults sink.new }
-    ensures written { Puts (closed_output output.now) (K.faults sink.old) (K.faults sink.new)
+    ensures written { Puts (output_rest put output.now) (K.faults sink.old) (K.faults sink.new)
         (K.written sink.old) (K.written sink.new) result }
 {
+    let rest = &output[put.min(output.len())..];
     if ends_open(output) {
-        put_two(output, b"\n", sink)
+        put_two(rest, b"\n", sink)
     } else {
-        put_piece(output, sink)
+        put_piece(rest, sink)
     }
 }
 
@@ -103,15 +106,21 @@ fn put_report<K: Sink>(f: &Final, sink: &mut K) -> Result<(), WriteFault>
     put_values(&f.regs, &f.csrs, f.cmp, sink)
 }
 
-/// Writes the output and the report of a run without a machine file, each line by itself.
+/// Writes the output from so many bytes on, and the report of a run without a machine file, each
+/// line by itself.
 ///
 /// Ok says that the whole text was written. A fault comes only where the sink's count of faults
 /// rose, and then a proper prefix of the text was written. It takes no memory.
-pub fn func_report<K: Sink>(f: &Final, output: &[u8], sink: &mut K) -> Result<(), WriteFault>
+pub fn func_report<K: Sink>(
+    f: &Final,
+    output: &[u8],
+    put: usize,
+    sink: &mut K,
+) -> Result<(), WriteFault>
     ensures count { K.faults sink.old ≤ K.faults sink.new }
-    ensures written { Puts (closed_output output.now ++ func_report_text f.now) (K.faults sink.old)
-        (K.faults sink.new) (K.written sink.old) (K.written sink.new) result }
+    ensures written { Puts (output_rest put output.now ++ func_report_text f.now)
+        (K.faults sink.old) (K.faults sink.new) (K.written sink.old) (K.written sink.new) result }
 {
-    put_output(output, sink)?;
+    put_output(output, put, sink)?;
     put_report(f, sink)
 }

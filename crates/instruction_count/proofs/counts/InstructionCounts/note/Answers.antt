@@ -1,7 +1,8 @@
 use Rattle.std.proofs.Common.{◌<◌, ℕ, length, refl, subst, arith}
 use Rattle.std.proofs.lemmas.Option.{slice_get_read}
 use Rattle.text_rows.specs.Rows.{IsRowOf}
-use Rattle.instruction_count.proofs.Counting.{noted_in, row_within}
+use Rattle.insight_laws.proofs.TextRows.{row_within}
+use Rattle.instruction_count.proofs.Counting.{noted_in}
 use Rattle.instruction_count.proofs.counts.InstructionCounts.note.Goals as goal
 
 pub index_mut-requires : goal.index_mut-requires
