@@ -1,0 +1,35 @@
+use Rattle.std.proofs.Common.{◌∙◌, sym}
+use Rattle.insight_model.specs.Sight.{is_accessing_at, is_executing_at}
+use Rattle.insight_model.specs.Hole.{execute_stall, has_in, stays_in}
+use Rattle.cycle_watch.specs.Facts.{charge_in}
+use Rattle.cycle_watch.specs.Known.{kept_of}
+use Rattle.cycle_watch.specs.Stages.{kept_in}
+use Rattle.cycle_watch.proofs.Holding.{moved_before, moved_own, moved_stall, stays_at}
+use Rattle.cycle_watch.proofs.holes.Holes.memory_after.Goals as goal
+
+pub returns-then-has_in : goal.returns-then-has_in
+returns-then-has_in g c = record {
+  hole = sym (moved_own (has_in is_accessing_at (g.S.Watched.sight c.args.side.now).window) (charge_in c.args.self.now.memory) (charge_in c.args.self.now.execute) _ (sym c.has_in.ensures.has ∙ c.if-has_in.true));
+}
+
+pub returns-in-Some : goal.returns-in-Some
+returns-in-Some g c =
+    let last = c.args.last.now in
+    let f = c.args.facts.now in
+    let w = (g.S.Watched.sight c.args.side.now).window in
+    let found = stays_in is_executing_at (kept_in last f w) in
+    let s = stays_at last f w c.in-Some.place found c.requires.kept c.in-Some.ensures.within c.in-Some.ensures.stays in
+    record {
+      hole =
+          c.execute_hole.ensures.hole s.1 s.3
+          ∙ sym (moved_stall (has_in is_accessing_at w) (charge_in c.args.self.now.memory) (charge_in c.args.self.now.execute) (execute_stall) found (kept_of s.0 s.1, s.0.miss)
+          (sym c.has_in.ensures.has ∙ c.if-has_in.false) s.4);
+    }
+
+pub returns-in-None : goal.returns-in-None
+returns-in-None g c =
+    let w = (g.S.Watched.sight c.args.side.now).window in
+    record {
+      hole = sym (moved_before (has_in is_accessing_at w) (charge_in c.args.self.now.memory) (charge_in c.args.self.now.execute) (execute_stall) (stays_in is_executing_at (kept_in c.args.last.now c.args.facts.now w))
+          (sym c.has_in.ensures.has ∙ c.if-has_in.false) (sym c.in-None.ensures.stays));
+    }

@@ -1,0 +1,20 @@
+use Rattle.std.proofs.Common.{◌<◌, length, refl, arith}
+use Rattle.std.proofs.lemmas.Option.{slice_get_read}
+use Rattle.insight_laws.proofs.TextRows.{row_within}
+use Rattle.cycle_watch.proofs.RowFilling.{spent_in}
+use Rattle.cycle_watch.proofs.Stacked.{cause_below}
+use Rattle.cycle_watch.proofs.profile.Profiling.spend.Goals as goal
+
+pub index_mut-requires : goal.index_mut-requires
+index_mut-requires c = omega (arith, row_within c.args.self.now.rows c.args.head.addr c.row-row.result c.row-row.ensures.row, c.requires.each)
+
+pub spend-requires : goal.spend-requires
+spend-requires c = record { cause = omega (arith, c.cause_place.ensures.place, cause_below c.args.head.cause) }
+
+pub returns-clause-counted : goal.returns-clause-counted
+returns-clause-counted c = λ image all appended has.
+    let self = c.args.self.now in
+    let place = c.row-row.result in
+    let within : place < length self.counts.items = omega (arith, row_within self.rows c.args.head.addr place c.row-row.ensures.row, c.requires.each) in
+    spent_in image all appended self _ place c.index_mut.result.now c.spend.new.self c.args.head c.args.cycles has refl c.row-row.ensures.row
+    (slice_get_read self.counts.items (length self.counts.items) place c.index_mut.result.now refl within c.index_mut.ensures.value) refl c.cause_place.result c.cause_place.ensures.place c.spend.ensures.spent

@@ -1,0 +1,11 @@
+pub mod Shown
+pub mod Cells
+pub mod SeenIn
+pub mod Facts
+pub mod Known
+pub mod Stages
+pub mod Passing
+pub mod Counted
+pub mod Profiled
+pub mod Writing
+pub mod Traced
