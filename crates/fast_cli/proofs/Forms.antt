@@ -12,7 +12,7 @@ use Rattle.clap.specs.Walk.{Row, Rule, default_rows, has_long, has_row, idle, no
 use Rattle.clap.specs.declared.error.kind.ErrorKind.TheVariants.{MissingRequiredArgument}
 use Rattle.fast_cli.specs.Words.{◌>>=◌, Form, Text, Values, has_names, rest_names, values_in}
 use Rattle.fast_cli.specs.Command.{ReadsAs, accepted, command_by, parsed, values_among}
-use Rattle.fast_cli.specs.Line.{back_form, count_form, func_form, gdb_form, inorder_form, run_form, sched_form, soak_form, sweep_form}
+use Rattle.fast_cli.specs.Line.{back_form, count_form, func_form, gdb_form, inorder_form, run_form, sched_form, soak_form, sweep_form, trace_form, watch_form}
 use Rattle.fast_cli.specs.Table.{command_in}
 use Rattle.fast_cli.specs.declared.table.CommandName.{CommandName}
 use Rattle.fast_cli.specs.declared.table.CommandName.TheVariants as names
@@ -216,6 +216,26 @@ sweep_rules = record {
   needs = λ rows. needs_two (is_given (codes "IMAGE") rows) (is_given (codes "MACHINES") rows);
 }
 
+trace_rules : AreRulesOf trace_form (rules_of trace_form)
+trace_rules = record {
+  long = λ name. long_options name trace_form.options trace_form.flags [] refl;
+  short = λ x. refl;
+  known = (refl, (refl, (refl, (refl, (refl, (refl, tt))))));
+  places = (true, refl, refl, (true, refl, refl, refl));
+  defaults = (refl, (refl, (refl, (refl, (refl, (refl, (refl, (refl, tt))))))));
+  needs = λ rows. needs_two (is_given (codes "IMAGE") rows) (is_given (codes "MACHINE") rows);
+}
+
+watch_rules : (word : Text) → AreRulesOf (watch_form word) (rules_of (watch_form word))
+watch_rules word = record {
+  long = λ name. long_options name (watch_form word).options (watch_form word).flags [] refl;
+  short = λ x. refl;
+  known = (refl, (refl, (refl, (refl, tt))));
+  places = (true, refl, refl, (true, refl, refl, refl));
+  defaults = (refl, (refl, (refl, (refl, (refl, (refl, tt))))));
+  needs = λ rows. needs_two (is_given (codes "IMAGE") rows) (is_given (codes "MACHINE") rows);
+}
+
 count_rules : AreRulesOf count_form (rules_of count_form)
 count_rules = record {
   long = λ name. long_options name count_form.options count_form.flags [] refl;
@@ -274,6 +294,14 @@ sweep_reads : ReadsAs sweep_form
 unfolding clap_on_literals
 sweep_reads = reads-free sweep_form refl refl (λ words. refl) sweep_rules
 
+trace_reads : ReadsAs trace_form
+unfolding clap_on_literals
+trace_reads = reads-free trace_form refl refl (λ words. refl) trace_rules
+
+watch_reads : (word : Text) → ReadsAs (watch_form word)
+unfolding clap_on_literals
+watch_reads word = reads-free (watch_form word) refl refl (λ words. refl) (watch_rules word)
+
 count_reads : ReadsAs count_form
 unfolding clap_on_literals
 count_reads = reads-free count_form refl refl (λ words. refl) count_rules
@@ -290,5 +318,8 @@ command_reads names.Soak = soak_reads
 command_reads names.Back = back_reads
 command_reads names.Inorder = inorder_reads
 command_reads names.Sweep = sweep_reads
+command_reads names.Trace = trace_reads
+command_reads names.Stack = watch_reads (codes "stack")
+command_reads names.Profile = watch_reads (codes "profile")
 command_reads names.Count = count_reads
 command_reads names.Gdb = gdb_reads

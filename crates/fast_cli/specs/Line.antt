@@ -2,11 +2,11 @@
 use Rattle.std.specs.Prelude.{List, [], ◌∷◌, Option, Some, None, IsSome, codes, find}
 use Rattle.std.specs.Str.{bytes_eq}
 use Rattle.fast_cli.specs.Words.{◌>>=◌, Form, Text, Values, values_in}
-use Rattle.fast_cli.specs.Values.{given_number_at, name_at, name_if_given, names_at, number_at}
-use Rattle.fast_cli.specs.Values.{options_at, pipeline_at}
+use Rattle.fast_cli.specs.Values.{given_number_at, last_cycle_at, name_at, name_if_given, names_at}
+use Rattle.fast_cli.specs.Values.{number_at, options_at, pipeline_at}
 use Rattle.fast_cli.specs.declared.line.Line.{Line}
-use Rattle.fast_cli.specs.declared.line.Line.TheVariants.{Back, Count, Func, Gdb, Inorder, Run}
-use Rattle.fast_cli.specs.declared.line.Line.TheVariants.{Sched, Soak, Sweep}
+use Rattle.fast_cli.specs.declared.line.Line.TheVariants.{Back, Count, Func, Gdb, Inorder, Profile}
+use Rattle.fast_cli.specs.declared.line.Line.TheVariants.{Run, Sched, Soak, Stack, Sweep, Trace}
 
 -- a command: what its words are, and the line that they make
 pub record Command : Type 0 where
@@ -174,6 +174,71 @@ sweep_at values = do
 abbrev pub sweep_command : Command
 sweep_command = record { form = sweep_form; read = sweep_at }
 
+-- `trace IMAGE MACHINE`
+abbrev pub trace_form : Form
+trace_form = record {
+  word = codes "trace";
+  names = codes "IMAGE" ∷ codes "MACHINE" ∷ [];
+  optional = [];
+  rest = None;
+  options = codes "from" ∷ codes "to" ∷ codes "pipeline" ∷ limits;
+  flags = [];
+}
+
+unfoldable pub trace_at : Values → Option Line
+trace_at values = do
+  image ← name_at (codes "IMAGE") values
+  machine ← name_at (codes "MACHINE") values
+  from ← number_at (codes "from") 0 1099511627776 0 values
+  to ← last_cycle_at from values
+  pipeline ← pipeline_at values
+  options ← options_at values
+  Some (Trace image machine from to pipeline options)
+
+abbrev pub trace_command : Command
+trace_command = record { form = trace_form; read = trace_at }
+
+-- a command that watches a run on a machine
+abbrev pub watch_form : Text → Form
+watch_form word = record {
+  word = word;
+  names = codes "IMAGE" ∷ codes "MACHINE" ∷ [];
+  optional = [];
+  rest = None;
+  options = codes "pipeline" ∷ limits;
+  flags = [];
+}
+
+-- `stack IMAGE MACHINE`
+abbrev pub stack_form : Form
+stack_form = watch_form (codes "stack")
+
+unfoldable pub stack_at : Values → Option Line
+stack_at values = do
+  image ← name_at (codes "IMAGE") values
+  machine ← name_at (codes "MACHINE") values
+  pipeline ← pipeline_at values
+  options ← options_at values
+  Some (Stack image machine pipeline options)
+
+abbrev pub stack_command : Command
+stack_command = record { form = stack_form; read = stack_at }
+
+-- `profile IMAGE MACHINE`
+abbrev pub profile_form : Form
+profile_form = watch_form (codes "profile")
+
+unfoldable pub profile_at : Values → Option Line
+profile_at values = do
+  image ← name_at (codes "IMAGE") values
+  machine ← name_at (codes "MACHINE") values
+  pipeline ← pipeline_at values
+  options ← options_at values
+  Some (Profile image machine pipeline options)
+
+abbrev pub profile_command : Command
+profile_command = record { form = profile_form; read = profile_at }
+
 -- `count IMAGE`
 abbrev pub count_form : Form
 count_form = record {
@@ -220,7 +285,8 @@ gdb_command = record { form = gdb_form; read = gdb_at }
 abbrev pub commands : List Command
 commands =
     func_command ∷ run_command ∷ sched_command ∷ soak_command ∷ back_command ∷ inorder_command
-    ∷ sweep_command ∷ count_command ∷ gdb_command ∷ []
+    ∷ sweep_command ∷ trace_command ∷ stack_command ∷ profile_command ∷ count_command
+    ∷ gdb_command ∷ []
 
 -- the command that a word names
 abbrev pub named_command : Text → Option Command

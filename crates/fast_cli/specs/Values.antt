@@ -1,6 +1,6 @@
 -- What a line takes from the values that its words give: names, numbers in their ranges, and
 -- defaults.
-use Rattle.std.specs.Prelude.{ℕ, Bool, List, Option, Some, None, ◌&&◌, ◌==◌, codes, if◌then◌else◌}
+use Rattle.std.specs.Prelude.{ℕ, Bool, List, Option, Some, None, ◌+◌, ◌&&◌, ◌==◌, codes, if◌then◌else◌}
 use Rattle.std.specs.Prelude.{[], ◌∷◌, false, length, not, find, is_some, option_map, slice_get}
 use Rattle.std.specs.List.{list_all}
 use Rattle.std.specs.Str.{bytes_eq}
@@ -46,6 +46,14 @@ number_or least most default (Some text) = number_in least most text
 -- out
 unfoldable pub number_at : Text → ℕ → ℕ → ℕ → Values → Option ℕ
 number_at id least most default values = number_or least most default (first_at id values)
+
+-- the cycle that a trace goes up to: 10,000 after its first where the words leave it out
+abbrev pub last_cycle_or : ℕ → Option Text → Option ℕ
+last_cycle_or from None = Some (from + 10000)
+last_cycle_or from (Some text) = number_in 0 1099511627776 text
+
+unfoldable pub last_cycle_at : ℕ → Values → Option ℕ
+last_cycle_at from values = last_cycle_or from (first_at (codes "to") values)
 
 abbrev pub name_or_none : Option Text → Option (Option Text)
 name_or_none None = Some None

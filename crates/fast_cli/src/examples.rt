@@ -3,7 +3,8 @@
 ghost use Rattle.std.specs.Prelude.{◌≡◌, [], ◌∷◌, ◌++◌, Some, None, true, codes, replicate};
 ghost use Rattle.fast_cli.specs.Line.{line};
 ghost use Rattle.fast_cli.specs.declared.line.Line.TheVariants.{Back, Count, Func, Gdb, Inorder};
-ghost use Rattle.fast_cli.specs.declared.line.Line.TheVariants.{Run, Sched, Soak, Sweep};
+ghost use Rattle.fast_cli.specs.declared.line.Line.TheVariants.{Profile, Run, Sched, Soak, Stack};
+ghost use Rattle.fast_cli.specs.declared.line.Line.TheVariants.{Sweep, Trace};
 ghost use Rattle.fast_cli.specs.declared.line.Pipeline.TheVariants.{Window};
 ghost use Rattle.fast_cli.specs.declared.line.Pipeline.TheVariants as pipeline;
 ghost use Rattle.fast_cli.specs.Examples.{defaults, words_of};
@@ -31,6 +32,37 @@ pub fn commands_with_names_alone()
     ensures gdb { line (words_of (codes "gdb a"))
         ≡ Some (Gdb (codes "a") None 1048576 defaults) }
     ensures named_help { line (words_of (codes "func help")) ≡ Some (Func (codes "help") None defaults) }
+{}
+
+/// The commands that watch a run, with their names alone and with their options.
+#[tactic(auto, unfolding(crate::proofs::OnWords::line_on_words))]
+pub fn commands_that_watch()
+    ensures trace { line (words_of (codes "trace a m"))
+        ≡ Some (Trace (codes "a") (codes "m") 0 10000 Window defaults) }
+    ensures trace_from { line (words_of (codes "trace a m --from 5"))
+        ≡ Some (Trace (codes "a") (codes "m") 5 10005 Window defaults) }
+    ensures trace_from_last { line (words_of (codes "trace a m --from 1099511627776"))
+        ≡ Some (Trace (codes "a") (codes "m") 1099511627776 1099511637776 Window defaults) }
+    ensures trace_from_above { line (words_of (codes "trace a m --from 1099511627777")) ≡ None }
+    ensures trace_to { line (words_of (codes "trace a m --from 5 --to 1"))
+        ≡ Some (Trace (codes "a") (codes "m") 5 1 Window defaults) }
+    ensures trace_to_above { line (words_of (codes "trace a m --to 1099511627777")) ≡ None }
+    ensures trace_inorder { line (words_of (codes "trace a m --pipeline inorder --cycles 2"))
+        ≡ Some (Trace (codes "a") (codes "m") 0 10000 pipeline.Inorder
+        (record defaults { cycles = 2 })) }
+    ensures stack { line (words_of (codes "stack a m"))
+        ≡ Some (Stack (codes "a") (codes "m") Window defaults) }
+    ensures stack_window { line (words_of (codes "stack a m --pipeline=window --input i"))
+        ≡ Some (Stack (codes "a") (codes "m") Window (record defaults { input = Some (codes "i") })) }
+    ensures profile { line (words_of (codes "profile a m --pipeline inorder"))
+        ≡ Some (Profile (codes "a") (codes "m") pipeline.Inorder defaults) }
+    ensures no_such_pipeline { line (words_of (codes "stack a m --pipeline lane")) ≡ None }
+    ensures count_has_no_pipeline { line (words_of (codes "count a --pipeline window")) ≡ None }
+    ensures stack_has_no_from { line (words_of (codes "stack a m --from 1")) ≡ None }
+    ensures profile_has_no_to { line (words_of (codes "profile a m --to 1")) ≡ None }
+    ensures trace_has_no_ring { line (words_of (codes "trace a m --ring 1")) ≡ None }
+    ensures stack_has_no_threads { line (words_of (codes "stack a m --threads 1")) ≡ None }
+    ensures profile_has_no_exit_code { line (words_of (codes "profile a m --exit-code")) ≡ None }
 {}
 
 /// Each option, and which commands have it.

@@ -58,6 +58,30 @@ pub enum Line {
         pipeline: Pipeline,
         options: Options,
     },
+    /// Runs the image on the machine, and traces the cycles from `from` up to `to`, both at most
+    /// 1,099,511,627,776.
+    Trace {
+        image: Text,
+        machine: Text,
+        from: u64,
+        to: u64,
+        pipeline: Pipeline,
+        options: Options,
+    },
+    /// Runs the image on the machine, and tells on what its cycles were spent.
+    Stack {
+        image: Text,
+        machine: Text,
+        pipeline: Pipeline,
+        options: Options,
+    },
+    /// Runs the image on the machine, and tells of each address what it cost.
+    Profile {
+        image: Text,
+        machine: Text,
+        pipeline: Pipeline,
+        options: Options,
+    },
     /// Executes the image sequentially, and counts at each address how often. The machine file, if
     /// there is one, places RAM.
     Count {

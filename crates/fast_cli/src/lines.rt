@@ -1,8 +1,8 @@
 //! The line of each command, from the values that a parse found.
 ghost use Rattle.std.specs.Prelude.{◌≡◌, ◌≢◌, IfOk, Some, None, Err, IsSome};
 ghost use Rattle.fast_cli.specs.Command.{values_of};
-ghost use Rattle.fast_cli.specs.Line.{back_at, count_at, func_at, gdb_at, inorder_at, run_at};
-ghost use Rattle.fast_cli.specs.Line.{sched_at, soak_at, sweep_at};
+ghost use Rattle.fast_cli.specs.Line.{back_at, count_at, func_at, gdb_at, inorder_at, profile_at};
+ghost use Rattle.fast_cli.specs.Line.{run_at, sched_at, soak_at, stack_at, sweep_at, trace_at};
 ghost use Rattle.fast_cli.specs.Ranges.{IsInRange};
 ghost use Rattle.fast_cli.specs.Table.{command_in};
 
@@ -10,7 +10,8 @@ use crate::line::{Line, UsageFault};
 use crate::own::{own_name, own_name_if_given, own_names, own_options};
 use crate::table::CommandName;
 use crate::values::{
-    given_number_at, name_at, name_if_given, names_at, number_at, options_at, pipeline_at,
+    given_number_at, last_cycle_at, name_at, name_if_given, names_at, number_at, options_at,
+    pipeline_at,
 };
 use clap::ArgMatches;
 use std::alloc::Global;
@@ -36,6 +37,9 @@ pub(crate) fn line_at(
         CommandName::Back => back_at(alloc, matches),
         CommandName::Inorder => inorder_at(alloc, matches),
         CommandName::Sweep => sweep_at(alloc, matches),
+        CommandName::Trace => trace_at(alloc, matches),
+        CommandName::Stack => stack_at(alloc, matches),
+        CommandName::Profile => profile_at(alloc, matches),
         CommandName::Count => count_at(alloc, matches),
         CommandName::Gdb => gdb_at(alloc, matches),
     }
@@ -163,6 +167,67 @@ fn sweep_at(alloc: Global, matches: &ArgMatches<'_>) -> Result<Line, UsageFault>
     Ok(Line::Sweep {
         image: own_name(alloc, image)?,
         machines: own_names(alloc, machines)?,
+        pipeline,
+        options: own_options(alloc, &options)?,
+    })
+}
+
+#[tactic(auto, unfolding(crate::specs::Line::trace_at))]
+fn trace_at(alloc: Global, matches: &ArgMatches<'_>) -> Result<Line, UsageFault>
+    ensures ok { IfOk result (λ l. trace_at (values_of matches.now) ≡ Some l) }
+    ensures ranges { IfOk result IsInRange }
+    ensures words { result ≡ Err UsageFault.Words → trace_at (values_of matches.now) ≡ None }
+    ensures memory { result ≡ Err UsageFault.Memory → IsSome (trace_at (values_of matches.now)) }
+{
+    let image = name_at(matches, "IMAGE").ok_or(UsageFault::Words)?;
+    let machine = name_at(matches, "MACHINE").ok_or(UsageFault::Words)?;
+    let from = number_at(matches, "from", 0, 1_099_511_627_776, 0).ok_or(UsageFault::Words)?;
+    let to = last_cycle_at(matches, from).ok_or(UsageFault::Words)?;
+    let pipeline = pipeline_at(matches).ok_or(UsageFault::Words)?;
+    let options = options_at(matches).ok_or(UsageFault::Words)?;
+    Ok(Line::Trace {
+        image: own_name(alloc, image)?,
+        machine: own_name(alloc, machine)?,
+        from,
+        to,
+        pipeline,
+        options: own_options(alloc, &options)?,
+    })
+}
+
+#[tactic(auto, unfolding(crate::specs::Line::stack_at))]
+fn stack_at(alloc: Global, matches: &ArgMatches<'_>) -> Result<Line, UsageFault>
+    ensures ok { IfOk result (λ l. stack_at (values_of matches.now) ≡ Some l) }
+    ensures ranges { IfOk result IsInRange }
+    ensures words { result ≡ Err UsageFault.Words → stack_at (values_of matches.now) ≡ None }
+    ensures memory { result ≡ Err UsageFault.Memory → IsSome (stack_at (values_of matches.now)) }
+{
+    let image = name_at(matches, "IMAGE").ok_or(UsageFault::Words)?;
+    let machine = name_at(matches, "MACHINE").ok_or(UsageFault::Words)?;
+    let pipeline = pipeline_at(matches).ok_or(UsageFault::Words)?;
+    let options = options_at(matches).ok_or(UsageFault::Words)?;
+    Ok(Line::Stack {
+        image: own_name(alloc, image)?,
+        machine: own_name(alloc, machine)?,
+        pipeline,
+        options: own_options(alloc, &options)?,
+    })
+}
+
+#[tactic(auto, unfolding(crate::specs::Line::profile_at))]
+fn profile_at(alloc: Global, matches: &ArgMatches<'_>) -> Result<Line, UsageFault>
+    ensures ok { IfOk result (λ l. profile_at (values_of matches.now) ≡ Some l) }
+    ensures ranges { IfOk result IsInRange }
+    ensures words { result ≡ Err UsageFault.Words → profile_at (values_of matches.now) ≡ None }
+    ensures memory { result ≡ Err UsageFault.Memory → IsSome (profile_at (values_of matches.now)) }
+{
+    let image = name_at(matches, "IMAGE").ok_or(UsageFault::Words)?;
+    let machine = name_at(matches, "MACHINE").ok_or(UsageFault::Words)?;
+    let pipeline = pipeline_at(matches).ok_or(UsageFault::Words)?;
+    let options = options_at(matches).ok_or(UsageFault::Words)?;
+    Ok(Line::Profile {
+        image: own_name(alloc, image)?,
+        machine: own_name(alloc, machine)?,
         pipeline,
         options: own_options(alloc, &options)?,
     })

@@ -1,7 +1,7 @@
 //! The table of commands: their words, and what stands behind each.
 ghost use Rattle.std.specs.Prelude.{◌≡◌, [], None, map, option_map};
 ghost use Rattle.fast_cli.specs.Form.{form_of};
-ghost use Rattle.fast_cli.specs.Line.{named_command};
+ghost use Rattle.fast_cli.specs.Line.{named_command, watch_form};
 ghost use Rattle.fast_cli.specs.Table.{command_in};
 
 use crate::form::Form;
@@ -16,6 +16,9 @@ pub(crate) enum CommandName {
     Back,
     Inorder,
     Sweep,
+    Trace,
+    Stack,
+    Profile,
     Count,
     Gdb,
 }
@@ -32,6 +35,9 @@ pub(crate) fn command_named(word: &str) -> Option<CommandName>
         "back" => Some(CommandName::Back),
         "inorder" => Some(CommandName::Inorder),
         "sweep" => Some(CommandName::Sweep),
+        "trace" => Some(CommandName::Trace),
+        "stack" => Some(CommandName::Stack),
+        "profile" => Some(CommandName::Profile),
         "count" => Some(CommandName::Count),
         "gdb" => Some(CommandName::Gdb),
         _ => None,
@@ -87,6 +93,13 @@ pub(crate) fn form_for(name: CommandName) -> Form<'static>
                 &["pipeline", "ring", "cycles", "input", "output"],
             )
         },
+        CommandName::Trace => form(
+            "trace",
+            &["IMAGE", "MACHINE"],
+            &["from", "to", "pipeline", "cycles", "input", "output"],
+        ),
+        CommandName::Stack => watch_form("stack"),
+        CommandName::Profile => watch_form("profile"),
         CommandName::Count => form(
             "count",
             &["IMAGE"],
@@ -123,4 +136,15 @@ fn form(
         options,
         flags: &[],
     }
+}
+
+/// A command that watches a run on a machine.
+fn watch_form(word: &'static str) -> Form<'static>
+    ensures form { form_of result ≡ watch_form word.now }
+{
+    form(
+        word,
+        &["IMAGE", "MACHINE"],
+        &["pipeline", "cycles", "input", "output"],
+    )
 }

@@ -1,12 +1,12 @@
 //! The names, numbers and options that a parse found.
-ghost use Rattle.std.specs.Prelude.{◌≡◌, ◌≤◌, ◌&&◌, length, IfSome, map, option_map};
+ghost use Rattle.std.specs.Prelude.{◌≡◌, ◌≤◌, ◌+◌, ◌&&◌, length, IfSome, map, option_map};
 ghost use Rattle.std.specs.List.{list_all};
 ghost use Rattle.fast_cli.specs.Command.{values_of};
 ghost use Rattle.fast_cli.specs.Given.{options_in};
 ghost use Rattle.fast_cli.specs.Number.{is_between};
 ghost use Rattle.fast_cli.specs.Ranges.{HasRanges, IsFrom};
 ghost use Rattle.fast_cli.specs.Values.{default_options, first_at, flag_at, given_number_at};
-ghost use Rattle.fast_cli.specs.Values.{is_name};
+ghost use Rattle.fast_cli.specs.Values.{is_name, last_cycle_at};
 ghost use Rattle.fast_cli.specs.Values.{name_at, name_if_given, name_in, names_at, number_at};
 ghost use Rattle.fast_cli.specs.Values.{options_at, pipeline_at, pipeline_in};
 
@@ -115,6 +115,19 @@ pub(crate) fn name_if_given<'a>(matches: &ArgMatches<'a>, id: &str) -> Option<Op
     match value_at(matches, id) {
         Some(text) => Some(Some(name_in(text)?)),
         None => Some(None),
+    }
+}
+
+/// The cycle that a trace goes up to: 10,000 after its first where the words leave it out.
+#[tactic(auto, unfolding(crate::specs::Values::last_cycle_at))]
+pub(crate) fn last_cycle_at(matches: &ArgMatches<'_>, from: u64) -> Option<u64>
+    requires from { from ≤ 1099511627776 }
+    ensures value { result ≡ last_cycle_at from (values_of matches.now) }
+    ensures most { IfSome result (λ n. n ≤ 1099511637776) }
+{
+    match value_at(matches, "to") {
+        Some(text) => number_in(text, 0, 1_099_511_627_776),
+        None => Some(from + 10_000),
     }
 }
 

@@ -20,7 +20,7 @@ use Rattle.fast_jobs.specs.declared.job.SingleJob.{SingleJob}
 use Rattle.fast_jobs.specs.declared.job.SingleJob.TheVariants.{Run}
 use Rattle.fast_jobs.specs.declared.sweep_files.SweepFiles.{SweepFiles}
 use Rattle.fast_jobs.specs.SweepFiles.{swept}
-use Rattle.fast_jobs.specs.Job.{back_job, behind_machine, bytes_at, count_job, func_job, gdb_job, inorder_job, inorder_run_job, is_still, is_talk, job_of, pipeline_job, placed_setup, sched_job, single_job, soak_setup}
+use Rattle.fast_jobs.specs.Job.{back_job, behind_machine, bytes_at, count_job, func_job, gdb_job, inorder_job, inorder_run_job, is_still, is_talk, job_of, pipeline_job, placed_setup, profile_job, sched_job, single_job, soak_setup, stack_job, trace_job}
 use Rattle.fast_jobs.specs.Reading.{AreWithin}
 
 -- what the console reads, behind the other files, is within its limit
@@ -96,6 +96,9 @@ still-single (line.Back image script machine history options) sets contents file
 still-single (line.Inorder image machine (Some plan) options) sets contents files still same = never-sweep (inorder_job options contents) files same
 still-single (line.Inorder image machine None options) sets contents files still same = never-sweep (inorder_run_job options contents) files same
 still-single (line.Sweep image machines pipeline options) sets contents files still same = cc
+still-single (line.Trace image machine from to pipeline options) sets contents files still same = never-sweep (trace_job pipeline from to options contents) files same
+still-single (line.Stack image machine pipeline options) sets contents files still same = never-sweep (stack_job pipeline options contents) files same
+still-single (line.Profile image machine pipeline options) sets contents files still same = never-sweep (profile_job pipeline options contents) files same
 still-single (line.Count image machine options) sets contents files still same = never-sweep (count_job machine options contents) files same
 still-single (line.Gdb image machine history options) sets contents files still same = never-swept (placed_setup machine options contents) history files same
 
@@ -125,5 +128,8 @@ moving-silent (line.Soak seed) sets contents job moves same = single-silent (Ok 
 moving-silent (line.Back image script machine history options) sets contents job moves same = never-moves moves
 moving-silent (line.Inorder image machine plan options) sets contents job moves same = never-moves moves
 moving-silent (line.Sweep image machines pipeline options) sets contents job moves same = sweep-silent (swept machines pipeline options sets contents) job same
+moving-silent (line.Trace image machine from to pipeline options) sets contents job moves same = never-moves moves
+moving-silent (line.Stack image machine pipeline options) sets contents job moves same = never-moves moves
+moving-silent (line.Profile image machine pipeline options) sets contents job moves same = never-moves moves
 moving-silent (line.Count image machine options) sets contents job moves same = never-moves moves
 moving-silent (line.Gdb image machine history options) sets contents job moves same = never-moves moves

@@ -1,3 +1,4 @@
+pub mod Putting
 pub mod Setups
 pub mod Ends
 pub mod Counts
@@ -5,6 +6,11 @@ pub mod Ending
 pub mod InorderEnding
 pub mod Plans
 pub mod Jobs
+pub mod PlayedWindow
+pub mod PlayedInorder
+pub mod Watching
+pub mod Stacks
+pub mod Traces
 pub mod Readings
 pub mod Outcomes
 pub mod Refusals

@@ -8,11 +8,11 @@ use Rattle.report_text.specs.declared.status.Status.{Status}
 use Rattle.report_text.specs.declared.status.Status.TheVariants.{Pass, Fail, Limit, OutputFull, Running, Shown, Usage, Image, Machine, Missing, ReadFault, WriteFault, Memory, TooLong, BadPlan, BadScript, Sets, TooMuchText}
 use Rattle.fast_cli.specs.declared.line.Line.{Line}
 use Rattle.fast_jobs.specs.declared.job.Job.{Job}
-use Rattle.fast_jobs.specs.Call.{Hearing, Reading, Writing}
+use Rattle.fast_jobs.specs.Call.{Hearing, IsUnheard, Reading, Writing}
 use Rattle.report_text.specs.declared.status.Role.{Role}
 use Rattle.report_text.specs.declared.status.Role.TheVariants.{Packets}
 use Rattle.fast_jobs.specs.declared.job.Job.TheVariants.{Gdb, Single, Sweep}
-use Rattle.fast_jobs.specs.declared.job.SingleJob.TheVariants.{Back, Count, Func, Inorder, Run, Sched}
+use Rattle.fast_jobs.specs.declared.job.SingleJob.TheVariants.{Back, Count, Func, Inorder, Profile, Run, Sched, Stack, Trace}
 use Rattle.fast_jobs.specs.Ending.{Broken, CutOff, Ends, HasTalked, Reported, Unopened}
 use Rattle.fast_jobs.specs.Files.{files_of}
 use Rattle.fast_jobs.specs.Gives.{Gives}
@@ -111,6 +111,9 @@ no_job-fault (Single (Run s)) role is = no_end-fault _ role is
 no_job-fault (Single (Sched s plan)) role is = no_end-fault _ role is
 no_job-fault (Single (Inorder s plan)) role is = no_end-fault _ role is
 no_job-fault (Single (Back s history script)) role is = cc
+no_job-fault (Single (Trace s machine from to)) role is = cc
+no_job-fault (Single (Stack s machine)) role is = no_end-fault _ role is
+no_job-fault (Single (Profile s machine)) role is = cc
 no_job-fault (Single (Count s)) role is = cc
 no_job-fault (Sweep files) role is = cc
 no_job-fault (Gdb s history) role is = cc
@@ -130,10 +133,11 @@ not_cut job sink status silent (Broken broken) is = no_write-fault Packets (sym 
 not_cut job sink status silent (Unopened starved) is = no_memory-fault Packets (sym starved.answer ∙ is)
 not_cut job sink status silent (CutOff cut) is = never-talk (sym cut.talk ∙ silent)
 
-pub silent-talked : (job : Job) (hearing : Hearing) (sink : Writing) (status : Status) → is_talk job ≡ false → hearing.after ≡ hearing.before → Ends job [] sink status → HasTalked job hearing sink status
-silent-talked job hearing sink status silent same ends = record {
+pub silent-talked : (job : Job) (hearing : Hearing) (sink : Writing) (status : Status) → is_talk job ≡ false → IsUnheard hearing → Ends job [] sink status → HasTalked job hearing sink status
+silent-talked job hearing sink status silent unheard ends = record {
   heard = [];
-  hears = same ∙ grown-nothing hearing.before;
+  hears = unheard.same ∙ grown-nothing hearing.before;
   ends = ends;
   rose = λ is. absurd (not_cut job sink status silent ends is);
+  unheard = λ is. unheard;
 }

@@ -47,6 +47,7 @@ talk-shown history s hearing sink served = record {
   hears = served.1.heard;
   ends = Reported (record { answer = refl; going = λ is. cc; written = served.1.written });
   rose = λ is. cc;
+  unheard = λ is. cc;
 }
 
 -- one whose text broke off
@@ -56,6 +57,7 @@ talk-broken history s hearing sink served = record {
   hears = served.1.heard;
   ends = Broken (record { answer = refl; written = served.1.breaks });
   rose = λ is. cc;
+  unheard = λ is. cc;
 }
 
 -- one that standard input cut off: the line that says so comes after its text
@@ -75,6 +77,7 @@ talk-cut_off history s hearing before middle after first second third later serv
       hears = served.1.answered.heard;
       ends = CutOff (record { answer = refl; talk = refl; written = written });
       rose = λ is. served.1.rose;
+      unheard = λ is. cc;
     }
 
 -- one that found no memory
@@ -85,6 +88,7 @@ talk-unopened history s hearing sink status memory same written = record {
   hears = same ∙ grown-nothing hearing.before;
   ends = Unopened (record { answer = memory; written = written });
   rose = λ is. cc;
+  unheard = λ is. cc;
 }
 
 -- for the answers to a talk

@@ -32,6 +32,11 @@ pub record Hearing : Type 0 where
   pub after : Option (List ℕ)
   pub faults : Faults
 
+-- nothing was read of standard input
+pub record IsUnheard (hearing : Hearing) : Type 0 where
+  pub same : hearing.after ≡ hearing.before
+  pub quiet : hearing.faults.after ≡ hearing.faults.before
+
 -- a call that was handed the files as they were before, and left them as they were after
 abbrev pub reading_of : {F : Type 0} → (F → Option Names) → (F → ℕ) → F → F → Reading
 reading_of told faults before after = record {

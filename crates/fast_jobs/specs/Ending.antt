@@ -1,5 +1,5 @@
 -- The answer to a job, and what is written then.
-use Rattle.std.specs.Prelude.{◌≡◌, true, List, ℕ, ◌++◌}
+use Rattle.std.specs.Prelude.{◌≡◌, true, false, List, ℕ, ◌++◌}
 use Rattle.fsim_ports.specs.Count.{HasRisen}
 use Rattle.fsim_ports.specs.Sink.{grown, Breaks}
 use Rattle.report_text.specs.declared.status.Role.TheVariants.{Packets}
@@ -10,7 +10,7 @@ use Rattle.report_text.specs.FaultText.{fault_text}
 use Rattle.fast_jobs.specs.declared.job.Job.{Job}
 use Rattle.fast_jobs.specs.Job.{is_talk}
 use Rattle.fast_jobs.specs.Outcome.{outcome, may_go_on}
-use Rattle.fast_jobs.specs.Call.{Hearing, Writing, WroteTo}
+use Rattle.fast_jobs.specs.Call.{Hearing, IsUnheard, Writing, WroteTo}
 
 -- a job came to its outcome, and its text was written whole
 pub record IsReported (job : Job) (heard : List ℕ) (sink : Writing)
@@ -45,9 +45,10 @@ pub data Ends (job : Job) (heard : List ℕ) (sink : Writing) (status : Status) 
   Unopened : IsStarved sink status → Ends job heard sink status
   CutOff : IsCutOff job heard sink status → Ends job heard sink status
 
--- the answer to a job, with what was read of standard input meanwhile
+-- the answer to a job, with what was read of standard input meanwhile: nothing, unless it is a talk
 pub record HasTalked (job : Job) (hearing : Hearing) (sink : Writing) (status : Status) : Type 0 where
   pub heard : List ℕ
   pub hears : hearing.after ≡ grown hearing.before heard
   pub ends : Ends job heard sink status
   pub rose : status ≡ ReadFault Packets → HasRisen hearing.faults.before hearing.faults.after
+  pub unheard : is_talk job ≡ false → IsUnheard hearing

@@ -4,8 +4,8 @@ use Rattle.mono_model.specs.Setup.{input_limit}
 use Rattle.report_text.specs.declared.status.Role.{Role}
 use Rattle.report_text.specs.declared.status.Role.TheVariants as role
 use Rattle.fast_cli.specs.declared.line.Line.{Line}
-use Rattle.fast_cli.specs.declared.line.Line.TheVariants.{Back, Count, Func, Gdb, Inorder, Run}
-use Rattle.fast_cli.specs.declared.line.Line.TheVariants.{Sched, Soak, Sweep}
+use Rattle.fast_cli.specs.declared.line.Line.TheVariants.{Back, Count, Func, Gdb, Inorder, Profile}
+use Rattle.fast_cli.specs.declared.line.Line.TheVariants.{Run, Sched, Soak, Stack, Sweep, Trace}
 use Rattle.fast_cli.specs.declared.line.Options.{Options}
 use Rattle.fast_jobs.specs.declared.files.NamedFile.{NamedFile}
 
@@ -36,6 +36,12 @@ files_of (Inorder image machine plan options) = file role.Image image ∷ file r
     ∷ file_if_named role.Plan plan ++ input_of options
 files_of (Sweep image machines pipeline options) =
     file role.Image image ∷ map (file role.Machine) machines ++ input_of options
+files_of (Trace image machine from to pipeline options) =
+    file role.Image image ∷ file role.Machine machine ∷ input_of options
+files_of (Stack image machine pipeline options) =
+    file role.Image image ∷ file role.Machine machine ∷ input_of options
+files_of (Profile image machine pipeline options) =
+    file role.Image image ∷ file role.Machine machine ∷ input_of options
 files_of (Count image machine options) =
     file role.Image image ∷ file_if_named role.Machine machine ++ input_of options
 files_of (Gdb image machine history options) =

@@ -17,11 +17,13 @@ use Rattle.fast_cli.specs.Values.{default_options}
 use Rattle.gen_image.specs.Soak.{soak_image}
 use Rattle.gen_image.specs.Machine.{soak_machine}
 use Rattle.inorder_machine.specs.Setup.{IsInorder}
+use Rattle.insight_model.specs.declared.pipeline.Pipeline.{Pipeline as WatchedMachine}
+use Rattle.insight_model.specs.declared.pipeline.Pipeline.TheVariants as watched
 use Rattle.text_rows.specs.Pages.{text_pages}
 use Rattle.fast_jobs.specs.declared.job.Job.{Job}
 use Rattle.fast_jobs.specs.declared.job.Job.TheVariants.{Gdb, Single, Sweep}
 use Rattle.fast_jobs.specs.declared.job.SingleJob.{SingleJob}
-use Rattle.fast_jobs.specs.declared.job.SingleJob.TheVariants.{Back, Count, Func, Inorder, Run, Sched}
+use Rattle.fast_jobs.specs.declared.job.SingleJob.TheVariants.{Back, Count, Func, Inorder, Profile, Run, Sched, Stack, Trace}
 use Rattle.fast_jobs.specs.declared.job.PlannedRun.{PlannedRun}
 use Rattle.fast_jobs.specs.declared.sweep_files.SweepFiles.{SweepFiles}
 use Rattle.fast_jobs.specs.Gives.{◌>>=◌, unless}
@@ -91,6 +93,37 @@ abbrev pub pipeline_job : Pipeline → Options → List (List ℕ) → Result Si
 pipeline_job pipeline.Window options contents = run_job options contents
 pipeline_job pipeline.Inorder options contents = inorder_run_job options contents
 
+-- the machine that the words name, and a setup for it
+abbrev pub machine_of : Pipeline → WatchedMachine
+machine_of pipeline.Window = watched.Window
+machine_of pipeline.Inorder = watched.Inorder
+
+abbrev pub setup_on : Pipeline → Setup → Setup
+setup_on pipeline.Window s = s
+setup_on pipeline.Inorder s = inorder_setup s
+
+-- the run on a machine that is watched
+unfoldable pub watched_setup : Pipeline → Options → List (List ℕ) → Result Setup Status
+watched_setup machine options contents = do
+  loaded ← timed_image (bytes_at contents 1) (bytes_at contents 0)
+  Ok (setup_on machine (setup_for loaded.params options loaded.image (bytes_at contents 2)))
+
+unfoldable pub trace_job : Pipeline → ℕ → ℕ → Options → List (List ℕ) → Result SingleJob Status
+trace_job machine from to options contents = do
+  s ← watched_setup machine options contents
+  Ok (Trace s (machine_of machine) from to)
+
+unfoldable pub stack_job : Pipeline → Options → List (List ℕ) → Result SingleJob Status
+stack_job machine options contents = do
+  s ← watched_setup machine options contents
+  Ok (Stack s (machine_of machine))
+
+unfoldable pub profile_job : Pipeline → Options → List (List ℕ) → Result SingleJob Status
+profile_job machine options contents = do
+  s ← watched_setup machine options contents
+  profiled ← with_rows s
+  Ok (Profile profiled (machine_of machine))
+
 -- the run on a machine that a plan is for: the plan is tested behind the image
 unfoldable pub planned_run : Options → List (List ℕ) → Result PlannedRun Status
 planned_run options contents = do
@@ -148,6 +181,12 @@ job_of (line.Inorder image machine None options) sets contents =
 job_of (line.Sweep image machines pipeline options) sets contents = do
   files ← swept machines pipeline options sets contents
   Ok (Sweep files)
+job_of (line.Trace image machine from to pipeline options) sets contents =
+    single_job (trace_job pipeline from to options contents)
+job_of (line.Stack image machine pipeline options) sets contents =
+    single_job (stack_job pipeline options contents)
+job_of (line.Profile image machine pipeline options) sets contents =
+    single_job (profile_job pipeline options contents)
 job_of (line.Count image machine options) sets contents =
     single_job (count_job machine options contents)
 job_of (line.Gdb image machine history options) sets contents =
@@ -163,6 +202,9 @@ is_still (line.Soak seed) = false
 is_still (line.Back image script machine history options) = true
 is_still (line.Inorder image machine plan options) = true
 is_still (line.Sweep image machines pipeline options) = false
+is_still (line.Trace image machine from to pipeline options) = true
+is_still (line.Stack image machine pipeline options) = true
+is_still (line.Profile image machine pipeline options) = true
 is_still (line.Count image machine options) = true
 is_still (line.Gdb image machine history options) = true
 
@@ -172,6 +214,11 @@ pub record CanSweep (files : SweepFiles) : Type 0 where
   pub limits : HasRanges files.limits
   pub input : length files.input ≤ input_limit
 
+-- the machine can run the setup
+abbrev pub CanWatch : WatchedMachine → Setup → Type 0
+CanWatch watched.Window s = is_setup s ≡ true
+CanWatch watched.Inorder s = IsInorder s
+
 -- the run can be begun: its setup is sound
 abbrev pub CanStart : SingleJob → Type 0
 CanStart (Func s) = is_setup s ≡ true
@@ -179,6 +226,9 @@ CanStart (Run s) = is_setup s ≡ true
 CanStart (Sched s plan) = is_setup s ≡ true
 CanStart (Inorder s plan) = IsInorder s
 CanStart (Back s history script) = is_setup s ≡ true
+CanStart (Trace s machine from to) = CanWatch machine s
+CanStart (Stack s machine) = CanWatch machine s
+CanStart (Profile s machine) = CanWatch machine s
 CanStart (Count s) = is_setup s ≡ true
 
 -- the job can be begun

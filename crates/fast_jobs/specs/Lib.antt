@@ -11,3 +11,5 @@ pub mod Reading
 pub mod Opening
 pub mod Ending
 pub mod Talking
+pub mod Early
+pub mod Played

@@ -41,6 +41,24 @@ pub fn files_of(alloc: Global, line: &Line) -> Result<Vec<NamedFile>, NoMemory>
             machine,
             options,
             ..
+        }
+        | Line::Trace {
+            image,
+            machine,
+            options,
+            ..
+        }
+        | Line::Stack {
+            image,
+            machine,
+            options,
+            ..
+        }
+        | Line::Profile {
+            image,
+            machine,
+            options,
+            ..
         } => files_of_run(alloc, image, &[(Role::Machine, Some(machine))], options),
         Line::Sched {
             image,

@@ -7,12 +7,13 @@ ghost use Rattle.fast_jobs.specs.declared.job.SingleJob.{SingleJob as AnyRun};
 ghost use Rattle.fast_jobs.specs.Ending.{Ends};
 ghost use Rattle.fast_jobs.specs.Call.{writing_of};
 
+use crate::early::play_inorder;
 use crate::finish::finish_timed;
 use crate::plan::Plan;
 use crate::refusal::tell_want_of_memory;
 use device_bus::Device;
 use fsim_base::NoMemory;
-use fsim_ports::Sink;
+use fsim_ports::{Failed, Sink};
 use inorder_model::InorderCore;
 use mono_model::Setup;
 use report_text::Status;
@@ -37,7 +38,11 @@ pub fn run_inorder<K: Sink, D: Device>(
         Err(NoMemory) => return tell_want_of_memory(sink),
     };
     core.play(plan.events());
-    core.to_end();
-    let last = core.committed();
-    finish_timed(&last, core.output(), sink)
+    match play_inorder(&mut core, setup.cycles, sink) {
+        Ok(put) => {
+            let last = core.committed();
+            finish_timed(&last, core.output(), put, sink)
+        }
+        Err(Failed) => Status::WriteFault,
+    }
 }

@@ -7,7 +7,8 @@ ghost use Rattle.fast_jobs.specs.declared.job.SingleJob.{SingleJob as AnyRun};
 ghost use Rattle.fast_jobs.specs.Job.{back_job, behind_machine, bytes_at, func_job, inorder_job};
 ghost use Rattle.fast_jobs.specs.Job.{count_job, gdb_job, inorder_run_job, job_of, machine_at};
 ghost use Rattle.fast_jobs.specs.Job.{pipeline_job, placed_setup, planned_run, run_job, sched_job};
-ghost use Rattle.fast_jobs.specs.Job.{with_rows};
+ghost use Rattle.fast_jobs.specs.Job.{machine_of, profile_job, setup_on, stack_job, trace_job};
+ghost use Rattle.fast_jobs.specs.Job.{watched_setup, with_rows, CanWatch};
 ghost use Rattle.fast_jobs.specs.Job.{CanBegin, CanStart, sets_for, soak_setup};
 ghost use Rattle.fast_jobs.specs.Reading.{AreWithin};
 
@@ -21,6 +22,7 @@ use back_debug::Script;
 use fast_cli::{Line, Options, Pipeline, default_options};
 use fsim_base::{Bytes, Text};
 use gen_image::{soak_image, soak_params};
+use insight_model::Pipeline as WatchedMachine;
 use mono_model::Setup;
 use report_text::Status;
 use std::alloc::Global;
@@ -50,6 +52,12 @@ pub enum SingleJob {
     Inorder(Setup, Plan),
     /// The commands of a debugger's script, over a run that remembers so many steps.
     Back(Setup, u32, Script),
+    /// The trace of a run on a machine, from one cycle up to another.
+    Trace(Setup, WatchedMachine, u64, u64),
+    /// The run on a machine to its end, and on what its cycles were spent.
+    Stack(Setup, WatchedMachine),
+    /// What each address cost in the run on a machine.
+    Profile(Setup, WatchedMachine),
     /// How often the sequential run executes the instruction at each address.
     Count(Setup),
 }
@@ -102,6 +110,23 @@ pub fn job_of(alloc: Global, line: &Line, sets: usize, contents: Vec<Bytes>) -> 
             let files = sweep_files(alloc, machines, *pipeline, options, sets, contents)?;
             return Ok(Job::Sweep(files));
         }
+        Line::Trace {
+            from,
+            to,
+            pipeline,
+            options,
+            ..
+        } => trace_job(alloc, *pipeline, *from, *to, options, contents)?,
+        Line::Stack {
+            pipeline,
+            options,
+            ..
+        } => stack_job(alloc, *pipeline, options, contents)?,
+        Line::Profile {
+            pipeline,
+            options,
+            ..
+        } => profile_job(alloc, *pipeline, options, contents)?,
         Line::Count {
             machine,
             options,
@@ -253,6 +278,104 @@ fn run_job(alloc: Global, options: &Options, contents: Vec<Bytes>) -> Result<Sin
     let loaded = timed_image(alloc, bytes_at(files, 1), bytes_at(files, 0))?;
     let input = take_at(alloc, contents, 2);
     Ok(SingleJob::Run(setup_for(loaded.params, options, loaded.image, input)))
+}
+
+/// The machine that the words name.
+fn machine_of(pipeline: Pipeline) -> WatchedMachine
+    ensures machine { result ≡ machine_of pipeline }
+{
+    match pipeline {
+        Pipeline::Window => WatchedMachine::Window,
+        Pipeline::Inorder => WatchedMachine::Inorder,
+    }
+}
+
+/// A setup for it.
+fn setup_on(pipeline: Pipeline, setup: Setup) -> Setup
+    requires sound { is_setup setup ≡ true }
+    ensures setup { result ≡ setup_on pipeline setup }
+    ensures can { CanWatch (machine_of pipeline) result }
+    ensures sound { is_setup result ≡ true }
+{
+    match pipeline {
+        Pipeline::Window => setup,
+        Pipeline::Inorder => inorder_setup(setup),
+    }
+}
+
+/// The setup of an image's run on a machine that is watched; the files are image, machine file and
+/// input.
+#[tactic(auto, unfolding(crate::specs::Job::watched_setup))]
+fn watched_setup(
+    alloc: Global,
+    pipeline: Pipeline,
+    options: &Options,
+    contents: Vec<Bytes>,
+) -> Result<Setup, Refusal>
+    requires ranges { HasRanges options.now }
+    requires input { length (bytes_at contents.items 2) ≤ input_limit }
+    ensures setup { Gives (watched_setup pipeline options.now contents.items) result }
+    ensures can { IfOk result (CanWatch (machine_of pipeline)) }
+    ensures sound { IfOk result (λ setup. is_setup setup ≡ true) }
+{
+    let files = contents.as_slice();
+    let loaded = timed_image(alloc, bytes_at(files, 1), bytes_at(files, 0))?;
+    let input = take_at(alloc, contents, 2);
+    let setup = setup_for(loaded.params, options, loaded.image, input);
+    Ok(setup_on(pipeline, setup))
+}
+
+/// The trace of a run.
+#[tactic(auto, unfolding(crate::specs::Job::trace_job))]
+fn trace_job(
+    alloc: Global,
+    pipeline: Pipeline,
+    from: u64,
+    to: u64,
+    options: &Options,
+    contents: Vec<Bytes>,
+) -> Result<SingleJob, Refusal>
+    requires ranges { HasRanges options.now }
+    requires input { length (bytes_at contents.items 2) ≤ input_limit }
+    ensures job { Gives (trace_job pipeline from to options.now contents.items) result }
+    ensures can { IfOk result (λ job. CanStart job) }
+{
+    let setup = watched_setup(alloc, pipeline, options, contents)?;
+    Ok(SingleJob::Trace(setup, machine_of(pipeline), from, to))
+}
+
+/// The stack of a run.
+#[tactic(auto, unfolding(crate::specs::Job::stack_job))]
+fn stack_job(
+    alloc: Global,
+    pipeline: Pipeline,
+    options: &Options,
+    contents: Vec<Bytes>,
+) -> Result<SingleJob, Refusal>
+    requires ranges { HasRanges options.now }
+    requires input { length (bytes_at contents.items 2) ≤ input_limit }
+    ensures job { Gives (stack_job pipeline options.now contents.items) result }
+    ensures can { IfOk result (λ job. CanStart job) }
+{
+    let setup = watched_setup(alloc, pipeline, options, contents)?;
+    Ok(SingleJob::Stack(setup, machine_of(pipeline)))
+}
+
+/// The profile of a run.
+#[tactic(auto, unfolding(crate::specs::Job::profile_job))]
+fn profile_job(
+    alloc: Global,
+    pipeline: Pipeline,
+    options: &Options,
+    contents: Vec<Bytes>,
+) -> Result<SingleJob, Refusal>
+    requires ranges { HasRanges options.now }
+    requires input { length (bytes_at contents.items 2) ≤ input_limit }
+    ensures job { Gives (profile_job pipeline options.now contents.items) result }
+    ensures can { IfOk result (λ job. CanStart job) }
+{
+    let setup = with_rows(watched_setup(alloc, pipeline, options, contents)?)?;
+    Ok(SingleJob::Profile(setup, machine_of(pipeline)))
 }
 
 /// A run on a machine, and the plan for it.

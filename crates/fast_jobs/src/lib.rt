@@ -4,6 +4,7 @@
 
 mod counting;
 mod debugging;
+mod early;
 mod files;
 mod finish;
 mod grow;
@@ -14,15 +15,19 @@ mod load;
 mod machine;
 mod opening;
 mod plan;
+mod played;
+mod profiling;
 mod read;
 mod refusal;
 mod running;
 mod script;
 mod setup;
+mod stacking;
 mod sweep;
 mod sweep_files;
 mod sweep_setup;
 mod timed_image;
+mod tracing;
 
 pub use debugging::run_gdb;
 pub use job::{Job, SingleJob};

@@ -6,18 +6,22 @@ ghost use Rattle.fast_jobs.specs.Call.{writing_of};
 ghost use Rattle.fast_jobs.specs.Job.{CanBegin, CanStart, is_talk, sets_for};
 
 use crate::counting::run_count;
+use crate::early::{play_alone, play_core};
 use crate::finish::{finish_alone, finish_timed};
 use crate::inorder::run_inorder;
 use crate::job::{Job, SingleJob};
 use crate::plan::Plan;
+use crate::profiling::run_profile;
 use crate::refusal::tell_want_of_memory;
 use crate::script::run_script;
+use crate::stacking::run_stack;
 use crate::sweep::run_sweep;
+use crate::tracing::run_trace;
 use device_bus::{Device, SET_SIZE};
 use fast_threads::Session;
 use fsim_base::NoMemory;
-use fsim_ports::{Gate, Sink};
-use func_model::FuncSide;
+use fsim_ports::{Failed, Gate, Sink};
+use func_model::AloneRun;
 use machine_laws::run_ends_once;
 use mono_model::Setup;
 use report_text::Status;
@@ -47,6 +51,11 @@ pub fn run<K: Sink, D: Device>(
         SingleJob::Back(setup, history, script) => {
             run_script(alloc, setup, *history, script, devices, sink)
         }
+        SingleJob::Trace(setup, pipeline, from, to) => {
+            run_trace(alloc, setup, *pipeline, *from, *to, devices, sink)
+        }
+        SingleJob::Stack(setup, pipeline) => run_stack(alloc, setup, *pipeline, devices, sink),
+        SingleJob::Profile(setup, pipeline) => run_profile(alloc, setup, *pipeline, devices, sink),
         SingleJob::Count(setup) => run_count(alloc, setup, devices, sink),
     }
 }
@@ -113,7 +122,7 @@ fn run_session<R: Threads + Wait + Sync, S: Sink, G: Gate + Sync, D: Device + Se
     // The law that the machine has ended then.
     run_ends_once();
     let last = session.result();
-    finish_timed(&last, session.output(), sink)
+    finish_timed(&last, session.output(), 0, sink)
 }
 
 /// The sequential run.
@@ -129,12 +138,14 @@ fn run_alone<K: Sink, D: Device>(
     ensures ends { Ends (Job.Single (SingleJob.Func setup.now)) []
         (writing_of K.written K.faults sink.old sink.new) result }
 {
-    let mut side = match FuncSide::new(alloc, setup, devices) {
-        Ok(side) => side,
+    let mut run = match AloneRun::new(alloc, setup, devices) {
+        Ok(run) => run,
         Err(NoMemory) => return tell_want_of_memory(sink),
     };
-    let last = side.alone(setup.cycles);
-    finish_alone(&last, side.output(), sink)
+    match play_alone(&mut run, setup.cycles, sink) {
+        Ok(put) => finish_alone(&run.report(), run.output(), put, sink),
+        Err(Failed) => Status::WriteFault,
+    }
 }
 
 /// The run on the machine, on one thread.
@@ -154,9 +165,13 @@ fn run_to_end<K: Sink, D: Device>(
         Ok(core) => core,
         Err(NoMemory) => return tell_want_of_memory(sink),
     };
-    core.to_end();
-    let last = core.committed();
-    finish_timed(&last, core.output(), sink)
+    match play_core(&mut core, setup.cycles, sink) {
+        Ok(put) => {
+            let last = core.committed();
+            finish_timed(&last, core.output(), put, sink)
+        }
+        Err(Failed) => Status::WriteFault,
+    }
 }
 
 /// The events of a plan, and the way to the next cycle boundary.
@@ -180,5 +195,5 @@ fn run_plan<K: Sink, D: Device>(
     core.play(plan.events());
     core.to_boundary();
     let last = core.committed();
-    finish_timed(&last, core.output(), sink)
+    finish_timed(&last, core.output(), 0, sink)
 }

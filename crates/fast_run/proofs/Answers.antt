@@ -5,10 +5,10 @@ use Rattle.report_text.specs.declared.status.Status.{Status}
 use Rattle.report_text.specs.declared.status.Status.TheVariants.{Memory, Usage}
 use Rattle.fast_cli.specs.declared.line.Line.{Line}
 use Rattle.fast_jobs.specs.declared.job.Job.{Job}
-use Rattle.fast_jobs.specs.Call.{Hearing, Reading, Writing, WroteTo}
+use Rattle.fast_jobs.specs.Call.{Hearing, IsUnheard, Reading, Writing, WroteTo}
 use Rattle.fast_jobs.specs.Ending.{HasTalked}
 use Rattle.fast_jobs.specs.Opening.{Asks, Closes, Starved}
-use Rattle.fast_run.specs.Answer.{IsAnswer, IsUnheard}
+use Rattle.fast_run.specs.Answer.{IsAnswer}
 use Rattle.fast_run.specs.Program.{asks_code, code_number, exit_number}
 
 -- there is no job, and the line of the answer was written
@@ -31,10 +31,10 @@ unfolding IsAnswer
 answer-ran line sets files hearing sink job status asks talked = inr (record { job = job; asks = asks; talked = talked })
 
 -- memory was wanted, whatever the words are
-pub answer-starved : (asked : Option Line) (sets : ℕ) (files : Reading) (hearing : Hearing) (sink : Writing) (status : Status) → status ≡ Memory → IsUnheard hearing → WroteTo sink (fault_text Memory) → IsAnswer asked sets files hearing sink status
+pub answer-starved : (asked : Option Line) (sets : ℕ) (files : Reading) (hearing : Hearing) (sink : Writing) (status : Status) → status ≡ Memory → files.faults.after ≡ files.faults.before → IsUnheard hearing → WroteTo sink (fault_text Memory) → IsAnswer asked sets files hearing sink status
 unfolding IsAnswer
-answer-starved None sets files hearing sink status memory unheard written = inr (record { answer = memory; written = written })
-answer-starved (Some line) sets files hearing sink status memory unheard written = answer-closed line sets files hearing sink Memory status memory (Starved refl) unheard written
+answer-starved None sets files hearing sink status memory unread unheard written = inr (record { starved = record { answer = memory; written = written }; unread = unread; unheard = unheard })
+answer-starved (Some line) sets files hearing sink status memory unread unheard written = answer-closed line sets files hearing sink Memory status memory (Starved refl) unheard written
 
 -- the words are no line
 pub answer-usage : (asked : Option Line) (sets : ℕ) (files : Reading) (hearing : Hearing) (sink : Writing) (status : Status) → asked ≡ None → files.faults.after ≡ files.faults.before → IsUnheard hearing → status ≡ Usage →

@@ -1,5 +1,5 @@
 -- What is committed of a side that has sent nothing has room in the output.
-use Rattle.std.proofs.Common.{◌≡◌, ℕ, ◌-◌, ◌≤◌, List, [], length, nat_le, sym, subst, arith}
+use Rattle.std.proofs.Common.{◌≡◌, ℕ, ◌-◌, ◌≤◌, [], length, nat_le, sym, subst, arith}
 use Rattle.std.proofs.lemmas.Bool.{le-leb, cond-true}
 use Rattle.rollback_cmds.specs.declared.order.Order.TheVariants.{Commit}
 use Rattle.undo_journal.specs.Journal.{from_number}

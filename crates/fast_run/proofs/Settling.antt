@@ -57,7 +57,7 @@ job-settles job heard sink status (CutOff cut) other = inr (inr (cut.talk, cut.a
 pub answer-settled : (asked : Option Line) (sets : ℕ) (files : Reading) (hearing : Hearing) (sink : Writing) (status : Status) → IsAnswer asked sets files hearing sink status → IsSettled asked sets files status
 unfolding IsAnswer
 answer-settled None sets files hearing sink status (inl usage) names told quiet other = usage.answer
-answer-settled None sets files hearing sink status (inr starved) names told quiet other = absurd (other starved.answer)
+answer-settled None sets files hearing sink status (inr cramped) names told quiet other = absurd (other cramped.starved.answer)
 answer-settled (Some line) sets files hearing sink status (inl closed) names told quiet other =
     settles-by (asked_job (Some line) sets names) (Err status) status (asked-closed line sets files names told status quiet closed.cause other) refl
 answer-settled (Some line) sets files hearing sink status (inr ran) names told quiet other =

@@ -13,8 +13,8 @@ use Rattle.report_text.specs.declared.status.Status.{Status}
 use Rattle.report_text.specs.declared.status.Status.TheVariants.{Memory, Usage}
 use Rattle.report_text.specs.FaultText.{fault_text, status_number}
 use Rattle.fast_cli.specs.declared.line.Line.{Line}
-use Rattle.fast_run.specs.Answer.{IsAnswer, IsUnheard}
-use Rattle.fast_jobs.specs.Call.{Hearing, Reading, WroteTo, Writing}
+use Rattle.fast_run.specs.Answer.{IsAnswer}
+use Rattle.fast_jobs.specs.Call.{Hearing, IsUnheard, Reading, WroteTo, Writing}
 use Rattle.fast_run.specs.Program.{Arguments, exit_number, line_in, status_of_error}
 use Rattle.fast_run.proofs.Answers.{answer-starved, answer-usage, exit-starved, exit-usage}
 
@@ -47,7 +47,7 @@ answer-error arguments error sets files hearing sink status is unread unheard sa
     let P : Status → Type 0 = λ s. WroteTo sink (fault_text s) in
     elim (of_error (error_kind error)) [
       | inl usage ↦ answer-usage (line_in arguments) sets files hearing sink status (ap (λ (a : Arguments). line_in a) is) unread unheard (same ∙ usage) (subst P (same ∙ usage) written)
-      | inr memory ↦ answer-starved (line_in arguments) sets files hearing sink status (same ∙ memory) unheard (subst P (same ∙ memory) written)
+      | inr memory ↦ answer-starved (line_in arguments) sets files hearing sink status (same ∙ memory) unread unheard (subst P (same ∙ memory) written)
     ]
 
 pub exit-error : (asked : Option Line) (kind : ErrorKind) (status : Status) (number : ℕ) → status ≡ status_of_error kind → number ≡ status_number status → number ≡ exit_number asked status

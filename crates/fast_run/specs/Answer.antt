@@ -5,14 +5,9 @@ use Rattle.report_text.specs.declared.status.Status.TheVariants.{Usage}
 use Rattle.report_text.specs.FaultText.{fault_text}
 use Rattle.fast_cli.specs.declared.line.Line.{Line}
 use Rattle.fast_jobs.specs.declared.job.Job.{Job}
-use Rattle.fast_jobs.specs.Call.{Hearing, Reading, Writing, WroteTo}
+use Rattle.fast_jobs.specs.Call.{Hearing, IsUnheard, Reading, Writing, WroteTo}
 use Rattle.fast_jobs.specs.Opening.{Asks, Closes}
 use Rattle.fast_jobs.specs.Ending.{HasTalked, IsStarved}
-
--- nothing was read of standard input
-pub record IsUnheard (hearing : Hearing) : Type 0 where
-  pub same : hearing.after ≡ hearing.before
-  pub quiet : hearing.faults.after ≡ hearing.faults.before
 
 -- there is no job, and the line of the answer was written
 pub record IsClosed (line : Line) (sets : ℕ) (files : Reading) (hearing : Hearing) (sink : Writing)
@@ -37,9 +32,18 @@ pub record IsUsage (files : Reading) (hearing : Hearing) (sink : Writing)
   pub unheard : IsUnheard hearing
   pub written : WroteTo sink (fault_text status)
 
+-- memory was wanted for the words, the files' count of faults stands, and the line that says so was
+-- written
+pub record IsCramped (files : Reading) (hearing : Hearing) (sink : Writing)
+    (status : Status) : Type 0 where
+  pub starved : IsStarved sink status
+  pub unread : files.faults.after ≡ files.faults.before
+  pub unheard : IsUnheard hearing
+
 -- the answer of the program to words with this many sets of devices, by the line that the words
 -- are, if they are one
 unfoldable pub IsAnswer : Option Line → ℕ → Reading → Hearing → Writing → Status → Type 0
-IsAnswer None sets files hearing sink status = IsUsage files hearing sink status ⊎ IsStarved sink status
+IsAnswer None sets files hearing sink status =
+    IsUsage files hearing sink status ⊎ IsCramped files hearing sink status
 IsAnswer (Some line) sets files hearing sink status =
     IsClosed line sets files hearing sink status ⊎ HasRun line sets files hearing sink status

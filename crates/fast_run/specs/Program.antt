@@ -10,8 +10,8 @@ use Rattle.report_text.specs.declared.status.Status.{Status}
 use Rattle.report_text.specs.declared.status.Status.TheVariants.{Fail, Usage, Memory}
 use Rattle.report_text.specs.FaultText.{status_number}
 use Rattle.fast_cli.specs.declared.line.Line.{Line}
-use Rattle.fast_cli.specs.declared.line.Line.TheVariants.{Back, Count, Func, Gdb, Inorder, Run}
-use Rattle.fast_cli.specs.declared.line.Line.TheVariants.{Sched, Soak, Sweep}
+use Rattle.fast_cli.specs.declared.line.Line.TheVariants.{Back, Count, Func, Gdb, Inorder, Profile}
+use Rattle.fast_cli.specs.declared.line.Line.TheVariants.{Run, Sched, Soak, Stack, Sweep, Trace}
 use Rattle.fast_cli.specs.Line.{line}
 
 -- the line asks for the program's code as the number that ends the process
@@ -24,6 +24,9 @@ asks_code (Some (Soak seed)) = false
 asks_code (Some (Back image script machine history options)) = options.exit_code
 asks_code (Some (Inorder image machine plan options)) = options.exit_code
 asks_code (Some (Sweep image machines pipeline options)) = options.exit_code
+asks_code (Some (Trace image machine from to pipeline options)) = options.exit_code
+asks_code (Some (Stack image machine pipeline options)) = options.exit_code
+asks_code (Some (Profile image machine pipeline options)) = options.exit_code
 asks_code (Some (Count image machine options)) = options.exit_code
 asks_code (Some (Gdb image machine history options)) = options.exit_code
 

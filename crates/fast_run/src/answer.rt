@@ -3,9 +3,9 @@ ghost use Rattle.device_bus.specs.Bus.{AreSets};
 ghost use Rattle.fast_cli.specs.Line.{line};
 ghost use Rattle.fast_cli.specs.Ranges.{IsInRange};
 ghost use Rattle.report_text.specs.FaultText.{status_number};
-ghost use Rattle.fast_jobs.specs.Call.{Hearing, hearing_of, reading_of, writing_of};
+ghost use Rattle.fast_jobs.specs.Call.{Hearing, IsUnheard, hearing_of, reading_of, writing_of};
 ghost use Rattle.fast_jobs.specs.Job.{is_still};
-ghost use Rattle.fast_run.specs.Answer.{IsAnswer, IsUnheard};
+ghost use Rattle.fast_run.specs.Answer.{IsAnswer};
 ghost use Rattle.fast_run.specs.Program.{asks_code, code_number, exit_number};
 ghost use Rattle.fast_run.specs.Settled.{IsComplete, IsSettled};
 
@@ -181,6 +181,9 @@ fn asks_code(line: &Line) -> bool
         | Line::Back { options, .. }
         | Line::Inorder { options, .. }
         | Line::Sweep { options, .. }
+        | Line::Trace { options, .. }
+        | Line::Stack { options, .. }
+        | Line::Profile { options, .. }
         | Line::Count { options, .. }
         | Line::Gdb { options, .. } => options.exit_code,
         Line::Soak { .. } => false,
@@ -202,12 +205,9 @@ fn is_still(line: &Line) -> bool
     ensures still { result ≡ is_still line.now }
 {
     match line {
-        Line::Func { .. }
-        | Line::Sched { .. }
-        | Line::Back { .. }
-        | Line::Inorder { .. }
-        | Line::Count { .. }
-        | Line::Gdb { .. } => true,
+        Line::Func { .. } | Line::Sched { .. } | Line::Back { .. } | Line::Inorder { .. } => true,
+        Line::Trace { .. } | Line::Stack { .. } | Line::Profile { .. } => true,
+        Line::Count { .. } | Line::Gdb { .. } => true,
         Line::Run {
             pipeline: Pipeline::Window,
             threads,

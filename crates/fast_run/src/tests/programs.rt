@@ -6,7 +6,7 @@ use std::str;
 use std::test::Fail;
 
 /// Programs by the names of their files, each by its words; most end in a pass by x6 and x7.
-const PROGRAMS: [(&str, &str); 22] = [
+const PROGRAMS: [(&str, &str); 23] = [
     // Four instructions, of which the last stores a pass.
     ("pass", "001002b7 00005337 55530313 0062a023"),
     // MULHSU, MUL, DIV and MULH at the ends of the range, and a branch over a word that is no
@@ -97,6 +97,14 @@ const PROGRAMS: [(&str, &str); 22] = [
         concat!(
             "10000437 04100493 0294c533 00940023 00940023 00940023 00940023 00940023 ",
             "00100337 000053b7 55538393 00732023",
+        ),
+    ),
+    // Three bytes are put out, each after a loop of 32,768 rounds.
+    (
+        "drip",
+        concat!(
+            "10000437 04100493 00300513 000085b7 fff58593 fe059ee3 00940023 fff50513 ",
+            "fe0516e3 00100337 000053b7 55538393 00732023",
         ),
     ),
     // The last word is stored over the fifth, which is executed behind a FENCE.I.

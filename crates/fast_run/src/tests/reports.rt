@@ -802,9 +802,14 @@ fn check_on_one_thread<R: Threads + Wait + Sync + Abort>(
 
 /// Lines, their answers, and how many puts these take: output, its line feed, and one for each
 /// line of the report, or for each line of a debugger; of a sweep the name, how the run ended, and
-/// what it cost, or the name and the fault; one for a refusal, with its key.
-const PUTS: [(&str, u8, u8); 9] = [
+/// what it cost, or the name and the fault; one for a refusal, with its key. A run alone and those
+/// on one thread put bytes that come long after one another by themselves.
+const PUTS: [(&str, u8, u8); 13] = [
     ("func five --output 4", 3, 18),
+    ("func drip", 0, 20),
+    ("run drip wide", 0, 26),
+    ("run drip wide --threads 1", 0, 28),
+    ("inorder drip wide nothing", 0, 28),
     ("run five wide --output 4", 3, 26),
     ("sched five wide whole --output 4", 3, 26),
     ("back echo again --input in", 5, 14),
@@ -826,7 +831,7 @@ fn each_put_that_fails_leaves_a_prefix(rt: HostRuntime) -> Result<(), Fail> {
     for &(text, number, puts) in puts() {
         let mut whole = MemorySink::new(alloc, 4096)?;
         let _ = answer(&rt, alloc, text, &mut files, &mut whole)?;
-        for put in 1..28u64 {
+        for put in 1..30u64 {
             let mut sink = MemorySink::new(alloc, 4096)?;
             sink.fail_at(put)?;
             let answered = answer(&rt, alloc, text, &mut files, &mut sink)?;

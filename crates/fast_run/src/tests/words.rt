@@ -7,7 +7,7 @@ use std::test::Fail;
 const USAGE: &str = concat!(
     "fast: usage: fast func IMAGE, run IMAGE MACHINE, sched IMAGE MACHINE PLAN, soak SEED, ",
     "back IMAGE SCRIPT, inorder IMAGE MACHINE PLAN, sweep IMAGE MACHINES, ",
-    "count IMAGE, gdb IMAGE\n",
+    "trace IMAGE MACHINE, stack IMAGE MACHINE, profile IMAGE MACHINE, count IMAGE, gdb IMAGE\n",
 );
 
 const REFUSED: [&str; 50] = [

@@ -1,16 +1,21 @@
 use Rattle.std.proofs.Common.{ℕ, List, ◌++◌, sym, ◌∙◌}
 use Rattle.mono_model.specs.Report.{closed_output, report_text}
-use Rattle.fast_jobs.specs.Call.{writing_of}
+use Rattle.fast_jobs.specs.Early.{writing_since}
+use Rattle.fast_jobs.proofs.Putting.{rest_written, rest_breaks}
 use Rattle.fast_jobs.proofs.Outcomes.{ends-reported, ends-broken}
 use Rattle.fast_jobs.proofs.finish.finish_timed.Goals as goal
 
 pub returns-in-Ok-clause-ends : goal.returns-in-Ok-clause-ends
-returns-in-Ok-clause-ends g c = λ job may ended same.
+returns-in-Ok-clause-ends g c = λ job begun faults may ended same has.
     let text : List ℕ = closed_output c.args.output.now ++ report_text c.args.last.now in
-    ends-reported job text (writing_of g.K.Sink.written g.K.Sink.faults c.args.sink.now c.report.new.sink) c.status_for.result
-    (c.status_for.ensures.status ∙ sym ended) may same c.in-Ok.ensures.written
+    let wrote = rest_written c.args.put c.args.output.now (report_text c.args.last.now) begun faults (g.K.Sink.written c.args.sink.now) (g.K.Sink.faults c.args.sink.now)
+    (g.K.Sink.faults c.report.new.sink) (g.K.Sink.written c.report.new.sink) has c.in-Ok.ensures.written in
+    ends-reported job text (writing_since g.K.Sink.written g.K.Sink.faults begun faults c.report.new.sink) c.status_for.result
+    (c.status_for.ensures.status ∙ sym ended) may same wrote
 
 pub returns-in-Err-clause-ends : goal.returns-in-Err-clause-ends
-returns-in-Err-clause-ends g c = λ job may ended same.
+returns-in-Err-clause-ends g c = λ job begun faults may ended same has.
     let text : List ℕ = closed_output c.args.output.now ++ report_text c.args.last.now in
-    ends-broken job text (writing_of g.K.Sink.written g.K.Sink.faults c.args.sink.now c.report.new.sink) same c.in-Err.ensures.written
+    let broke = rest_breaks c.args.put c.args.output.now (report_text c.args.last.now) begun faults (g.K.Sink.written c.args.sink.now) (g.K.Sink.faults c.args.sink.now)
+    (g.K.Sink.faults c.report.new.sink) (g.K.Sink.written c.report.new.sink) has c.in-Err.ensures.written in
+    ends-broken job text (writing_since g.K.Sink.written g.K.Sink.faults begun faults c.report.new.sink) same broke

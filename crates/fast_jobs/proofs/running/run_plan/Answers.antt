@@ -9,6 +9,7 @@ use Rattle.split_core.specs.Standing.{SplitStandsFor}
 use Rattle.fast_jobs.specs.declared.job.Job.TheVariants.{Single}
 use Rattle.fast_jobs.specs.declared.job.SingleJob.TheVariants.{Sched}
 use Rattle.fast_jobs.specs.Outcome.{planned_cycle, status_for}
+use Rattle.fast_jobs.proofs.Putting.{none_put}
 use Rattle.fast_jobs.proofs.Ending.{IsAt, at-end, at-text, at_planned, planned-reached, boundary-reached, boundary-comes}
 use Rattle.fast_jobs.proofs.running.run_plan.Goals as goal
 
@@ -31,6 +32,7 @@ returns-clause-ends g c =
       reported = c.committed-last.ensures.reported s there sound there_reached stands boundary;
     } in
     let planned : IsAt s (planned_cycle s plan) c.output.result.now c.committed-last.result = at_planned s plan c.output.result.now c.committed-last.result at in
-    c.finish_timed.ensures.ends (Single (Sched s plan)) (λ on. refl)
+    c.finish_timed.ensures.ends (Single (Sched s plan)) (g.K.Sink.written c.args.sink.now) (g.K.Sink.faults c.args.sink.now) (λ on. refl)
     (ap status_for (at-end s (planned_cycle s plan) c.output.result.now c.committed-last.result planned))
     (at-text s (planned_cycle s plan) c.output.result.now c.committed-last.result planned)
+    (none_put c.output.result.now (g.K.Sink.written c.args.sink.now) (g.K.Sink.faults c.args.sink.now))

@@ -7,6 +7,7 @@ use Rattle.fast_jobs.specs.declared.job.Job.TheVariants.{Single}
 use Rattle.fast_jobs.specs.declared.job.SingleJob.TheVariants.{Run}
 use Rattle.mono_model.proofs.Sound.{setup_facts}
 use Rattle.fast_jobs.specs.Outcome.{status_for}
+use Rattle.fast_jobs.proofs.Putting.{none_put}
 use Rattle.fast_jobs.proofs.Outcomes.{running-end}
 use Rattle.fast_jobs.proofs.Ending.{IsAt, at-end, at-text, not_running}
 use Rattle.fast_jobs.proofs.running.run_session.Goals as goal
@@ -22,7 +23,8 @@ returns-clause-ends g c =
     let once = c.run_ends_once.ensures.ends s (setup_facts s c.requires.sound).some_cycle in
     let ended : has_ended (mono s s.cycles).end ≡ true =
     ap (λ (m : Machine). has_ended m.end) (once.still s.cycles once.within) ∙ once.first.ended in
-    c.finish_timed.ensures.ends (Single (Run s))
+    c.finish_timed.ensures.ends (Single (Run s)) (g.S.Sink.written c.args.sink.now) (g.S.Sink.faults c.args.sink.now)
     (λ on. absurd (not_running (mono s s.cycles).end ended (running-end (mono s s.cycles).end on)))
     (ap status_for (at-end s s.cycles c.output.result.now c.result-last.result at))
     (at-text s s.cycles c.output.result.now c.result-last.result at)
+    (none_put c.output.result.now (g.S.Sink.written c.args.sink.now) (g.S.Sink.faults c.args.sink.now))

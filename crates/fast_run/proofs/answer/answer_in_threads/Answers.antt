@@ -21,7 +21,7 @@ returns-in-Ok-clause-answer g c = λ hearing unheard.
     let sets : c.len.result / 3 ≡ vec_len c.args.devices / 3 = ap (λ (n : ℕ). n / 3) c.len.ensures in
     subst (λ (n : ℕ). IsAnswer (Some line) n reading hearing writing c.run_in_threads.result) sets
     (answer-ran line (c.len.result / 3) reading hearing writing c.in-Ok.job c.run_in_threads.result asks
-    (silent-talked c.in-Ok.job hearing writing c.run_in_threads.result silent unheard.same c.run_in_threads.ensures.ends))
+    (silent-talked c.in-Ok.job hearing writing c.run_in_threads.result silent unheard c.run_in_threads.ensures.ends))
 
 pub returns-in-Err-clause-answer : goal.returns-in-Err-clause-answer
 returns-in-Err-clause-answer g c = λ hearing unheard.

@@ -19,7 +19,7 @@ returns-in-Ok-Single-clause-answer g c =
     let hearing = hearing_of g.S.Source.heard g.S.Source.faults c.args.source.now c.args.source.now in
     let ends : Ends c.in-Ok-Single.field-0 [] writing c.run.result = subst (λ (job : Job). Ends job [] writing c.run.result) (sym c.in-Ok-Single.field-0-is) c.run.ensures.ends in
     let silent : is_talk c.in-Ok-Single.field-0 ≡ false = ap is_talk c.in-Ok-Single.field-0-is in
-    let talked : HasTalked c.in-Ok-Single.field-0 hearing writing c.run.result = silent-talked c.in-Ok-Single.field-0 hearing writing c.run.result silent refl ends in
+    let talked : HasTalked c.in-Ok-Single.field-0 hearing writing c.run.result = silent-talked c.in-Ok-Single.field-0 hearing writing c.run.result silent (record { same = refl; quiet = refl }) ends in
     subst (λ (n : ℕ). IsAnswer (Some line) n reading hearing writing c.run.result) sets
     (answer-ran line (c.len.result / 3) reading hearing writing c.in-Ok-Single.field-0 c.run.result c.in-Ok-Single.ensures.asks talked)
 
