@@ -40,6 +40,14 @@ REFUSED = {
     "func a --exit-code --cycles 9": "",
     "func a --exit-code=1": '"--exit-code" takes no value; "./fast help func" says more',
     "count": 'count lacks IMAGE; "./fast help count" says more',
+    "stack a": 'stack lacks MACHINE; "./fast help stack" says more',
+    "trace a b --from x": (
+        '"x" is no number, and --from wants one; "./fast help trace" says more'
+    ),
+    "stack a b --to 9": 'stack has no option "--to"; "./fast help stack" says more',
+    "profile a b --exit-code": (
+        'profile has no option "--exit-code"; "./fast help profile" says more'
+    ),
     "count a --exit-code": 'count has no option "--exit-code"; "./fast help count" says more',
     "back a b --exit-code": 'back has no option "--exit-code"; "./fast help back" says more',
     "gdb a --ring 1": 'gdb has no option "--ring"; "./fast help gdb" says more',

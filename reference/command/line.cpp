@@ -6,7 +6,8 @@
 
 const char* const usage =
     "usage: fast func IMAGE, run IMAGE MACHINE, sched IMAGE MACHINE PLAN, soak SEED, "
-    "back IMAGE SCRIPT, inorder IMAGE MACHINE PLAN, sweep IMAGE MACHINES, count IMAGE, gdb IMAGE";
+    "back IMAGE SCRIPT, inorder IMAGE MACHINE PLAN, sweep IMAGE MACHINES, trace IMAGE MACHINE, "
+    "stack IMAGE MACHINE, profile IMAGE MACHINE, count IMAGE, gdb IMAGE";
 
 namespace {
 
@@ -28,12 +29,11 @@ const Form forms[] = {
     {"back", 2, 2, {"machine", "history", "cycles", "input", "output"}},
     {"inorder", 2, 3, {"ring", "cycles", "input", "output"}, {"exit-code"}},
     {"sweep", 2, 65, {"pipeline", "ring", "cycles", "input", "output"}},
-    {"count", 1, 1, {"machine", "cycles", "input", "output"}},
-    {"gdb", 1, 1, {"machine", "history", "cycles", "input", "output"}, {}, 1048576},
-    // Defined, but no words of `fast` yet: crates/insight_model.
     {"trace", 2, 2, {"from", "to", "pipeline", "cycles", "input", "output"}},
     {"stack", 2, 2, {"pipeline", "cycles", "input", "output"}},
     {"profile", 2, 2, {"pipeline", "cycles", "input", "output"}},
+    {"count", 1, 1, {"machine", "cycles", "input", "output"}},
+    {"gdb", 1, 1, {"machine", "history", "cycles", "input", "output"}, {}, 1048576},
     // This program's own.
     {"splitrun", 2, 2, {"ring", "cycles", "input", "output"}},
 };

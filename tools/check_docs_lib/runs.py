@@ -7,8 +7,9 @@ What the document says of a run:
 - its lines: of a transcript, whose commands begin with `$`, all lines up to the next command; else
   those after an empty line in the same block, or a block after a paragraph that begins `It prints`;
 - lines of its report, in the paragraph after its block, as `status: pass`;
-- its exit status, by the line of the status: 0 if there is none, and 5 of `sweep`, `back`, `count` and
-  `gdb`. If the program writes into `head`, which may end first, it may also be 15.
+- its exit status, by the line of the status: 0 if there is none, and 5 of the commands that show
+  something else than a report. If the program writes into `head`, which may end first, it may also
+  be 15.
 """
 
 import re
@@ -23,7 +24,7 @@ from .markdown import Block, Document, Found
 from .spans import PLACEHOLDER
 
 STATUSES = {"pass": 0, "fail": 1, "limit": 2, "output": 3, "running": 4}
-SHOWN = ("sweep", "back", "count", "gdb")
+SHOWN = ("sweep", "back", "trace", "profile", "count", "gdb")
 SHOWN_STATUS = 5
 CUT_OFF_STATUS = 15
 CUT_OFF = re.compile(r"\./fast [^|]*\| *head(?: |$)")

@@ -7,7 +7,7 @@ from pathlib import Path
 
 from .comparing import Comparison, Plan
 from .faults import Fault
-from .kinds import ALL_KINDS, ITSELF, KINDS, LATER, is_known, usual_kinds
+from .kinds import ALL_KINDS, ITSELF, KINDS
 from .simulators import REPOSITORY, find_fast, find_reference
 
 USUAL_SECONDS = 60.0
@@ -61,7 +61,7 @@ def plan_of(options: argparse.Namespace) -> Plan:
     return Plan(
         fast=fast,
         reference=reference,
-        kinds=kinds_of(options.kinds, fast),
+        kinds=kinds_of(options.kinds),
         seed=options.seed,
         seconds=seconds,
         count=options.count,
@@ -72,16 +72,14 @@ def plan_of(options: argparse.Namespace) -> Plan:
     )
 
 
-def kinds_of(text: str | None, fast: Path) -> list[str]:
-    """The kinds that a text names, all of which the program has to know."""
+def kinds_of(text: str | None) -> list[str]:
+    """The kinds that a text names; all that need `fast`, if there is none."""
     if text is None:
-        return usual_kinds(fast)
+        return KINDS
     kinds = list(dict.fromkeys(text.split(",")))
     for kind in kinds:
         if kind not in ALL_KINDS:
             raise Fault(f"{kind!r} is no kind; the kinds are {', '.join(ALL_KINDS)}")
-        if not is_known(fast, kind):
-            raise Fault(f"{fast} doesn't know the command {kind}")
     return kinds
 
 
@@ -120,9 +118,8 @@ def parser() -> argparse.ArgumentParser:
     add("--seed", metavar="N", type=whole, default=1, help="the first seed (1)")
     add("--count", metavar="N", type=positive, help="how many seeds at most")
     text = (
-        f"kinds of calls with commas between them: {', '.join(KINDS)} (these), and "
-        f"{', '.join(LATER)} (where the program knows them); {ITSELF} is the reference alone, "
-        "its two machines against each other"
+        f"kinds of calls with commas between them: {', '.join(KINDS)} (these); {ITSELF} is the "
+        "reference alone, its two machines against each other"
     )
     add("--kinds", metavar="LIST", help=text)
     add("--jobs", metavar="N", type=positive, help="seeds at a time (as many as processors)")

@@ -10,6 +10,9 @@ FORMS = [
     ["inorder", "p.elf", "m.toml", "plan"],
     ["back", "p.elf", "script"],
     ["sweep", "p.elf", "m.toml"],
+    ["stack", "p.elf", "m.toml"],
+    ["profile", "p.elf", "m.toml"],
+    ["trace", "p.elf", "m.toml"],
     ["count", "p.elf"],
     ["gdb", "p.elf"],
 ]
@@ -25,6 +28,7 @@ POOL = [
     *("1099511627777", "18446744073709551615", "18446744073709551616", "--help", "-h", "--version"),
     *("--pipeline", "--pipeline=window", "--pipeline=inorder", "--pipeline=Window", "--pipeline="),
     *("--machine", "--machine=m2.toml", "--machine=nothere", "--machine=", "--exit-code"),
+    *("--from", "--to", "--from=5", "--to=9", "--to=1099511627777"),
     *("--exit-code", "--exit-code", "--exit-code=", "--exit-code=1", "--exit"),
 ]
 PAIRS = [

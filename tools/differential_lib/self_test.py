@@ -9,7 +9,7 @@ from shared_lib.checks import Checks, run_checks
 
 from . import command
 from .cases import draw_case
-from .kinds import ALL_KINDS, KINDS, usual_kinds
+from .kinds import ALL_KINDS, KINDS
 from .simulators import find_reference
 
 SECONDS = 120
@@ -17,7 +17,6 @@ OPTIONED = ["func", "run", "inorder", "back", "sweep"]
 
 # Programs that answer as the reference does, but for some words.
 PASSING = ""
-REFUSING = """case $1 in trace | stack) echo "fast: usage: none"; exit 10 ;; esac"""
 COUNTING = """case $1 in
     run)
         text=$('{reference}' "$@"; echo "$?")
@@ -74,7 +73,6 @@ class SelfTest(Checks):
     def check_same(self) -> None:
         """A program that answers alike has no differences, in all kinds."""
         same = self.program("same", PASSING)
-        self.expect("same: kinds", usual_kinds(same), ALL_KINDS[:-1])
         self.expect("same", self.compare(same, "--count", "3", "--seed", "100"), (0, []))
         itself = self.compare(same, "--count", "2", "--kinds", "itself")
         self.expect("same: the reference and itself", itself, (0, []))
@@ -110,18 +108,12 @@ class SelfTest(Checks):
         self.expect("no end: line", "no end in time for status" in lines[0], True)
 
     def check_kinds(self) -> None:
-        """Kinds that a program doesn't know are left out, and refused if they are named."""
-        refusing = self.program("refusing", REFUSING)
-        others = [kind for kind in ALL_KINDS[:-1] if kind not in ("trace", "stack")]
-        self.expect("kinds: known", usual_kinds(refusing), others)
-        self.expect("kinds", self.compare(refusing, "--count", "1"), (0, []))
-        for kinds, text in {
-            "trace": "doesn't know the command trace",
-            "func,walk": "'walk' is no kind",
-        }.items():
-            status, lines = self.compare(refusing, "--kinds", kinds)
-            self.expect(f"kinds {kinds}: status", status, 2)
-            self.expect(f"kinds {kinds}: {lines}", len(lines) == 1 and text in lines[0], True)
+        """Kinds that aren't known are refused."""
+        same = self.program("same", PASSING)
+        status, lines = self.compare(same, "--kinds", "func,walk")
+        self.expect("kinds: status", status, 2)
+        told = len(lines) == 1 and "'walk' is no kind" in lines[0]
+        self.expect(f"kinds: {lines}", told, True)
 
     def check_missing(self) -> None:
         """A program that isn't there ends the comparison with one line."""

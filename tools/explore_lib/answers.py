@@ -4,7 +4,10 @@ import re
 from collections.abc import Sequence
 from dataclasses import dataclass
 
+from shared_lib.causes import NAMES
+
 SWEPT = 5
+EXTRA = ("squashed ", "stack ")
 RAN = re.compile(
     r"(pass|fail [0-9]+|limit|output full) cycles ([0-9]+) instructions ([0-9]+)"
     r" mispredicted ([0-9]+) icache ([0-9]+) dcache ([0-9]+)"
@@ -24,6 +27,7 @@ class Row:
     dcache_misses: int | None = None
     squashed: int | None = None
     reason: str = ""
+    causes: dict[str, int] | None = None
 
     @property
     def is_refused(self) -> bool:
@@ -51,22 +55,34 @@ class Refusal:
     line: str
 
 
-def row_of(text: str, squashed: int | None = None) -> Row | None:
+def row_of(
+    text: str, squashed: int | None = None, causes: dict[str, int] | None = None
+) -> Row | None:
     """The row of what stands behind a name, or None where it is no answer of `sweep`."""
     if match := RAN.fullmatch(text):
         end, *numbers = match.groups()
         cycles, instructions, mispredicted, icache, dcache = map(int, numbers)
-        return Row(end, cycles, instructions, mispredicted, icache, dcache, squashed)
+        if causes is not None and sum(causes.values()) != cycles:
+            return None
+        return Row(end, cycles, instructions, mispredicted, icache, dcache, squashed, causes=causes)
     if REFUSED.fullmatch(text):
         return Row("refused", reason=text)
     return None
 
 
+def stack_of(line: str) -> tuple[str, dict[str, int] | None]:
+    """The machine's name and its cycles by cause, of a line of an answer; None where it is cut."""
+    _, name, *words = line.split()
+    numbers = [int(word) for word in words[1::2] if word.isdecimal()]
+    is_whole = words[::2] == [f"{name}:" for name in NAMES] and len(numbers) == len(NAMES)
+    return name, dict(zip(NAMES, numbers, strict=True)) if is_whole else None
+
+
 def read_answer(text: str, names: Sequence[str]) -> list[Row] | Refusal | None:
     """The rows of a batch in the order of its names; None where the answer isn't whole.
 
-    An answer is the lines of `sweep`, lines `squashed NAME NUMBER` where they were wanted, and
-    a last line `status NUMBER`.
+    An answer is the lines of `sweep`, lines `squashed NAME NUMBER` and `stack NAME CAUSE: NUMBER
+    CAUSE: NUMBER ..` where they were wanted, and a last line `status NUMBER`.
     """
     *lines, last = text.splitlines() or [""]
     if not text.endswith("\n") or not re.fullmatch("status [0-9]{1,3}", last):
@@ -76,8 +92,9 @@ def read_answer(text: str, names: Sequence[str]) -> list[Row] | Refusal | None:
         return Refusal(status, " ".join(lines)) if 10 <= status < 30 and len(lines) == 1 else None
     marks = [line.split(" ") for line in lines if line.startswith("squashed ")]
     squashed = {mark[1]: int(mark[2]) for mark in marks if len(mark) == 3 and mark[2].isdecimal()}
-    swept = dict(line.partition(": ")[::2] for line in lines if not line.startswith("squashed "))
-    rows = [row_of(swept.get(name, ""), squashed.get(name)) for name in names]
+    stacks = dict(stack_of(line) for line in lines if line.startswith("stack "))
+    swept = dict(line.partition(": ")[::2] for line in lines if not line.startswith(EXTRA))
+    rows = [row_of(swept.get(name, ""), squashed.get(name), stacks.get(name)) for name in names]
     if len(swept) != len(names) or None in rows:
         return None
     return [row for row in rows if row is not None]

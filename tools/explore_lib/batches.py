@@ -13,10 +13,12 @@ from collections.abc import Sequence
 from dataclasses import dataclass
 from pathlib import Path
 
+from shared_lib.causes import NAMES
+
 from .answers import Refusal, Row, read_answer
 from .journal import Work, identity
 from .machine_file import machine_text
-from .space import Machine, Space
+from .space import Extras, Machine, Space
 
 MOST_IN_BATCH = 64
 PREFIX = "explore-"
@@ -31,24 +33,32 @@ tar -xf "$1.tar" -C "$place" && cd "$place" || exit 1
 image=$here/image${{1%%-*}}.elf
 "$here/fast" sweep "$image" *.toml{options} </dev/null
 status=$?
-{squashed}echo "status $status"
+{reports}echo "status $status"
 case $status in
     5 | 1[0-9] | 2[0-9]) exit 0 ;;
 esac
 exit 1
 """
 
-SQUASHED = """\
+REPORTS = """\
 [ "$status" = 5 ] && for machine in *.toml; do
-    "$here/fast" run "$image" "$machine"{options} </dev/null >report
+    "$here/fast" {command} "$image" "$machine"{options} </dev/null >report
     case $? in
         [0-3]) ;;
         1[12]) continue ;;
         *) exit 1 ;;
     esac
+{lines}done
+"""
+
+SQUASHED = """\
     count=$(LC_ALL=C sed -n 's/^squashed: \\([0-9]*\\)$/\\1/p' report | tail -n 1)
     echo "squashed $machine $count"
-done
+"""
+
+STACKS = f"""\
+    causes=$(LC_ALL=C sed -n 's/^head\\.\\([a-z]*: [0-9]*\\)$/\\1/p' report | tail -n {len(NAMES)})
+    echo "stack" "$machine" $causes
 """
 
 
@@ -78,7 +88,7 @@ class Batch:
 class WorkFolder:
     """A new folder with all that the batches need."""
 
-    def __init__(self, folder: Path, program: Path, space: Space, squashed: bool):
+    def __init__(self, folder: Path, program: Path, space: Space, extras: Extras):
         self.path = Path(tempfile.mkdtemp(prefix=PREFIX, dir=folder)).absolute()
         self._space = space
         shutil.copy(program, self.path / "fast")
@@ -95,9 +105,8 @@ class WorkFolder:
             shutil.copyfile(space.options.input, self.path / "input")
             words += [' --input "$here/input"']
         options = "".join(words)
-        loop = SQUASHED.format(options=options) if squashed else ""
         script = self.path / "batch.sh"
-        script.write_text(SCRIPT.format(options=options, squashed=loop))
+        script.write_text(SCRIPT.format(options=options, reports=reports_of(extras, options)))
         script.chmod(0o755)
         self.common = sorted(path.name for path in self.path.iterdir())
 
@@ -120,6 +129,13 @@ class WorkFolder:
     def remove(self) -> None:
         """Takes the folder away."""
         shutil.rmtree(self.path, ignore_errors=True)
+
+
+def reports_of(extras: Extras, options: str) -> str:
+    """The part of the script that takes from reports what `sweep` doesn't tell."""
+    lines = (SQUASHED if extras.squashed else "") + (STACKS if extras.stacks else "")
+    command = "stack" if extras.stacks else "run"
+    return REPORTS.format(command=command, options=options, lines=lines) if lines else ""
 
 
 def add_file(archive: tarfile.TarFile, name: str, content: bytes) -> None:

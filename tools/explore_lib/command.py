@@ -12,7 +12,8 @@ from shared_lib.faults import Fault
 from .batches import MOST_IN_BATCH
 from .exploring import Exploration, Plan
 from .journal import Journal, Lock, Work, open_journals, other_rows
-from .space import Space
+from .picture_file import fit_stacks
+from .space import Extras, Space
 from .space_file import read_space
 from .table import Entry, entries_of, write_means, write_table
 
@@ -50,7 +51,7 @@ def say(text: str) -> None:
 
 def explore(options: argparse.Namespace) -> int:
     """Checks the input, runs what is missing, and writes the table and the pictures."""
-    space = read_space(options.space)
+    space = fit_stacks(read_space(options.space), options.stacks)
     if options.check:
         suite = f", {space.title}" if space.is_suite else ""
         print(f"{options.space}: {space.size} machines{suite}, {', '.join(space.varied)} vary")
@@ -87,7 +88,7 @@ def plan_of(options: argparse.Namespace) -> Plan:
         logins=options.sshlogin,
         is_shared=options.shared,
         sbatch=options.sbatch,
-        squashed=options.squashed,
+        extras=Extras(options.squashed, options.stacks),
         is_quiet=options.quiet,
     )
 
@@ -95,7 +96,7 @@ def plan_of(options: argparse.Namespace) -> Plan:
 def tabulate(space: Space, journals: dict[Work, Journal], plan: Plan) -> list[Entry]:
     """Writes the table of the rows that are there, and of a suite that of its means."""
     entries = entries_of(space, list(journals.values()))
-    write_table(plan.folder / "rows.csv", space, entries, plan.squashed)
+    write_table(plan.folder / "rows.csv", space, entries, plan.extras)
     if space.is_suite:
         write_means(plan.folder / "machines.csv", space, entries)
     return entries
@@ -103,7 +104,7 @@ def tabulate(space: Space, journals: dict[Work, Journal], plan: Plan) -> list[En
 
 def redraw(space: Space, plan: Plan) -> int:
     """Writes the table and the pictures anew, where there are rows."""
-    journals = open_journals(plan.folder, space, plan.squashed)
+    journals = open_journals(plan.folder, space, plan.extras)
     others = other_rows(plan.folder, journals)
     if others and not plan.is_quiet:
         say(f"{others}; they are kept")
@@ -162,6 +163,8 @@ def parser() -> argparse.ArgumentParser:
     add("--draw", action="store_true", help="write table and pictures of the rows that are there")
     text = "add the column squashed, by a `fast run` of each machine as well: slower"
     add("--squashed", action="store_true", help=text)
+    text = "add a column for each cause of cycles, and a picture of them, by a `fast stack` of each"
+    add("--stacks", action="store_true", help=text)
     text = f"machines in a call of sweep, 1 to {MOST_IN_BATCH} ({USUAL_BATCH})"
     add("--batch", metavar="N", type=whole(1, MOST_IN_BATCH), default=USUAL_BATCH, help=text)
     add("--quiet", action="store_true", help="say nothing but what is wrong")

@@ -14,7 +14,7 @@ from .journal import Work, identity, open_journals, other_rows
 from .program import find_program
 from .progress import Progress
 from .slurm import Slurm, take_left
-from .space import Machine, Space
+from .space import Extras, Machine, Space
 from .workers import Here, Workers
 
 SECONDS_TO_POLL = 0.1
@@ -33,7 +33,7 @@ class Plan:
     logins: list[str]
     is_shared: bool
     sbatch: list[str]
-    squashed: bool
+    extras: Extras
     is_quiet: bool
 
     @property
@@ -50,7 +50,7 @@ class Exploration:
         self._plan = plan
         self._tell = tell
         take_left(plan.folder)
-        self.journals = open_journals(plan.folder, space, plan.squashed)
+        self.journals = open_journals(plan.folder, space, plan.extras)
 
     def missing(self, work: Work) -> list[Machine]:
         """The machines without a row of an image."""
@@ -65,10 +65,10 @@ class Exploration:
         self._say_what_is_there(finished)
         if finished == self.space.run_count:
             return
-        program = find_program(self._plan.fast)
+        program = find_program(self._plan.fast, *self._plan.extras.commands)
         workers = self._workers()
         progress = Progress(finished, self.space, self._plan.is_quiet)
-        work = WorkFolder(self._plan.folder, program, self.space, self._plan.squashed)
+        work = WorkFolder(self._plan.folder, program, self.space, self._plan.extras)
         try:
             batches = self._lay(work, missing)
             tries = dict.fromkeys((batch.name for batch in batches), 0)

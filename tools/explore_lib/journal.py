@@ -20,7 +20,7 @@ from shared_lib.files import sum_of, write_whole
 from .answers import Row
 from .keys import Value
 from .machine_file import differing
-from .space import Image, Space
+from .space import Extras, Image, Space
 
 FORMAT = "fast explore 1"
 USUAL_CYCLES = 10_000_000
@@ -31,6 +31,7 @@ NAMES = {
     "cycles": "the bound of cycles",
     "output": "the room for output",
     "squashed": "--squashed",
+    "stacks": "--stacks",
 }
 
 
@@ -43,18 +44,24 @@ class Work:
     cycles: int
     output: int
     squashed: bool
+    stacks: bool = False
 
     @property
     def name(self) -> str:
         """A short name that another image, input or option changes."""
-        return hashlib.sha256(json.dumps(asdict(self)).encode()).hexdigest()[:16]
+        content = asdict(self)
+        if not self.stacks:
+            del content["stacks"]  # as in journals that were begun before there were stacks
+        return hashlib.sha256(json.dumps(content).encode()).hexdigest()[:16]
 
     def changed_from(self, other: Mapping[str, object]) -> list[str]:
         """What is another than in other work."""
-        return [NAMES[name] for name, value in asdict(self).items() if other.get(name) != value]
+        return [
+            NAMES[name] for name, value in asdict(self).items() if other.get(name, False) != value
+        ]
 
 
-def work_of(space: Space, image: Image, squashed: bool) -> Work:
+def work_of(space: Space, image: Image, extras: Extras) -> Work:
     """The work of an image of a space."""
     options = space.options
     return Work(
@@ -62,7 +69,8 @@ def work_of(space: Space, image: Image, squashed: bool) -> Work:
         input=sum_of(options.input) if options.input else "",
         cycles=USUAL_CYCLES if options.cycles is None else options.cycles,
         output=USUAL_OUTPUT if options.output is None else options.output,
-        squashed=squashed,
+        squashed=extras.squashed,
+        stacks=extras.stacks,
     )
 
 
@@ -96,9 +104,9 @@ class Journal:
         self.rows |= rows
 
 
-def open_journals(folder: Path, space: Space, squashed: bool) -> dict[Work, Journal]:
+def open_journals(folder: Path, space: Space, extras: Extras) -> dict[Work, Journal]:
     """The journals of a space's images, in their order."""
-    works = [work_of(space, image, squashed) for image in space.images]
+    works = [work_of(space, image, extras) for image in space.images]
     return {work: Journal(folder, work) for work in works}
 
 

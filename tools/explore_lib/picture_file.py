@@ -1,5 +1,7 @@
 """Reading the pictures of an input."""
 
+from dataclasses import replace
+
 from shared_lib.faults import InputFault
 
 from .formula import Formula
@@ -8,7 +10,8 @@ from .keys import KEYS, Value, show, unknown_key
 from .machine_file import key_values
 from .space import Axis, Picture, Space
 
-AXES = {"lines": ("x", "lines"), "map": ("x", "y"), "front": ("lines",)}
+AXES = {"lines": ("x", "lines"), "map": ("x", "y"), "front": ("lines",), "stacks": ("x",)}
+STACKS = "stacks"
 COMMON = "kind name title at of knee".split()
 
 
@@ -56,10 +59,22 @@ def read_picture(table: Table, space: Space) -> Picture:
     return Picture(kind, name, title, axes, at, of, table.percent("knee", 5.0))
 
 
+def fit_stacks(space: Space, has_stacks: bool) -> Space:
+    """The space with a picture of stacks where these are wanted, and a fault where they are not."""
+    own = [picture for picture in space.pictures if picture.kind == STACKS]
+    if own and not has_stacks:
+        raise InputFault(f"{space.path}: the picture {show(own[0].name)} needs --stacks")
+    if own or not has_stacks or not space.is_drawn:
+        return space
+    usual = {"kind": STACKS, "x": space.varied[0]}
+    picture = read_picture(Table(space.path, "picture", usual), space)
+    return replace(space, pictures=(*space.pictures, picture))
+
+
 def usual_title(space: Space, kind: str) -> str:
     """The title of a picture that has none of its own."""
     rate = "Speed" if space.is_suite else "Instructions per cycle"
-    what = "Cost and cycles" if kind == "front" else rate
+    what = {"front": "Cost and cycles", STACKS: "Where the cycles went"}.get(kind, rate)
     return f"{what}: {space.title} on {space.size:,} machines"
 
 

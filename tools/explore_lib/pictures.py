@@ -1,12 +1,16 @@
 """The pictures, by matplotlib: each as PNG and as SVG."""
 
 from collections.abc import Callable, Iterator, Sequence
+from functools import partial
 from pathlib import Path
 from statistics import fmean
 
+from shared_lib.bars import draw_bars
+from shared_lib.causes import NAMES
 from shared_lib.faults import Fault
 from shared_lib.plots import STYLE, matplotlib, need_matplotlib, save
 
+from .answers import Row
 from .front import knee_of
 from .keys import Value
 from .space import Axis, Picture, Space
@@ -330,4 +334,41 @@ def number_axis(axes, axis, values: Sequence[float]) -> None:
     axis.set_minor_locator(NullLocator())
 
 
-KINDS = {"lines": draw_lines, "map": draw_map, "front": draw_front}
+def draw_stacks(space: Space, picture: Picture, ran: Sequence[Entry]):
+    """Bars of cycles for each instruction by cause, one for each place of an axis."""
+    entries = [entry for entry in ran if is_shown(picture, entry)]
+    x = picture.axes["x"]
+    shared = {place: at_place(x, place, entries) for place in places(x, entries)}
+    stacks = {written(place): stack_of(picture, own) for place, own in shared.items()}
+    label = "cycles for each instruction"
+    if space.is_suite:
+        label += f"\n(mean of {space.title})"
+    counts: dict[tuple, list[float]] = {
+        (place,): [entry.rate or 0.0 for entry in own] for place, own in shared.items()
+    }
+    notes = [x.label, chosen_note(picture, counts), left_out_note(space, ran, entries)]
+    figure = pyplot.figure()
+    draw_bars(figure, stacks, label, picture.title, [note for note in notes if note])
+    return figure
+
+
+def at_place(axis: Axis, place: Place, entries: Sequence[Entry]) -> list[Entry]:
+    """The machines that share a place of an axis."""
+    return [entry for entry in entries if axis.place(entry.values) == place]
+
+
+def stack_of(picture: Picture, entries: Sequence[Entry]) -> dict[str, float]:
+    """The bar that stands for the machines of a place."""
+    if picture.of != "mean":
+        choose = max if picture.of == "best" else min
+        entries = [choose(entries, key=lambda entry: entry.rate or 0.0)]
+    rows = [row for entry in entries for row in entry.rows if row is not None]
+    return {name: fmean(map(partial(cycles_for_each, name), rows)) for name in NAMES}
+
+
+def cycles_for_each(name: str, row: Row) -> float:
+    """The cycles of a cause for each instruction of a run."""
+    return (row.causes or {}).get(name, 0) / (row.instructions or 1)
+
+
+KINDS = {"lines": draw_lines, "map": draw_map, "front": draw_front, "stacks": draw_stacks}

@@ -9,8 +9,11 @@ from shared_lib.faults import Fault
 NOT_BUILT = 125
 
 
-def find_program(path: Path) -> Path:
-    """The program itself, which can be copied: of a repository's `./fast`, what it builds."""
+def find_program(path: Path, *commands: str) -> Path:
+    """The program itself, which can be copied: of a repository's `./fast`, what it builds.
+
+    It has to know `sweep`, and the commands that are named.
+    """
     if not path.is_file() or not os.access(path, os.X_OK):
         raise Fault(f"{path} is no program")
     program = path
@@ -18,9 +21,10 @@ def find_program(path: Path) -> Path:
         if call(path, []).returncode == NOT_BUILT:
             raise Fault(f"{path} couldn't be built")
         program = path.resolve().parent / "out" / "fast"
-    said = call(program, ["sweep", "/dev/null/image", "/dev/null/machine"]).stdout.strip()
-    if not said.startswith(b"fast: ") or said.split()[1:2] == [b"usage:"]:
-        raise Fault(f"{path} doesn't run `fast sweep`")
+    for command in ("sweep", *commands):
+        said = call(program, [command, "/dev/null/image", "/dev/null/machine"]).stdout.strip()
+        if not said.startswith(b"fast: ") or said.split()[1:2] == [b"usage:"]:
+            raise Fault(f"{path} doesn't run `fast {command}`")
     return program
 
 

@@ -12,6 +12,7 @@ import time
 from collections import Counter
 from pathlib import Path
 
+from shared_lib.causes import NAMES
 from shared_lib.checks import Checks, run_checks
 from shared_lib.faults import Fault, InputFault
 
@@ -97,6 +98,9 @@ WRONG = {
     ),
     "machine 1: '1 / (core.window - 1)' has no value": (
         f'{SPACE}[cost]\nformula = "1 / (core.window - 1)"'
+    ),
+    'the picture "stacks" needs --stacks': SPACE.replace(
+        "[]", '[{ kind = "stacks", x = "core.window" }]'
     ),
     'picture 1: kind: "pie" is none of': SPACE.replace("[]", '[{ kind = "pie" }]'),
     "picture 1: x: core.front doesn't vary": SPACE.replace(
@@ -239,6 +243,25 @@ class SelfTest(Checks):
         self.explore(self.write_input(f"cycles = 1000\n{SUITE}"), "bounded")
         means = [row["relative_cycles"] for row in self.rows("bounded", "machines")]
         self.expect("suite: means of runs that were ended", means, [""] * 4)
+
+    def check_stacks(self) -> None:
+        """The columns of causes are the lines of `stack`, where the simulator has it."""
+        space = self.write_input(SPACE)
+        try:
+            find_program(self.program, "stack")
+        except Fault:
+            return
+        self.explore(space, "stacks", "--stacks", "--squashed")
+        for text, row in zip(MACHINES, self.rows("stacks"), strict=True):
+            machine = self.write_input(BASE + text, "machine")
+            report = call(self.program, ["stack", str(IMAGE), str(machine)]).stdout.decode()
+            for name in NAMES:
+                wanted = re.findall(rf"^head\.{name}: ([0-9]+)$", report, re.MULTILINE)
+                self.expect(f"stacks: {name}", [row[f"on_{name}"]], wanted[-1:])
+            squashed = re.findall(r"^squashed: ([0-9]+)$", report, re.MULTILINE)
+            self.expect("stacks: squashed", [row["squashed"]], squashed[-1:])
+            causes = sum(int(row[f"on_{name}"]) for name in NAMES)
+            self.expect("stacks: sum", causes, int(row["cycles"]))
 
     def check_refused(self) -> None:
         """A refused machine is a row with its reason."""

@@ -38,6 +38,19 @@ class Options:
 
 
 @dataclass(frozen=True)
+class Extras:
+    """What is wanted beside the numbers of `sweep`."""
+
+    squashed: bool = False
+    stacks: bool = False
+
+    @property
+    def commands(self) -> tuple[str, ...]:
+        """The commands beside `sweep` that not every simulator knows."""
+        return ("stack",) if self.stacks else ()
+
+
+@dataclass(frozen=True)
 class Cost:
     """What a machine costs."""
 
@@ -94,6 +107,7 @@ class Space:
     together: tuple[Lists, ...]
     cost: Cost | None
     pictures: tuple[Picture, ...] = ()
+    is_drawn: bool = True
 
     @property
     def varied(self) -> list[str]:

@@ -44,7 +44,8 @@ def read_space(path: Path) -> Space:
     is_suite = "images" in table.content
     space = Space(path, images, is_suite, options, values, grid, together, cost)
     check_size(table, space)
-    space = replace(space, pictures=read_pictures(table, space))
+    is_drawn = table.content.get("picture") != []
+    space = replace(space, pictures=read_pictures(table, space), is_drawn=is_drawn)
     check_formulas(table, space)
     return space
 

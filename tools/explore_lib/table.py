@@ -7,13 +7,14 @@ from dataclasses import dataclass
 from pathlib import Path
 from statistics import geometric_mean
 
+from shared_lib.causes import NAMES
 from shared_lib.files import write_whole
 
 from .answers import Row
 from .front import front_of
 from .journal import Journal, identity
 from .keys import Value
-from .space import Machine, Space
+from .space import Extras, Machine, Space
 
 Rows = tuple[Row | None, ...]
 
@@ -83,21 +84,22 @@ def in_front(entries: list[Entry]) -> list[Entry]:
     return [whole[place] for place in front_of(points)]
 
 
-def write_table(path: Path, space: Space, entries: list[Entry], squashed: bool) -> None:
+def write_table(path: Path, space: Space, entries: list[Entry], extras: Extras) -> None:
     """Writes the table of the runs. The cost stands beside what it is compared with."""
     has_cost = space.cost is not None and not space.is_suite
     front = numbers_in_front(entries) if has_cost else set()
     names = ["machine", *space.varied, *(["image"] if space.is_suite else [])]
     names += ["end", "cycles", "instructions", "instructions_per_cycle"]
     names += ["mispredicted", "icache_misses", "dcache_misses"]
-    names += ["squashed"] if squashed else []
+    names += ["squashed"] if extras.squashed else []
+    names += [f"on_{name}" for name in NAMES] if extras.stacks else []
     names += ["cost", "in_front"] if has_cost else []
     lines: list[list[object]] = [[*names, "reason"]]
     for entry in entries:
         for image, row in zip(space.images, entry.rows, strict=True):
             if row is not None:
                 fields = machine_fields(entry) + ([image.name] if space.is_suite else [])
-                fields += row_fields(row, squashed)
+                fields += row_fields(row, extras)
                 fields += cost_fields(entry, front) if has_cost else []
                 lines.append([*fields, row.reason])
     write_csv(path, lines)
@@ -124,11 +126,14 @@ def machine_fields(entry: Entry) -> list[object]:
     return [entry.machine.number, *entry.machine.varied.values()]
 
 
-def row_fields(row: Row, squashed: bool) -> list[object]:
+def row_fields(row: Row, extras: Extras) -> list[object]:
     """What a run gave, for a table."""
     fields: list[object] = [row.end, row.cycles, row.instructions, decimals(row.rate)]
     fields += [row.mispredicted, row.icache_misses, row.dcache_misses]
-    return fields + ([row.squashed] if squashed else [])
+    fields += [row.squashed] if extras.squashed else []
+    if extras.stacks:
+        fields += [None if row.causes is None else row.causes[name] for name in NAMES]
+    return fields
 
 
 def cost_fields(entry: Entry, front: set[int]) -> list[object]:
